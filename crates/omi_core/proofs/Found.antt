@@ -1,5 +1,5 @@
 -- One more word is found.
-use Rattle.std.proofs.Common.{◌≡◌, ◌++◌, ℕ, suc, List, [], ◌∷◌, length, refl, sym, ap, ◌∙◌, subst}
+use Rattle.std.proofs.Common.{◌≡◌, ◌++◌, ℕ, suc, List, [], ◌∷◌, length, refl, sym, ap, ◌∙◌}
 use Rattle.omi_script.specs.declared.program.Program.{Program}
 use Rattle.omi_pc.specs.declared.actor.Actor.{Actor}
 use Rattle.omi_core.specs.declared.entry.Entry.{Entry}

@@ -38,7 +38,7 @@ use Rattle.omi_core.specs.Recorded.{IsRecorded}
 use Rattle.omi_core.specs.RecordedSteps.{IsAt, IsOpened, IsStepOn, run_with}
 use Rattle.omi_core.specs.RunSteps.{event_of, made_of}
 use Rattle.omi_core.specs.Runs.{AreOpeningActors, IsOpening, Run, actors_in, events_in, spare_in}
-use Rattle.omi_core.specs.Schedules.{IsListed, drawn_at, first_draw, next_number, thread_at}
+use Rattle.omi_core.specs.Schedules.{IsListed, drawn_at, first_draw, next_draw, thread_at}
 use Rattle.omi_core.proofs.Histories.{history}
 use Rattle.omi_core.proofs.KeptCounters.{opening_kept, step_kept}
 use Rattle.omi_core.proofs.Opened.{opened_run}
@@ -278,10 +278,12 @@ module _ (p : Program) (w : List ℕ) (how : Schedule) (stop : Stop) (m : Machin
 
     pub goes_on : ((team : List (Tid × ℕ)) → end_at stop.on met (outcome_with team outcome) ≡ None)
         → (more : ℕ) → ((team : List (Tid × ℕ)) → more ≡ met_at stop.on met (outcome_with team outcome))
-        → (drawn : ℕ) → drawn ≡ next_number draw → IsUnder p w how stop n later (step + 1) more drawn
+        → (drawn : ℕ) → drawn ≡ next_draw how p.threads draw → IsUnder p w how stop n later (step + 1) more drawn
     goes_on none more met_is drawn drawn_is =
         let none_now : end_at stop.on met on.entry.outcome ≡ None =
         ap (end_at stop.on met) on.outcome_is ∙ none on.team in
+        let draws_same : drawn ≡ next_draw how u.first.program.threads draw =
+        drawn_is ∙ ap (λ (q : Program). next_draw how q.threads draw) (sym u.opens.program) in
         let met_now : met_at stop.on met on.entry.outcome ≡ more =
         ap (met_at stop.on met) on.outcome_is ∙ sym (met_is on.team) in
         record {
@@ -289,8 +291,8 @@ module _ (p : Program) (w : List ℕ) (how : Schedule) (stop : Stop) (m : Machin
           run = on.next;
           opens = u.opens;
           so_far =
-              subst (λ k. SoFar u.first how stop (step + 1) more k on.next) (sym drawn_is)
-              (subst (λ k. SoFar u.first how stop (step + 1) k (next_number draw) on.next) met_now
+              subst (λ k. SoFar u.first how stop (step + 1) more k on.next) (sym draws_same)
+              (subst (λ k. SoFar u.first how stop (step + 1) k (next_draw how u.first.program.threads draw) on.next) met_now
               (one_more u.first how stop step met draw u.run on.next i on.entry u.so_far below on.step thread_is none_now));
           at = on.at;
           told = on.told;

@@ -1,11 +1,14 @@
 -- A run by a schedule, step by step: what the steps made so far add, and how the run ends.
-use Rattle.std.proofs.Common.{◌≡◌, ◌≢◌, ◌<◌, ◌≤◌, ◌+◌, ◌==◌, ◌&&◌, ◌++◌, ℕ, suc, Bool, true, false, List, [], ◌∷◌, length, map, Option, Some, None, refl, sym, ap, ◌∙◌, subst, arith, if◌then◌else◌}
+use Rattle.std.proofs.Common.{◌≡◌, ◌≢◌, ◌<◌, ◌≤◌, ◌+◌, ◌*◌, ◌%◌, ◌==◌, ◌&&◌, ◌++◌, ℕ, suc, Bool, true, false, List, [], ◌∷◌, length, map, Option, Some, None, refl, sym, ap, ◌∙◌, subst, arith, if◌then◌else◌, nat_lt, ltb-true, ltb-false}
 use Rattle.std.specs.Prelude.{IfSome, MatchOption, Ok, Err}
 use Rattle.std.specs.List.{AllByRecursion}
 use Rattle.std.specs.declared.alloc.AllocError.{AllocError}
 use Rattle.std.proofs.lemmas.List.{append_assoc, append-nil}
 use Rattle.std.proofs.lemmas.List.Sums.{sum_by-append, sum_by-cons}
 use Rattle.std.proofs.lemmas.Bool.Decides.{nat_tests}
+use Rattle.std.proofs.lemmas.Nat.{mod-mul-add, mod_below}
+use Rattle.std.proofs.Math.Nat.{suc-mod}
+use Rattle.omi_script.proofs.RuleLemmas.{Rules-from_accepted}
 use Rattle.omi_model.proofs.Slots.{none_some, some_same}
 use Rattle.omi_model.specs.declared.event.Event.{Event}
 use Rattle.omi_model.specs.declared.event.Event.TheVariants as event
@@ -23,7 +26,7 @@ use Rattle.omi_core.specs.Ends.{EndsAt, GoesOn, IsBelow, IsEnded, count_of, end_
 use Rattle.omi_core.specs.RunSteps.{IsStep, RuleHolds, event_of, made_of}
 use Rattle.omi_core.specs.Runs.{IsSameRun, Run}
 use Rattle.omi_core.specs.ScheduledRuns.{Adds, IsRunBy}
-use Rattle.omi_core.specs.Schedules.{IsDrawn, drawn_at, first_draw, next_number, thread_at, threads_by}
+use Rattle.omi_core.specs.Schedules.{IsDrawn, drawn_at, first_draw, next_draw, next_number, thread_at, threads_by}
 
 -- ---- lists
 
@@ -90,6 +93,35 @@ pub rule_roomier : (a b : Run) → IsSameRun a b → RuleHolds a → RuleHolds b
 rule_roomier a b same (s, rule) =
     (s, rw (same.program, same.table, same.words, same.events, same.actors) rule)
 
+-- ---- threads in turn
+
+-- a number below another one is its own rest
+rest_below : (threads n : ℕ) → n < threads → n % threads ≡ n
+rest_below threads n below =
+    let same : 0 * threads + n ≡ n = omega arith in
+    ap (λ k. k % threads) (sym same) ∙ mod-mul-add 0 threads n below
+
+-- behind a thread comes the next one, and behind the last one thread 0
+next_in_turn : (threads n draw : ℕ) → 0 < threads → draw ≡ n % threads
+    → (if nat_lt (draw + 1) threads then draw + 1 else 0) ≡ (n + 1) % threads
+next_in_turn threads n draw some is =
+    let one_more : suc n ≡ n + 1 = omega arith in
+    let below = mod_below n threads some in
+    let step : (n + 1) % threads ≡ (draw + 1) % threads =
+    ap (λ k. k % threads) (sym one_more)
+    ∙ suc-mod n threads
+    ∙ ap (λ k. suc k % threads) (sym is)
+    ∙ ap (λ k. k % threads) (let one : suc draw ≡ draw + 1 = omega arith in one) in
+    go (nat_lt (draw + 1) threads) refl below step
+  where
+    go : (b : Bool) → nat_lt (draw + 1) threads ≡ b → n % threads < threads → (n + 1) % threads ≡ (draw + 1) % threads
+        → (if b then draw + 1 else 0) ≡ (n + 1) % threads
+    go true less below step = sym (step ∙ rest_below threads (draw + 1) (ltb-true (draw + 1) threads less))
+    go false not_less below step =
+        let past : threads ≤ draw + 1 = ltb-false (draw + 1) threads not_less in
+        let all : draw + 1 ≡ 1 * threads + 0 = omega (arith, past, below, is) in
+        sym (step ∙ ap (λ k. k % threads) all ∙ mod-mul-add 1 threads 0 some)
+
 -- ---- steps
 
 module _ (old : Run) (how : Schedule) (stop : Stop) where
@@ -99,11 +131,14 @@ module _ (old : Run) (how : Schedule) (stop : Stop) where
     pub count : length added.made ≡ n
     pub goes_on : GoesOn stop added.events
     pub met_are : IfSome stop.on (λ on. count_of on.0 added.events ≡ met)
-    pub drawn : IsDrawn how n draw
+    pub drawn : IsDrawn how old.program.threads n draw
+
+  some_thread : 0 < old.program.threads
+  some_thread = (Rules-from_accepted old.program).threads.0
 
   -- before the first step
-  first_drawn : (h : Schedule) → IsDrawn h 0 (first_draw h)
-  first_drawn schedule.RoundRobin = tt
+  first_drawn : (h : Schedule) → IsDrawn h old.program.threads 0 (first_draw h)
+  first_drawn schedule.RoundRobin = sym (rest_below old.program.threads 0 some_thread)
   first_drawn (schedule.Seed seed) = refl
   first_drawn (schedule.List list) = tt
 
@@ -200,15 +235,16 @@ module _ (old : Run) (how : Schedule) (stop : Stop) where
           let behind = of_kind_on stop.on met es (step, i, x) goes.too_few are h in
           (record { not_done = snoc_all (λ (y : ℕ × ℕ × Event). y.2 ≢ event.Done) es (step, i, x) goes.not_done (not_done x f); too_few = behind.0 }, behind.1)
 
-  next_drawn : (h : Schedule) (n draw : ℕ) → IsDrawn h n draw → IsDrawn h (n + 1) (next_number draw)
-  next_drawn schedule.RoundRobin n draw drawn = tt
+  next_drawn : (h : Schedule) (n draw : ℕ) → IsDrawn h old.program.threads n draw
+      → IsDrawn h old.program.threads (n + 1) (next_draw h old.program.threads draw)
+  next_drawn schedule.RoundRobin n draw drawn = next_in_turn old.program.threads n draw some_thread drawn
   next_drawn (schedule.Seed seed) n draw drawn =
       let one_more : suc n ≡ n + 1 = omega arith in ap next_number drawn ∙ ap (drawn_at seed) one_more
   next_drawn (schedule.List list) n draw drawn = tt
 
   pub one_more : (n met draw : ℕ) (a b : Run) (i : ℕ) (e : Entry) → SoFar n met draw a → n < stop.steps
       → IsStep a i e b → i ≡ thread_at how old.program.threads n → end_at stop.on met e.outcome ≡ None
-      → SoFar (n + 1) (met_at stop.on met e.outcome) (next_number draw) b
+      → SoFar (n + 1) (met_at stop.on met e.outcome) (next_draw how old.program.threads draw) b
   unfolding adds_one
   one_more n met draw a b i e so below step thread none =
       let behind =

@@ -1,5 +1,5 @@
 -- Which thread makes each step of a run: the threads in turn, threads by pseudo-random numbers, or the threads of a list.
-use Rattle.std.specs.Prelude.{◌<◌, ◌≤◌, ◌≡◌, ℕ, zero, suc, ◌+◌, ◌*◌, ◌/◌, ◌%◌, ◌^◌, List, [], ◌∷◌, ◌++◌, length, slice_index}
+use Rattle.std.specs.Prelude.{◌<◌, ◌≤◌, ◌≡◌, ℕ, zero, suc, ◌+◌, ◌*◌, ◌/◌, ◌%◌, ◌^◌, nat_lt, if◌then◌else◌, List, [], ◌∷◌, ◌++◌, length, slice_index}
 use Rattle.std.specs.List.{All}
 use Rattle.omi_core.specs.declared.schedule.Schedule.{Schedule}
 use Rattle.omi_core.specs.declared.schedule.Schedule.TheVariants as schedule
@@ -33,13 +33,19 @@ abbrev pub IsListed : Schedule → ℕ → ℕ → Type 0
 IsListed (schedule.List list) threads steps = All (λ i. i < threads) list × (steps ≤ length list)
 IsListed how threads steps = Unit {0}
 
--- ---- what the code draws
+-- ---- what the code draws: the thread in turn, or a pseudo-random number
 
 abbrev pub first_draw : Schedule → ℕ
 first_draw (schedule.Seed seed) = next_number seed
 first_draw how = 0
 
--- this number was drawn for a step, where numbers are drawn
-abbrev pub IsDrawn : Schedule → ℕ → ℕ → Type 0
-IsDrawn (schedule.Seed seed) step draw = draw ≡ drawn_at seed step
-IsDrawn how step draw = Unit {0}
+abbrev pub next_draw : Schedule → ℕ → ℕ → ℕ
+next_draw schedule.RoundRobin threads draw = if nat_lt (draw + 1) threads then draw + 1 else 0
+next_draw (schedule.Seed seed) threads draw = next_number draw
+next_draw (schedule.List list) threads draw = 0
+
+-- this was drawn for a step
+abbrev pub IsDrawn : Schedule → ℕ → ℕ → ℕ → Type 0
+IsDrawn schedule.RoundRobin threads step draw = draw ≡ step % threads
+IsDrawn (schedule.Seed seed) threads step draw = draw ≡ drawn_at seed step
+IsDrawn (schedule.List list) threads step draw = Unit {0}

@@ -9,7 +9,7 @@ ghost use Rattle.omi_rep.specs.Suits.{Suits};
 use crate::machine::Machine;
 use crate::opening::{opening_actors, opening_image};
 use crate::recorder::Recorder;
-use crate::schedule::{first_draw, next_number, thread_at};
+use crate::schedule::{first_draw, next_draw, thread_at};
 use crate::stop::{compact_end_at, compact_met_at};
 use crate::{End, MOST_STEPS, OutOfMemory, Schedule, Stop};
 use omi_layout::Layout;
@@ -51,7 +51,7 @@ fn opening(alloc: Global, p: Program, l: Layout) -> Result<Machine, OutOfMemory>
     })
 }
 
-/// Makes the steps of a run, from its opening on.
+/// Makes the steps of a run, from its opening on. Want of memory is also the answer behind `MOST_STEPS` steps.
 fn run_steps<R: Recorder>(
     machine: &mut Machine,
     how: &Schedule,
@@ -82,7 +82,7 @@ fn run_steps<R: Recorder>(
             });
         }
         met = compact_met_at(stop.on, met, outcome);
-        draw = next_number(draw);
+        draw = next_draw(how, threads, draw);
     }
     Ok(Ended {
         steps: stop.steps,
@@ -90,7 +90,8 @@ fn run_steps<R: Recorder>(
     })
 }
 
-/// Runs a program in a layout, from its opening on, as `Core::run` does, and keeps of it what is left.
+/// Runs a program in a layout, from its opening on, as `Core::run` does, and keeps of it what is left. Want of memory
+/// is the answer where there is none, and behind `MOST_STEPS` steps.
 pub fn run_recorded<R: Recorder + Drop>(
     alloc: Global,
     p: Program,

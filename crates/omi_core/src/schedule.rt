@@ -1,7 +1,7 @@
 //! Which thread makes each step of a run.
 
 ghost use Rattle.std.specs.Prelude.{◌≡◌, ◌<◌, ◌+◌};
-ghost use Rattle.omi_core.specs.Schedules.{IsDrawn, IsListed, first_draw, next_number, thread_at};
+ghost use Rattle.omi_core.specs.Schedules.{IsDrawn, IsListed, first_draw, next_draw, next_number, thread_at};
 
 use omi_script::NumList;
 
@@ -39,15 +39,32 @@ pub fn first_draw(how: &Schedule) -> u64
     }
 }
 
-/// The thread that makes step `step` of a run, counted from 0, of so many threads, where this number was drawn for the step.
+/// What is drawn for the step behind one for which this was drawn.
+pub fn next_draw(how: &Schedule, threads: u8, draw: u64) -> u64
+    ensures { result ≡ next_draw how.now threads draw }
+{
+    match how {
+        Schedule::RoundRobin => {
+            if draw < u64::from(threads).saturating_sub(1) {
+                draw + 1
+            } else {
+                0
+            }
+        }
+        Schedule::Seed(_) => next_number(draw),
+        Schedule::List(_) => 0,
+    }
+}
+
+/// The thread that makes step `step` of a run, counted from 0, of so many threads, where this was drawn for the step.
 pub fn thread_at(how: &Schedule, threads: u8, step: u64, draw: u64) -> u8
     requires some { 0 < threads }
-    requires drawn { IsDrawn how.now step draw }
+    requires drawn { IsDrawn how.now threads step draw }
     requires listed { IsListed how.now threads (step + 1) }
     ensures { result ≡ thread_at how.now threads step }
 {
     match how {
-        Schedule::RoundRobin => (step % u64::from(threads)) as u8,
+        Schedule::RoundRobin => draw as u8,
         Schedule::Seed(_) => ((draw >> 33) % u64::from(threads)) as u8,
         Schedule::List(list) => *list.get(step as usize) as u8,
     }

@@ -6,7 +6,7 @@ ghost use Rattle.omi_core.specs.RunSteps.{RuleHolds};
 ghost use Rattle.omi_core.specs.ScheduledRuns.{IsRunBy};
 ghost use Rattle.omi_core.specs.Schedules.{IsListed};
 
-use crate::schedule::{first_draw, next_number, thread_at};
+use crate::schedule::{first_draw, next_draw, thread_at};
 use crate::stop::{end_at, met_at};
 use crate::{Core, End, MOST_STEPS, OutOfMemory, Schedule, Stop};
 use std::alloc::AllocError;
@@ -53,7 +53,7 @@ impl Core {
                 return Ok(end);
             }
             met = met_at(stop.on, met, &entry.outcome);
-            draw = next_number(draw);
+            draw = next_draw(how, threads, draw);
         }
         Ok(End::Steps)
     }

@@ -70,7 +70,8 @@ module _ (w : List ℕ) (memory : Words) (held : Handles) (of : Scoped) (icv add
 module _ (told : Told) (w : List ℕ) where
   -- what a call gives whose reads answer as the state does
   written_given : {A : Type 0} (s : State) (shown : ShowsTold told w s) (result : Result A Rc)
-      (reads : Reads A) (answer : Result A Rc) → IsWrittenOf told result reads → answer_on shown.memory reads ≡ answer → IsWritten result answer
+      (reads : Reads A) (answer : Result A Rc) → IsWrittenOf told result reads
+      → answer_on shown.memory reads ≡ answer → IsWritten result answer
   written_given s shown result reads answer written is =
       subst (IsWritten result) is (written shown.memory shown.tells)
 

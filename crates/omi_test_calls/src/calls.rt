@@ -36,6 +36,19 @@ pub fn call(
     writes: &[(Call, u64)],
     puts: &[u64],
 ) -> Result<Done, AllocError> {
+    call_over(alloc, line, files, None, reads, writes, puts)
+}
+
+/// The same, where these bytes, if any, stand under the name `c` of the core before the line writes.
+pub fn call_over(
+    alloc: Global,
+    line: &[&str],
+    files: (&str, Option<&[u8]>),
+    before: Option<&[u8]>,
+    reads: &[(Call, u64)],
+    writes: &[(Call, u64)],
+    puts: &[u64],
+) -> Result<Done, AllocError> {
     let (script, core) = files;
     let mut files = MemFiles::new(alloc, reads.to_vec(alloc)?);
     files.put("s", script.as_bytes())?;
@@ -43,6 +56,9 @@ pub fn call(
         files.put("c", core)?;
     }
     let mut dest = MemFiles::new(alloc, writes.to_vec(alloc)?);
+    if let Some(before) = before {
+        dest.put("c", before)?;
+    }
     dest.put("other", b"stays")?;
     let mut out = MemSink::new(alloc, puts.to_vec(alloc)?);
     let line = words(alloc, line)?;

@@ -3,4 +3,4 @@
 
 mod calls;
 
-pub use calls::{CHANGED, Done, EMPTY, call, core_of, run, with_word, words};
+pub use calls::{CHANGED, Done, EMPTY, call, call_over, core_of, run, with_word, words};

@@ -285,7 +285,8 @@ untracked_never (Damaged addr field) is = absurd (cc)
 untracked_never (Cycle addr) is = is
 
 pub absent_maybe : {A : Type 0} (found : Option Held) (rc : Rc) (answer : Result A Rc)
-    (l : Look (Option A)) → (rc ≢ CallbackError → Err rc ≡ answer) → IsMaybe Unavailable answer l → Gives (absent found rc) l
+    (l : Look (Option A)) → (rc ≢ CallbackError → Err rc ≡ answer) → IsMaybe Unavailable answer l
+    → Gives (absent found rc) l
 absent_maybe {A} found Unavailable answer l is looked =
     maybe_none A Unavailable answer l unavailable_never (is (λ e. cc)) looked
 absent_maybe {A} found CallbackError answer l is looked = tt

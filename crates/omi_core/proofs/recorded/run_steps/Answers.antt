@@ -1,4 +1,4 @@
-use Rattle.std.proofs.Common.{◌≡◌, ◌<◌, ◌∙◌, sym, subst, arith}
+use Rattle.std.proofs.Common.{◌<◌, ◌∙◌, sym, subst, arith}
 use Rattle.omi_script.specs.declared.program.Program.{Program}
 use Rattle.omi_script.proofs.RuleLemmas.{Rules-from_accepted}
 use Rattle.omi_core.proofs.RecordedRuns.{before_all, ends, ends_with_all, few, goes_on, program_stays, thread_known}
@@ -37,7 +37,7 @@ loop-step-preserved g c =
     goes_on _ _ _ _ _ _ _ _ _ u c.loop-step-test.true c.thread_at-thread.result c.thread_at-thread.ensures
     c.step.new.self _ c.in_ok-outcome.outcome (c.in_ok-outcome.ensures u.run u.at u.told)
     (λ team. sym (c.compact_end_at.ensures team) ∙ c.in_default.is)
-    c.compact_met_at-met.result c.compact_met_at-met.ensures c.next_number-draw.result c.next_number-draw.ensures
+    c.compact_met_at-met.result c.compact_met_at-met.ensures c.next_draw-draw.result c.next_draw-draw.ensures
 
 pub returns : goal.returns
 returns g c =

@@ -1,4 +1,6 @@
-use Rattle.std.proofs.Common.{◌≡◌, ◌∙◌, ℕ, List, ap, subst, Some}
+use Rattle.std.proofs.Common.{◌≡◌, ◌∙◌, ℕ, List, Option, ap, subst, Some}
+use Rattle.omi_outside.specs.Outside.{Told}
+use Rattle.omi_top.specs.declared.plan.Plan.{Plan}
 use Rattle.omi_outside.specs.declared.status.Status.TheVariants as status
 use Rattle.omi_verbs.specs.Statuses.{IsOfCore}
 use Rattle.omi_top.specs.Asked.{asked}
@@ -38,110 +40,168 @@ left_of g c command is =
     (g.K.Sink.told c.args.out.now) (g.K.Sink.told c.carry_out.new.out)
     is c.carry_out.ensures.concluded.left
 
+-- ---- of each command, where the contents of its files are told
+
+abbrev files : (g : given.Over) → Joined-line g → List ℕ → Told
+files g c = g.F.Files.told c.args.files.now
+
+-- the command leaves this of the file that it writes, and this is put
+abbrev Leaves : (g : given.Over) → Joined-line g → Command → Type 0
+Leaves g c command =
+    IsLeft command (files g c) c.carry_out.result (g.W.Files.told c.args.dest.now (written_name command))
+    (g.W.Files.told c.carry_out.new.dest (written_name command)) (counted g c) (g.K.Sink.told c.args.out.now)
+    (g.K.Sink.told c.carry_out.new.out)
+
+of_stop : (g : given.Over) (c : Joined-line g) (plan : Plan) (script core : List ℕ) (content : Option (List ℕ))
+    → command_in c.args.words.now ≡ Stop plan script core → files g c script ≡ Some content
+    → Leaves g c (Stop plan script core)
+of_stop g c plan script core content command told =
+    left_of g c (Stop plan script core) (asked_is g c ∙ command) (content, told)
+
+of_make : (g : given.Over) (c : Joined-line g) (n : ℕ) (name : List ℕ)
+    → command_in c.args.words.now ≡ Make n name → Leaves g c (Make n name)
+of_make g c n name command = left_of g c (Make n name) (asked_is g c ∙ command) tt
+
+of_show : (g : given.Over) (c : Joined-line g) (core : List ℕ) (content : Option (List ℕ))
+    → command_in c.args.words.now ≡ Show core → files g c core ≡ Some content → Leaves g c (Show core)
+of_show g c core content command told = left_of g c (Show core) (asked_is g c ∙ command) (content, told)
+
+of_run : (g : given.Over) (c : Joined-line g) (plan : Plan) (script core : List ℕ)
+    (text content : Option (List ℕ)) → command_in c.args.words.now ≡ Run plan script core
+    → files g c script ≡ Some text → files g c core ≡ Some content → Leaves g c (Run plan script core)
+of_run g c plan script core text content command told back =
+    left_of g c (Run plan script core) (asked_is g c ∙ command) ((text, told), (content, back))
+
+-- ---- the clauses
+
 pub returns-in-Ok-clause-left : goal.returns-in-Ok-clause-left
 returns-in-Ok-clause-left g c = left_of g c _ (asked_is g c)
 
 pub returns-in-Ok-clause-no_file : goal.returns-in-Ok-clause-no_file
-returns-in-Ok-clause-no_file g c =
-    λ plan name core content command told. no_file plan name core (g.F.Files.told c.args.files.now) _ _ _ _ _ _ content told (left_of g c (Stop plan name core) (asked_is g c ∙ command) (content, told))
+returns-in-Ok-clause-no_file g c plan name core content command told =
+    no_file plan name core (files g c) _ _ _ _ _ _ content told
+    (of_stop g c plan name core content command told)
 
 pub returns-in-Ok-clause-script : goal.returns-in-Ok-clause-script
-returns-in-Ok-clause-script g c =
-    λ plan name core bytes command told. script_refused plan name core (g.F.Files.told c.args.files.now) _ _ _ _ _ _ bytes told (left_of g c (Stop plan name core) (asked_is g c ∙ command) (Some bytes, told))
+returns-in-Ok-clause-script g c plan name core bytes command told =
+    script_refused plan name core (files g c) _ _ _ _ _ _ bytes told
+    (of_stop g c plan name core (Some bytes) command told)
 
 pub returns-in-Ok-clause-success : goal.returns-in-Ok-clause-success
-returns-in-Ok-clause-success g c =
-    λ plan name core bytes command told done. success plan name core (g.F.Files.told c.args.files.now) _ _ _ _ _ _ bytes told done (left_of g c (Stop plan name core) (asked_is g c ∙ command) (Some bytes, told))
+returns-in-Ok-clause-success g c plan name core bytes command told done =
+    success plan name core (files g c) _ _ _ _ _ _ bytes told done
+    (of_stop g c plan name core (Some bytes) command told)
 
 pub returns-in-Ok-clause-stops : goal.returns-in-Ok-clause-stops
-returns-in-Ok-clause-stops g c =
-    λ plan name core bytes command told p grammar. stops plan name core (g.F.Files.told c.args.files.now) _ _ _ _ _ _ bytes told p grammar (left_of g c (Stop plan name core) (asked_is g c ∙ command) (Some bytes, told))
+returns-in-Ok-clause-stops g c plan name core bytes command told p grammar =
+    stops plan name core (files g c) _ _ _ _ _ _ bytes told p grammar
+    (of_stop g c plan name core (Some bytes) command told)
 
 pub returns-in-Ok-clause-made : goal.returns-in-Ok-clause-made
-returns-in-Ok-clause-made g c =
-    λ n name command done. made n name (g.F.Files.told c.args.files.now) _ _ _ _ _ _ done (left_of g c (Make n name) (asked_is g c ∙ command) tt)
+returns-in-Ok-clause-made g c n name command done =
+    made n name (files g c) _ _ _ _ _ _ done
+    (of_make g c n name command)
 
 pub returns-in-Ok-clause-makes : goal.returns-in-Ok-clause-makes
-returns-in-Ok-clause-makes g c =
-    λ n name command. writing n name (g.F.Files.told c.args.files.now) _ _ _ _ _ _ (left_of g c (Make n name) (asked_is g c ∙ command) tt)
+returns-in-Ok-clause-makes g c n name command =
+    writing n name (files g c) _ _ _ _ _ _
+    (of_make g c n name command)
 
 pub returns-in-Ok-clause-no_core : goal.returns-in-Ok-clause-no_core
-returns-in-Ok-clause-no_core g c =
-    λ core content command told. no_core core (g.F.Files.told c.args.files.now) _ _ _ _ _ _ content told (left_of g c (Show core) (asked_is g c ∙ command) (content, told))
+returns-in-Ok-clause-no_core g c core content command told =
+    no_core core (files g c) _ _ _ _ _ _ content told
+    (of_show g c core content command told)
 
 pub returns-in-Ok-clause-core : goal.returns-in-Ok-clause-core
-returns-in-Ok-clause-core g c =
-    λ core bytes command told. core_refused core (g.F.Files.told c.args.files.now) _ _ _ _ _ _ bytes told (left_of g c (Show core) (asked_is g c ∙ command) (Some bytes, told))
+returns-in-Ok-clause-core g c core bytes command told =
+    core_refused core (files g c) _ _ _ _ _ _ bytes told
+    (of_show g c core (Some bytes) command told)
 
 pub returns-in-Ok-clause-incompatible : goal.returns-in-Ok-clause-incompatible
-returns-in-Ok-clause-incompatible g c =
-    λ core bytes command told. incompatible core (g.F.Files.told c.args.files.now) _ _ _ _ _ _ bytes told (left_of g c (Show core) (asked_is g c ∙ command) (Some bytes, told))
+returns-in-Ok-clause-incompatible g c core bytes command told =
+    incompatible core (files g c) _ _ _ _ _ _ bytes told
+    (of_show g c core (Some bytes) command told)
 
 pub returns-in-Ok-clause-damaged : goal.returns-in-Ok-clause-damaged
-returns-in-Ok-clause-damaged g c =
-    λ core bytes command told. damaged core (g.F.Files.told c.args.files.now) _ _ _ _ _ _ bytes told (left_of g c (Show core) (asked_is g c ∙ command) (Some bytes, told))
+returns-in-Ok-clause-damaged g c core bytes command told =
+    damaged core (files g c) _ _ _ _ _ _ bytes told
+    (of_show g c core (Some bytes) command told)
 
 pub returns-in-Ok-clause-report : goal.returns-in-Ok-clause-report
-returns-in-Ok-clause-report g c =
-    λ core bytes command told done. report_put core (g.F.Files.told c.args.files.now) _ _ _ _ _ _ bytes told done (left_of g c (Show core) (asked_is g c ∙ command) (Some bytes, told))
+returns-in-Ok-clause-report g c core bytes command told done =
+    report_put core (files g c) _ _ _ _ _ _ bytes told done
+    (of_show g c core (Some bytes) command told)
 
 pub returns-in-Ok-clause-shows : goal.returns-in-Ok-clause-shows
-returns-in-Ok-clause-shows g c =
-    λ core bytes text command told report_is. shows core (g.F.Files.told c.args.files.now) _ _ _ _ _ _ bytes text told report_is (left_of g c (Show core) (asked_is g c ∙ command) (Some bytes, told))
+returns-in-Ok-clause-shows g c core bytes text command told report_is =
+    shows core (files g c) _ _ _ _ _ _ bytes text told report_is
+    (of_show g c core (Some bytes) command told)
 
 pub returns-in-Ok-clause-shown : goal.returns-in-Ok-clause-shown
-returns-in-Ok-clause-shown g c =
-    λ core bytes command told image spelled s shows. shown core (g.F.Files.told c.args.files.now) _ _ _ _ _ bytes told image spelled s shows _ (left_of g c (Show core) (asked_is g c ∙ command) (Some bytes, told))
+returns-in-Ok-clause-shown g c core bytes command told image spelled s shows =
+    shown core (files g c) _ _ _ _ _ bytes told image spelled s shows _
+    (of_show g c core (Some bytes) command told)
 
 pub returns-in-Ok-clause-shown_again : goal.returns-in-Ok-clause-shown_again
-returns-in-Ok-clause-shown_again g c =
-    λ core bytes command told p plan text run. shown_again core (g.F.Files.told c.args.files.now) _ _ _ _ _ _ bytes told p plan text run (left_of g c (Show core) (asked_is g c ∙ command) (Some bytes, told))
+returns-in-Ok-clause-shown_again g c core bytes command told p plan text run =
+    shown_again core (files g c) _ _ _ _ _ _ bytes told p plan text run
+    (of_show g c core (Some bytes) command told)
 
 pub returns-in-Ok-clause-shown_reached : goal.returns-in-Ok-clause-shown_reached
-returns-in-Ok-clause-shown_reached g c =
-    λ core bytes command told p ids s reached. shown_reached core (g.F.Files.told c.args.files.now) _ _ _ _ _ _ bytes told p ids s reached (left_of g c (Show core) (asked_is g c ∙ command) (Some bytes, told))
+returns-in-Ok-clause-shown_reached g c core bytes command told p ids s reached =
+    shown_reached core (files g c) _ _ _ _ _ _ bytes told p ids s reached
+    (of_show g c core (Some bytes) command told)
 
 pub returns-in-Ok-clause-run_script : goal.returns-in-Ok-clause-run_script
-returns-in-Ok-clause-run_script g c =
-    λ plan script core bytes content command told back. run_script_refused plan script core (g.F.Files.told c.args.files.now) _ _ _ _ _ _ bytes content told back (left_of g c (Run plan script core) (asked_is g c ∙ command) ((Some bytes, told), (content, back)))
+returns-in-Ok-clause-run_script g c plan script core bytes content command told back =
+    run_script_refused plan script core (files g c) _ _ _ _ _ _ bytes content told back
+    (of_run g c plan script core (Some bytes) content command told back)
 
 pub returns-in-Ok-clause-run_no_file : goal.returns-in-Ok-clause-run_no_file
-returns-in-Ok-clause-run_no_file g c =
-    λ plan script core text content command told back. run_no_file plan script core (g.F.Files.told c.args.files.now) _ _ _ _ _ text content told back _ (left_of g c (Run plan script core) (asked_is g c ∙ command) ((text, told), (content, back)))
+returns-in-Ok-clause-run_no_file g c plan script core text content command told back =
+    run_no_file plan script core (files g c) _ _ _ _ _ text content told back _
+    (of_run g c plan script core text content command told back)
 
 pub returns-in-Ok-clause-run_core : goal.returns-in-Ok-clause-run_core
-returns-in-Ok-clause-run_core g c =
-    λ plan script core bytes text command told back. run_core_refused plan script core (g.F.Files.told c.args.files.now) _ _ _ _ _ text bytes told back _ (left_of g c (Run plan script core) (asked_is g c ∙ command) ((text, told), (Some bytes, back)))
+returns-in-Ok-clause-run_core g c plan script core bytes text command told back =
+    run_core_refused plan script core (files g c) _ _ _ _ _ text bytes told back _
+    (of_run g c plan script core text (Some bytes) command told back)
 
 pub returns-in-Ok-clause-run_incompatible : goal.returns-in-Ok-clause-run_incompatible
-returns-in-Ok-clause-run_incompatible g c =
-    λ plan script core bytes text command told back. run_incompatible plan script core (g.F.Files.told c.args.files.now) _ _ _ _ _ text bytes told back _ (left_of g c (Run plan script core) (asked_is g c ∙ command) ((text, told), (Some bytes, back)))
+returns-in-Ok-clause-run_incompatible g c plan script core bytes text command told back =
+    run_incompatible plan script core (files g c) _ _ _ _ _ text bytes told back _
+    (of_run g c plan script core text (Some bytes) command told back)
 
 pub returns-in-Ok-clause-run_damaged : goal.returns-in-Ok-clause-run_damaged
-returns-in-Ok-clause-run_damaged g c =
-    λ plan script core bytes text command told back. run_damaged plan script core (g.F.Files.told c.args.files.now) _ _ _ _ _ text bytes told back _ (left_of g c (Run plan script core) (asked_is g c ∙ command) ((text, told), (Some bytes, back)))
+returns-in-Ok-clause-run_damaged g c plan script core bytes text command told back =
+    run_damaged plan script core (files g c) _ _ _ _ _ text bytes told back _
+    (of_run g c plan script core text (Some bytes) command told back)
 
 pub returns-in-Ok-clause-run_written : goal.returns-in-Ok-clause-run_written
-returns-in-Ok-clause-run_written g c =
-    λ plan script core bytes content command told back read_back. wrote plan script core (g.F.Files.told c.args.files.now) _ _ _ _ _ bytes content told back _ read_back (left_of g c (Run plan script core) (asked_is g c ∙ command) ((Some bytes, told), (content, back)))
+returns-in-Ok-clause-run_written g c plan script core bytes content command told back read_back =
+    wrote plan script core (files g c) _ _ _ _ _ bytes content told back _ read_back
+    (of_run g c plan script core (Some bytes) content command told back)
 
 pub returns-in-Ok-clause-run_report : goal.returns-in-Ok-clause-run_report
-returns-in-Ok-clause-run_report g c =
-    λ plan script core text bytes command told back done. put_report plan script core (g.F.Files.told c.args.files.now) _ _ _ _ _ text bytes told back _ done (left_of g c (Run plan script core) (asked_is g c ∙ command) ((Some text, told), (Some bytes, back)))
+returns-in-Ok-clause-run_report g c plan script core text bytes command told back done =
+    put_report plan script core (files g c) _ _ _ _ _ text bytes told back _ done
+    (of_run g c plan script core (Some text) (Some bytes) command told back)
 
 pub returns-in-Ok-clause-runs : goal.returns-in-Ok-clause-runs
-returns-in-Ok-clause-runs g c =
-    λ plan script core text bytes shown command told back p grammar report_is. runs plan script core (g.F.Files.told c.args.files.now) _ _ _ _ _ text bytes told back shown _ p grammar report_is (left_of g c (Run plan script core) (asked_is g c ∙ command) ((Some text, told), (Some bytes, back)))
+returns-in-Ok-clause-runs g c plan script core text bytes shown command told back p grammar report_is =
+    runs plan script core (files g c) _ _ _ _ _ text bytes told back shown _ p grammar report_is
+    (of_run g c plan script core (Some text) (Some bytes) command told back)
 
 pub returns-in-Ok-clause-run_shown : goal.returns-in-Ok-clause-run_shown
-returns-in-Ok-clause-run_shown g c =
-    λ plan script core text bytes command told back same. run_shown plan script core (g.F.Files.told c.args.files.now) _ _ _ _ _ text bytes told back same _ (left_of g c (Run plan script core) (asked_is g c ∙ command) ((Some text, told), (Some bytes, back)))
+returns-in-Ok-clause-run_shown g c plan script core text bytes command told back same =
+    run_shown plan script core (files g c) _ _ _ _ _ text bytes told back same _
+    (of_run g c plan script core (Some text) (Some bytes) command told back)
 
 pub returns-in-Ok-clause-promise : goal.returns-in-Ok-clause-promise
-returns-in-Ok-clause-promise g c = λ plan script core text bytes command told back same done.
+returns-in-Ok-clause-promise g c plan script core text bytes command told back same done =
     let shown =
-    run_shown plan script core (g.F.Files.told c.args.files.now) _ _ _ _ _ text bytes told back same _
-    (left_of g c (Run plan script core) (asked_is g c ∙ command) ((Some text, told), (Some bytes, back))) in
+    run_shown plan script core (files g c) _ _ _ _ _ text bytes told back same _
+    (of_run g c plan script core (Some text) (Some bytes) command told back) in
     promised text plan bytes c.carry_out.result (g.K.Sink.told c.args.out.now)
     (g.K.Sink.told c.carry_out.new.out) done shown
 

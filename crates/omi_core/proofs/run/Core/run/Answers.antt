@@ -1,7 +1,7 @@
 use Rattle.std.proofs.Common.{◌≡◌, ◌+◌, ◌∙◌, sym, ap, subst, arith}
 use Rattle.std.proofs.lemmas.Result.{err_from_is_err_and}
 use Rattle.omi_core.specs.Ends.{met_at}
-use Rattle.omi_core.specs.Schedules.{thread_at}
+use Rattle.omi_core.specs.Schedules.{next_draw, thread_at}
 use Rattle.omi_core.proofs.ScheduledSteps.{SoFar, all_made, begins, ended, fewer, one_more, refused, roomier, rule_roomier}
 use Rattle.omi_core.proofs.run.Core.run.Goals as goal
 
@@ -40,11 +40,14 @@ loop-step-preserved c =
     (roomier c.args.self.now c.args.how.now c.args.stop _ _ _ c.loop-step.self c.make_room.new.self c.loop-step.invariant.0 c.in_ok-make_room.ensures.run)
     c.loop-step-test.true c.step-entry.ensures.entry
     (c.thread_at.ensures ∙ ap (λ threads. thread_at c.args.how.now threads c.loop-step.step) c.threads-threads.ensures.threads)
-    none in (
+    none in
+    let draws_same =
+    c.next_draw-draw.ensures
+    ∙ ap (λ threads. next_draw c.args.how.now threads c.loop-step.draw) c.threads-threads.ensures.threads in (
       subst
-          (λ met. SoFar c.args.self.now c.args.how.now c.args.stop (c.loop-step.step + 1) met c.next_number-draw.result c.step-entry.new.self)
+          (λ met. SoFar c.args.self.now c.args.how.now c.args.stop (c.loop-step.step + 1) met c.next_draw-draw.result c.step-entry.new.self)
           (sym c.met_at-met.ensures)
-          (subst (λ draw. SoFar c.args.self.now c.args.how.now c.args.stop (c.loop-step.step + 1) (met_at c.args.stop.on c.loop-step.met c.step-entry.result.outcome) draw c.step-entry.new.self) (sym c.next_number-draw.ensures) more),
+          (subst (λ draw. SoFar c.args.self.now c.args.how.now c.args.stop (c.loop-step.step + 1) (met_at c.args.stop.on c.loop-step.met c.step-entry.result.outcome) draw c.step-entry.new.self) (sym draws_same) more),
       c.step-entry.ensures.rule,
     )
 
