@@ -1,7 +1,7 @@
 -- What is known of an arena that is in order: its numbers are small.
 use Rattle.std.proofs.Common.{◌≡◌, ◌==◌, ℕ, zero, suc, ◌+◌, ◌*◌, ◌<◌, ◌≤◌, ◌⊎◌, inl, inr, ◌&&◌, Bool, true, false, nat_lt, List, refl, sym, subst, arith, eqb-true, mul-le-mul, leb-true, ltb-true}
 use Rattle.std.proofs.lemmas.Bool.Decides.{nat_tests}
-use Rattle.omi_layout.specs.declared.limits.TheConstants.{MOST_THREADS}
+use Rattle.omi_layout.specs.declared.limits.TheConstants.{MOST_THREADS, FIELDS}
 use Rattle.omi_layout.specs.Field.{IsField, IsKind, kind_of}
 use Rattle.omi_layout.specs.Table.{size, place, thread_count, per_thread, makers, records, extent, offset, width}
 use Rattle.omi_layout.specs.Valid.{IsValid, AllInside, is_inside, is_counted, is_placed, is_arena}
@@ -26,7 +26,7 @@ pub test_right : (a b : Bool) → a && b ≡ true → b ≡ true
 test_right true b e = e
 test_right false b e = absurd (cc)
 
-field : (f : ℕ) → 1 ≤ f → f ≤ 44 → IsField f
+field : (f : ℕ) → 1 ≤ f → f ≤ FIELDS → IsField f
 field f a b = record { from = a; to = b }
 
 small_by : (w : List ℕ) (f : ℕ) → is_inside w f ≡ true → size w (kind_of f) ≤ 4096

@@ -1,7 +1,7 @@
 -- Each family's layout is valid.
 use Rattle.std.proofs.Common.{◌≡◌, ◌==◌, ℕ, ◌+◌, ◌*◌, ◌%◌, ◌≤◌, ◌&&◌, Bool, true, false, cond, not, nat_le, List, refl, ap, ap₂, ◌∙◌, arith, mul-le-mul}
 use Rattle.std.proofs.lemmas.Bool.Decides.{nat_tests}
-use Rattle.omi_layout.specs.declared.limits.TheConstants.{MOST_THREADS}
+use Rattle.omi_layout.specs.declared.limits.TheConstants.{MOST_THREADS, FRONT_WORDS}
 use Rattle.std.specs.Prelude.{IsTrue}
 use Rattle.omi_word.specs.Memory.{place_of}
 use Rattle.omi_word.proofs.Addresses.{place-address}
@@ -35,10 +35,10 @@ one_kind a b s f = go (a == b) refl
 
 -- the arenas, by kind where they stand and how long they are: one right after the other, from the lowest number on or from the greatest
 record Row (b : Bool) (a e : ℕ → ℕ) : Type 0 where
-  pub p1 : a 1 ≡ 65536 + 8 * (99 + cond b 0 ((e 4 + e 3) + e 2))
-  pub p2 : a 2 ≡ 65536 + 8 * (99 + cond b (e 1) (e 4 + e 3))
-  pub p3 : a 3 ≡ 65536 + 8 * (99 + cond b (e 1 + e 2) (e 4))
-  pub p4 : a 4 ≡ 65536 + 8 * (99 + cond b ((e 1 + e 2) + e 3) 0)
+  pub p1 : a 1 ≡ 65536 + 8 * (FRONT_WORDS + cond b 0 ((e 4 + e 3) + e 2))
+  pub p2 : a 2 ≡ 65536 + 8 * (FRONT_WORDS + cond b (e 1) (e 4 + e 3))
+  pub p3 : a 3 ≡ 65536 + 8 * (FRONT_WORDS + cond b (e 1 + e 2) (e 4))
+  pub p4 : a 4 ≡ 65536 + 8 * (FRONT_WORDS + cond b ((e 1 + e 2) + e 3) 0)
 
 -- no two of them share a word
 abbrev Apart : (ℕ → ℕ) → (ℕ → ℕ) → ℕ → ℕ → Type 0
@@ -82,10 +82,10 @@ record Stands (a e : ℕ) : Type 0 where
   pub low : 65536 ≤ a
   pub high : a + 8 * e ≤ 140737488355328
 
-even_place : (x : ℕ) → (65536 + 8 * (99 + x)) % 8 ≡ 0
+even_place : (x : ℕ) → (65536 + 8 * (FRONT_WORDS + x)) % 8 ≡ 0
 even_place x = omega arith
 
-stands : (a e x : ℕ) → a ≡ 65536 + 8 * (99 + x) → x ≤ 8000000 → e ≤ 8000000 → Stands a e
+stands : (a e x : ℕ) → a ≡ 65536 + 8 * (FRONT_WORDS + x) → x ≤ 8000000 → e ≤ 8000000 → Stands a e
 stands a e x is h h' = record {
   even = ap (λ y. y % 8) is ∙ even_place x;
   low = omega (arith, is);
@@ -157,7 +157,7 @@ module _ (k t : ℕ) (w : List ℕ) (some : 1 ≤ t) (most : t ≤ MOST_THREADS)
   taken q p is is' e =
       ap₂ (λ x y. shares (place w q) (8 * x) (place w p) (8 * y)) (extent_is q is) (extent_is p is') ∙ e
 
-  arena_stands : (p x : ℕ) → IsKind p → place w p ≡ 65536 + 8 * (99 + x) → x ≤ 8000000
+  arena_stands : (p x : ℕ) → IsKind p → place w p ≡ 65536 + 8 * (FRONT_WORDS + x) → x ≤ 8000000
       → is_placed w p ≡ true
   arena_stands p x is at low =
       let s = stands (place w p) (long p) x at low (omega (arith, few p is)) in
@@ -229,8 +229,8 @@ module _ (k t : ℕ) (w : List ℕ) (some : 1 ≤ t) (most : t ≤ MOST_THREADS)
   }
 
   -- each arena lies behind the tables
-  first_is : (p x : ℕ) → place w p ≡ 65536 + 8 * (99 + x) → first_word w p ≡ 99 + x
-  first_is p x at = ap place_of at ∙ place-address (99 + x)
+  first_is : (p x : ℕ) → place w p ≡ 65536 + 8 * (FRONT_WORDS + x) → first_word w p ≡ FRONT_WORDS + x
+  first_is p x at = ap place_of at ∙ place-address (FRONT_WORDS + x)
 
   -- and all of them end within the image
   all_few : long 1 + long 2 + long 3 + long 4 ≤ 1000000
@@ -240,16 +240,16 @@ module _ (k t : ℕ) (w : List ℕ) (some : 1 ≤ t) (most : t ≤ MOST_THREADS)
       let three =
       product_few (family_count t 3) (family_size k t 3) 1024 78 (omega (arith, most)) (size_few 3) in
       let four =
-      product_few (family_count t 4) (family_size k t 4) 16384 29 (omega (arith, most)) (omega arith) in
+      product_few (family_count t 4) (family_size k t 4) 16384 48 (omega (arith, most)) (omega arith) in
       omega (arith, one, two, three, four)
 
-  end_is : (p x : ℕ) → IsKind p → place w p ≡ 65536 + 8 * (99 + x) → arena_end w p ≡ 99 + x + long p
+  end_is : (p x : ℕ) → IsKind p → place w p ≡ 65536 + 8 * (FRONT_WORDS + x) → arena_end w p ≡ FRONT_WORDS + x + long p
   end_is p x is at = omega (arith, first_is p x at, extent_is p is)
 
-  arena_fit : (p x n : ℕ) → place w p ≡ 65536 + 8 * (99 + x) → arena_end w p ≤ n
+  arena_fit : (p x n : ℕ) → place w p ≡ 65536 + 8 * (FRONT_WORDS + x) → arena_end w p ≤ n
       → arena_fits w n p ≡ true
   arena_fit p x n at ends =
-      both _ _ (le_test 99 (first_word w p) (omega (arith, first_is p x at))) (le_test (arena_end w p) n ends)
+      both _ _ (le_test FRONT_WORDS (first_word w p) (omega (arith, first_is p x at))) (le_test (arena_end w p) n ends)
 
   pub family_fits : IsTrue (fits w (image_words w))
   family_fits =

@@ -1,9 +1,10 @@
 -- A record is filled word by word.
-use Rattle.std.proofs.Common.{◌≡◌, ◌==◌, ℕ, ◌+◌, ◌*◌, ◌<◌, ◌≤◌, Bool, true, false, List, [], ◌∷◌, ◌++◌, length, take, get_or, refl, sym, ap, subst, ◌∙◌, arith}
+use Rattle.std.proofs.Common.{◌≡◌, ◌==◌, ℕ, suc, ◌+◌, ◌*◌, ◌<◌, ◌≤◌, ◌||◌, not, Bool, true, false, List, [], ◌∷◌, ◌++◌, length, take, get_or, refl, sym, ap, subst, ◌∙◌, arith, eqb-true, if◌then◌else◌}
 use Rattle.std.proofs.lemmas.Bool.Decides.{nat_tests}
 use mir.Val.{bool_byte}
 use Rattle.omi_numbers.specs.Words.{flag}
 use Rattle.std.specs.Prelude.{IsTrue}
+use Rattle.std.specs.List.{list_all}
 use Rattle.std.proofs.lemmas.List.{take_more}
 use Rattle.omi_word.specs.Memory.{IsWordOf, words_after}
 use Rattle.omi_word.specs.declared.op.Op.TheVariants.{Store}
@@ -14,8 +15,9 @@ use Rattle.omi_layout.specs.Place.{fits, slot_address, IsSlot}
 use Rattle.omi_layout.specs.Valid.{IsValid}
 use Rattle.omi_layout.specs.Memory.{Rec, replace_at, memory_of, word_address, with_word, with_word_in, IsRecordWord}
 use Rattle.omi_layout.specs.Frame.{IsOnWord}
+use Rattle.omi_layout.specs.OpeningWords.{IsZero}
 use Rattle.omi_layout.specs.Plan.{Entry, IsEntryOf, filled, IsFilled}
-use Rattle.omi_layout.proofs.Arenas.{ends_inside, small}
+use Rattle.omi_layout.proofs.Arenas.{ends_inside, small, test_left, test_right}
 use Rattle.omi_layout.proofs.Numbers.{numbered_field}
 use Rattle.omi_layout.proofs.Turned.{kind_is}
 use Rattle.omi_layout.proofs.Puts.{record_read, record_stays, put_other}
@@ -88,6 +90,39 @@ flag_is false = refl
 
 pub not_first : (i : ℕ) → 1 ≤ i → i == 0 ≡ false
 not_first i h = grind (arith, nat_tests)
+
+-- an entry of the first place of a field, or of another field
+abbrev stores_first : ℕ → Entry → Bool
+stores_first f e = (e.1 == 0) || not (f == number e.0)
+
+one_later : (r : Rec) (e : Entry) (f at : ℕ) → stores_first f e ≡ true
+    → with_word_in r (number e.0) e.1 e.2 f (suc at) ≡ r f (suc at)
+one_later r e f at first = go (f == number e.0) refl (e.1 == 0) refl first
+  where
+    go : (b : Bool) → f == number e.0 ≡ b → (c : Bool) → e.1 == 0 ≡ c → (c || not b) ≡ true
+        → (if b then replace_at (r (number e.0)) e.1 e.2 else r f) (suc at) ≡ r f (suc at)
+    go false other c place first = refl
+    go true same true place first =
+        let here : f ≡ number e.0 = eqb-true f (number e.0) same in
+        let begins : e.1 ≡ 0 = eqb-true e.1 0 place in
+        put_other (r (number e.0)) e.1 (suc at) e.2 (λ is. omega (arith, is, begins)) ∙ ap (λ k. r k (suc at)) (sym here)
+    go true same false place first = absurd (cc)
+
+filled_later : (r : Rec) (plan : List Entry) (f at : ℕ) → list_all (stores_first f) plan ≡ true
+    → filled r plan f (suc at) ≡ r f (suc at)
+filled_later r [] f at first = refl
+filled_later r (e ∷ es) f at first =
+    filled_later (with_word_in r (number e.0) e.1 e.2) es f at (test_right _ _ first)
+    ∙ one_later r e f at (test_left _ _ first)
+
+-- behind the first place of a field, in which alone something was stored, all is 0
+pub later_zero : {w old new : List ℕ} {creator kind : ℕ} {plan : List Entry} → IsFilled w old new creator kind plan
+    → IsZero (memory_of w old creator kind 0) → (f at : ℕ) → list_all (stores_first f) plan ≡ true
+    → memory_of w new creator kind 0 f (suc at) ≡ 0
+later_zero {w} {old} {new} {creator} {kind} {plan} is zero f at first =
+    ap (λ (r : Rec). r f (suc at)) is.here
+    ∙ filled_later (memory_of w old creator kind 0) plan f at first
+    ∙ zero f (suc at)
 
 -- four elements are stored, and those behind stay
 pub past_four : (m : ℕ → ℕ) (a b c d j : ℕ) → 4 ≤ j

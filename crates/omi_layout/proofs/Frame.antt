@@ -2,6 +2,7 @@
 use Rattle.std.proofs.Common.{◌≡◌, ◌==◌, ℕ, ◌+◌, ◌*◌, ◌/◌, ◌%◌, ◌<◌, ◌≤◌, ◌&&◌, Bool, true, false, not, nat_lt, nat_le, List, refl, sym, ap, ◌∙◌, arith, leb-true, ltb-true}
 use Rattle.std.proofs.lemmas.Bool.Decides.{nat_tests}
 use Rattle.std.proofs.lemmas.Nat.{div-mul-add, mod-mul-add, mul-add-lt}
+use Rattle.omi_layout.specs.declared.limits.TheConstants.{FRONT_WORDS}
 use Rattle.omi_layout.specs.Field.{IsField, IsKind, kind_of}
 use Rattle.omi_layout.specs.Table.{size, place, records, extent, offset, width}
 use Rattle.omi_layout.specs.Place.{first_word, arena_end, arena_fits, fits, index_of, slot_address}
@@ -177,10 +178,10 @@ module _ (w : List ℕ) (v : IsValid w) where
   pub are_inside : AreInside w
   are_inside n f index at e is =
       let arena = fits_each n e (kind_of f) (kind_is f) in
-      let low : 99 ≤ first_word w (kind_of f) = leb-true _ _ (test_left _ _ arena) in
+      let low : FRONT_WORDS ≤ first_word w (kind_of f) = leb-true _ _ (test_left _ _ arena) in
       let high : arena_end w (kind_of f) ≤ n =
       leb-true (arena_end w (kind_of f)) n
-      (test_right (nat_le 99 (first_word w (kind_of f))) (nat_le (arena_end w (kind_of f)) n) arena) in
+      (test_right (nat_le FRONT_WORDS (first_word w (kind_of f))) (nat_le (arena_end w (kind_of f)) n) arena) in
       let here = in_arena f index at is in
       record { behind = omega (arith, low); inside = omega (arith, high, here) }
 
@@ -188,12 +189,12 @@ module _ (w : List ℕ) (v : IsValid w) where
   pub each_fits : (n : ℕ) → fits w n ≡ true → (p : ℕ) → IsKind p → arena_end w p ≤ n
   each_fits n e p is =
       leb-true (arena_end w p) n
-      (test_right (nat_le 99 (first_word w p)) (nat_le (arena_end w p) n) (fits_each n e p is))
+      (test_right (nat_le FRONT_WORDS (first_word w p)) (nat_le (arena_end w p) n) (fits_each n e p is))
 
   -- an image that the layout fits has room for the tables
-  pub front_fits : (n : ℕ) → fits w n ≡ true → 99 ≤ n
+  pub front_fits : (n : ℕ) → fits w n ≡ true → FRONT_WORDS ≤ n
   front_fits n e =
-      let low : 99 ≤ first_word w 1 = leb-true _ _ (test_left _ _ (fits_each n e 1 kind_1)) in
+      let low : FRONT_WORDS ≤ first_word w 1 = leb-true _ _ (test_left _ _ (fits_each n e 1 kind_1)) in
       omega (arith, low, each_fits n e 1 kind_1)
 
 pub slots_apart : (w : List ℕ) → SlotsApart w

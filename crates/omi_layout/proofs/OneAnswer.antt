@@ -3,6 +3,7 @@ use Rattle.std.proofs.Common.{◌≡◌, ℕ, zero, suc, ◌+◌, ◌*◌, ◌%�
 use Rattle.std.specs.Prelude.{codes, IsSome}
 use Rattle.std.specs.Option.{option_map, option_and_then}
 use Rattle.std.proofs.lemmas.Bool.Decides.{nat_tests}
+use Rattle.omi_layout.specs.declared.limits.TheConstants.{TABLE_WORDS}
 use Rattle.omi_layout.specs.declared.fault.LayoutFault.{LayoutFault}
 use Rattle.omi_layout.specs.declared.fault.LayoutFault.TheVariants.{Version, Overlap, OutOfRecord, BadArena}
 use Rattle.omi_layout.specs.declared.reading.LayoutError.TheVariants.{NoSymbol, Unmapped, Refused}
@@ -100,22 +101,22 @@ no_symbol o a x y = let both : None ≡ Some a = sym x ∙ y in cc both
 -- a table that was read has no unmapped word
 unmapped_not_read : (words : Words) (addr address : ℕ) (table : List ℕ)
     → symbol_in words (codes "omi_layout") ≡ Some address
-    → words_from (wrapped words) address 56 ≡ Some table → IsUnmapped words addr → ⊥
+    → words_from (wrapped words) address TABLE_WORDS ≡ Some table → IsUnmapped words addr → ⊥
 unmapped_not_read words addr address table symbol read u =
     let same : u.address ≡ address = one_some _ u.address address u.symbol symbol in
-    each_mapped (wrapped words) 56 address table read u.at u.within
+    each_mapped (wrapped words) TABLE_WORDS address table read u.at u.within
     (ap words (ap (λ (a : ℕ). (a + 8 * u.at) % 2 ^ 64) (sym same)) ∙ ap words (sym u.is) ∙ u.none)
 
 pub one_layout : OneLayout
 one_layout = λ words w v a b.
     let address : a.address ≡ b.address = one_some _ a.address b.address a.symbol b.symbol in
-    one_table _ w v (ap (λ x. words_from (wrapped words) x 56) (sym address) ∙ a.table) b.table
+    one_table _ w v (ap (λ x. words_from (wrapped words) x TABLE_WORDS) (sym address) ∙ a.table) b.table
 
 same_table : (words : Words) (addr addr' : ℕ) (f f' : LayoutFault) (a : IsLayoutRefused words addr f) (b : IsLayoutRefused words addr' f')
     → (a.address ≡ b.address) × (a.table ≡ b.table)
 same_table words addr addr' f f' a b =
     let address : a.address ≡ b.address = one_some _ a.address b.address a.symbol b.symbol in
-    (address, one_table _ a.table b.table (ap (λ x. words_from (wrapped words) x 56) (sym address) ∙ a.read) b.read)
+    (address, one_table _ a.table b.table (ap (λ x. words_from (wrapped words) x TABLE_WORDS) (sym address) ∙ a.read) b.read)
 
 -- the first unmapped word is one
 first_unmapped : (words : Words) (x y : ℕ) → IsUnmapped words x → IsUnmapped words y → x ≡ y
@@ -157,5 +158,5 @@ not_both words w (Unmapped y) v a b = unmapped_not_read words y a.address w a.sy
 not_both words w (Refused y f) v a b =
     let address : a.address ≡ b.address = one_some _ a.address b.address a.symbol b.symbol in
     let table : w ≡ b.table =
-    one_table _ w b.table (ap (λ x. words_from (wrapped words) x 56) (sym address) ∙ a.table) b.read in
+    one_table _ w b.table (ap (λ x. words_from (wrapped words) x TABLE_WORDS) (sym address) ∙ a.table) b.read in
     valid_not_refused w f v (subst (λ (t : List ℕ). RefusesTable t f) (sym table) b.refused)

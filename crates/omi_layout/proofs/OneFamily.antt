@@ -2,6 +2,7 @@
 use Rattle.std.proofs.Common.{◌≡◌, ◌+◌, ◌-◌, ◌<◌, ◌≤◌, ◌⊎◌, inl, inr, ℕ, List, length, slice_index, sym, ◌∙◌, subst, arith}
 use Rattle.std.proofs.lemmas.Bool.{cases_lt}
 use Rattle.std.proofs.lemmas.List.{ext_get_or}
+use Rattle.omi_layout.specs.declared.limits.TheConstants.{FIELDS}
 use Rattle.omi_layout.specs.Family.{IsFamily}
 use Rattle.omi_layout.proofs.Arenas.{next_below}
 use Rattle.omi_layout.proofs.Frame.{kind_1, kind_2, kind_3, kind_4}
@@ -44,7 +45,7 @@ module _ (k t : ℕ) (w u : List ℕ) (a : IsFamily k t w) (b : IsFamily k t u) 
       go (inr more) =
           let words = a.words in
           let from : 1 ≤ i - 11 = omega (arith, more) in
-          let to : i - 11 ≤ 44 = omega (arith, within, words) in
+          let to : i - 11 ≤ FIELDS = omega (arith, within, words) in
           let here : 11 + (i - 11) ≡ i = omega (arith, more) in
           subst Same here
           (a.offsets (i - 11) (record { from = from; to = to }) ∙ sym (b.offsets (i - 11) (record { from = from; to = to })))

@@ -4,6 +4,7 @@ use Rattle.std.specs.Prelude.{slice_index}
 use Rattle.std.specs.Option.{option_map, option_and_then}
 use Rattle.omi_word.specs.Words.{Words}
 use Rattle.omi_word.specs.SymbolTable.{words_from}
+use Rattle.omi_layout.specs.declared.limits.TheConstants.{TABLE_WORDS}
 use Rattle.omi_layout.specs.Given.{wrapped}
 use Rattle.omi_layout.specs.NoLayout.{table_address}
 
@@ -23,8 +24,8 @@ read_words f (x ∷ xs) a each =
     ∙ ap (option_map (λ (rest : List ℕ). x ∷ rest)) more
 
 -- the whole table was read
-pub table_read : (words : Words) (address : ℕ) (table : List ℕ) → length table ≡ 56
-    → ((j : ℕ) → j < 56 → words (table_address address j) ≡ Some (slice_index table j)) → words_from (wrapped words) address 56 ≡ Some table
+pub table_read : (words : Words) (address : ℕ) (table : List ℕ) → length table ≡ TABLE_WORDS
+    → ((j : ℕ) → j < TABLE_WORDS → words (table_address address j) ≡ Some (slice_index table j)) → words_from (wrapped words) address TABLE_WORDS ≡ Some table
 table_read words address table long each =
     subst (λ n. words_from (wrapped words) address n ≡ Some table) long
     (read_words (wrapped words) table address (λ j h. each j (omega (arith, h, long))))

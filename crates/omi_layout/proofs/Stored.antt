@@ -6,6 +6,7 @@ use Rattle.omi_word.specs.Memory.{address_at, place_of, IsWordOf, word_at, words
 use Rattle.omi_word.specs.declared.op.Op.{Op}
 use Rattle.omi_word.specs.declared.op.Op.TheVariants.{Load, Store, Cas, Add, Sub}
 use Rattle.omi_word.proofs.Addresses.{place-address, placed_word}
+use Rattle.omi_layout.specs.declared.limits.TheConstants.{FIELDS, FRONT_WORDS}
 use Rattle.omi_layout.specs.Field.{kind_of}
 use Rattle.omi_layout.specs.Table.{size, place, offset, width, makers, per_thread}
 use Rattle.omi_layout.specs.Place.{first_word, arena_end, fits, image_words, index_of, slot_address, IsSlot}
@@ -33,8 +34,8 @@ test_true w c s f k is =
     let within = is.within in
     go (kind_of f) (makers w (kind_of f)) (per_thread w (kind_of f)) (width w f) from to made slot within
   where
-    go : (q m n x : ℕ) → 1 ≤ f → f ≤ 44 → c < m → s < n → k < x
-        → (nat_lt 0 f && nat_lt f 45) && (q == q && (nat_lt c m && (nat_lt s n && nat_lt k x))) ≡ true
+    go : (q m n x : ℕ) → 1 ≤ f → f ≤ FIELDS → c < m → s < n → k < x
+        → (nat_lt 0 f && nat_lt f (FIELDS + 1)) && (q == q && (nat_lt c m && (nat_lt s n && nat_lt k x))) ≡ true
     go q m n x from to made slot within = grind (arith, nat_tests)
 
 pub record Told (w : List ℕ) (c kind s f k : ℕ) : Type 0 where
@@ -47,7 +48,7 @@ test_told w c kind s f k e =
   where
     go : (q m n x : ℕ) → kind_of f ≡ q → makers w (kind_of f) ≡ m → per_thread w (kind_of f) ≡ n
         → width w f ≡ x
-        → (nat_lt 0 f && nat_lt f 45) && (kind == q && (nat_lt c m && (nat_lt s n && nat_lt k x))) ≡ true → Told w c kind s f k
+        → (nat_lt 0 f && nat_lt f (FIELDS + 1)) && (kind == q && (nat_lt c m && (nat_lt s n && nat_lt k x))) ≡ true → Told w c kind s f k
     go q m n x eq em en ex e = record {
       word = record {
         field = record { from = grind (arith, nat_tests); to = grind (arith, nat_tests) };
@@ -148,7 +149,7 @@ module _ (w : List ℕ) (v : IsValid w) where
       finds : word_at words (address_of op) ≡ memory_of w words c (kind_of f) s f k
       finds = ap (λ p. get_or words p 0) placed ∙ sym (memory_read words c s f k is)
 
-      behind : 99 ≤ here
+      behind : FRONT_WORDS ≤ here
       behind =
           (are_inside w v (length words) f (index_of w (kind_of f) c s) k fit (numbered w c s f k is)).behind
 

@@ -6,6 +6,7 @@ use Rattle.std.proofs.Math.Seq.{drop-cons}
 use Rattle.std.proofs.Math.Nat.{mod-eq_of_lt}
 use Rattle.std.proofs.lemmas.List.{ext_get_or, get_or-take, get_or-drop, length-take-le, length-drop}
 use Rattle.omi_word.specs.Memory.{address_at, place_of}
+use Rattle.omi_layout.specs.declared.limits.TheConstants.{FRONT_WORDS, TABLE_WORDS}
 use Rattle.omi_layout.specs.Front.{front}
 use Rattle.omi_layout.specs.Valid.{IsValid}
 use Rattle.omi_word.specs.Words.{Words, words_of}
@@ -124,21 +125,21 @@ module _ (w words : List ℕ) (v : IsValid w) (has : HasTables w words) where
       ∙ image_word words (place_of addr) (omega (arith, here, has.long))
       ∙ ap Some (has.symbols (place_of addr) here ∙ sym s.word)
 
-  table_word : (p : ℕ) → p < 99 → wrapped (words_of words) (address_at p) ≡ Some (get_or words p 0)
+  table_word : (p : ℕ) → p < FRONT_WORDS → wrapped (words_of words) (address_at p) ≡ Some (get_or words p 0)
   table_word p h =
       let low : address_at p < 2 ^ 64 = omega arith in
       ap (words_of words) (mod-eq_of_lt low) ∙ image_word words p (omega (arith, h, has.long))
 
-  table_is : take 56 (drop 43 words) ≡ w
-  table_is = ext_get_or 0 (take 56 (drop 43 words)) w (long ∙ sym v.words)
-      (λ i h. let within : i < 56 = omega (arith, h, long) in get_or-take 56 (drop 43 words) i 0 within ∙ get_or-drop 43 words i 0 ∙ has.table i within)
+  table_is : take TABLE_WORDS (drop 43 words) ≡ w
+  table_is = ext_get_or 0 (take TABLE_WORDS (drop 43 words)) w (long ∙ sym v.words)
+      (λ i h. let within : i < TABLE_WORDS = omega (arith, h, long) in get_or-take TABLE_WORDS (drop 43 words) i 0 within ∙ get_or-drop 43 words i 0 ∙ has.table i within)
     where
-      long : length (take 56 (drop 43 words)) ≡ 56
-      long = length-take-le 56 (drop 43 words) (omega (arith, length-drop 43 words, has.long))
+      long : length (take TABLE_WORDS (drop 43 words)) ≡ TABLE_WORDS
+      long = length-take-le TABLE_WORDS (drop 43 words) (omega (arith, length-drop 43 words, has.long))
 
   pub tables_give : GivesLayout (words_of words) w
   tables_give = record {
     address = 65880;
     symbol = symbol_kept (words_of front) (words_of words) front_kept (codes "omi_layout") 65880 named_table;
-    table = read_words (wrapped (words_of words)) words 56 43 (λ p h. table_word p (omega (arith, h))) (omega (arith, has.long)) ∙ ap Some table_is;
+    table = read_words (wrapped (words_of words)) words TABLE_WORDS 43 (λ p h. table_word p (omega (arith, h))) (omega (arith, has.long)) ∙ ap Some table_is;
   }

@@ -1,16 +1,16 @@
 -- The fields of a family's records, turned, are inside their records and apart.
 use Rattle.std.proofs.Common.{◌≡◌, ◌≢◌, ◌==◌, ℕ, ◌+◌, ◌-◌, ◌%◌, ◌<◌, ◌≤◌, Bool, true, false, nat_le, List, refl, sym, ap, subst, ◌∙◌, arith, leb-true}
 use Rattle.std.proofs.lemmas.Bool.Decides.{nat_tests}
-use Rattle.omi_layout.specs.Field.{IsField, IsKind, kind_of}
+use Rattle.omi_layout.specs.Field.{IsField, IsKind, kind_of, nth, slots, tasks}
 use Rattle.omi_layout.specs.Table.{thread_count, offset, width}
 use Rattle.omi_layout.specs.Valid.{shares}
-use Rattle.omi_layout.specs.Family.{IsFamily, first_field, field_words, words_before, turned_first, family_offset}
+use Rattle.omi_layout.specs.Family.{IsFamily, first_field, field_words, words_before, turned_first, family_offset, field_count}
 use Rattle.omi_layout.proofs.Arenas.{each_kind}
 
-before_plain : (f : ℕ) → IsField f → f < 44 → words_before f + first_field (kind_of f) ≡ f
+before_plain : (f : ℕ) → IsField f → f < slots → words_before f + first_field (kind_of f) ≡ f
 before_plain f is h = let from = is.from in grind (arith, nat_tests)
 
-width_plain : (w : List ℕ) (f : ℕ) → f ≢ 6 → f ≢ 24 → f ≢ 43 → f ≢ 44 → width w f ≡ 1
+width_plain : (w : List ℕ) (f : ℕ) → f ≢ 6 → f ≢ 24 → f ≢ nth → f ≢ slots → width w f ≡ 1
 width_plain w f a b c d = grind (arith, nat_tests)
 
 not_locks : (f g : ℕ) → f < g → kind_of f ≡ kind_of g → f ≢ 6
@@ -19,7 +19,7 @@ not_locks f g h same is = let one : kind_of f ≡ 1 = ap kind_of is in grind (ar
 not_team : (f g : ℕ) → f < g → kind_of f ≡ kind_of g → f ≢ 24
 not_team f g h same is = let one : kind_of f ≡ 3 = ap kind_of is in grind (arith, nat_tests)
 
-kind_last : (f : ℕ) → f ≡ 44 → kind_of f ≡ 4
+kind_last : (f : ℕ) → f ≡ slots → kind_of f ≡ 4
 kind_last f is = ap kind_of is
 
 first_of_last : (f : ℕ) → kind_of f ≡ 4 → 25 ≤ f
@@ -28,27 +28,27 @@ first_of_last f is = grind (arith, nat_tests)
 -- a field's words end before those of a later field of its record
 pub in_order : (w : List ℕ) (f g : ℕ) → IsField f → IsField g → f < g → kind_of f ≡ kind_of g
     → words_before f + width w f ≤ words_before g
-in_order w f g is is' h same = by (g == 44) refl (f == 43) refl
+in_order w f g is is' h same = by (g == slots) refl (f == nth) refl
   where
-    by : (b : Bool) → g == 44 ≡ b → (d : Bool) → f == 43 ≡ d → words_before f + width w f ≤ words_before g
+    by : (b : Bool) → g == slots ≡ b → (d : Bool) → f == nth ≡ d → words_before f + width w f ≤ words_before g
     by true e true e' =
-        let a : g ≡ 44 = grind (arith, nat_tests) in let b : f ≡ 43 = grind (arith, nat_tests) in rw (a, b) (omega arith)
+        let a : g ≡ slots = grind (arith, nat_tests) in let b : f ≡ nth = grind (arith, nat_tests) in rw (a, b) (omega arith)
     by true e false e' =
-        let a : g ≡ 44 = grind (arith, nat_tests) in
-        let b : f ≢ 43 = grind (arith, nat_tests) in
+        let a : g ≡ slots = grind (arith, nat_tests) in
+        let b : f ≢ nth = grind (arith, nat_tests) in
         let one = width_plain w f (not_locks f g h same) (not_team f g h same) b (omega (arith, a, h)) in
         let four : kind_of f ≡ 4 = same ∙ kind_last g a in
         let mine = before_plain f is (omega (arith, a, h)) in
         let first : first_field (kind_of f) ≡ 25 = ap first_field four in
-        let last : words_before g ≡ 22 = ap words_before a in
+        let last : words_before g ≡ words_before slots = ap words_before a in
         omega (arith, one, mine, first, last, a, h, b)
     by false e true e' =
-        let a : g ≢ 44 = grind (arith, nat_tests) in
-        let b : f ≡ 43 = grind (arith, nat_tests) in
+        let a : g ≢ slots = grind (arith, nat_tests) in
+        let b : f ≡ nth = grind (arith, nat_tests) in
         absurd (omega (arith, a, b, h, is'.to))
     by false e false e' =
-        let a : g ≢ 44 = grind (arith, nat_tests) in
-        let b : f ≢ 43 = grind (arith, nat_tests) in
+        let a : g ≢ slots = grind (arith, nat_tests) in
+        let b : f ≢ nth = grind (arith, nat_tests) in
         let one = width_plain w f (not_locks f g h same) (not_team f g h same) b (omega (arith, h, is'.to)) in
         let mine = before_plain f is (omega (arith, h, is'.to)) in
         let other = before_plain g is' (omega (arith, a, is'.to)) in
@@ -82,7 +82,7 @@ kind_4 x = grind (arith, nat_tests)
 pub first_kind : (k p : ℕ) → IsKind p → kind_of (turned_first k p) ≡ p
 first_kind k =
     each_kind (λ p. kind_of (turned_first k p) ≡ p) (kind_1 (k % 6) (omega arith))
-    (kind_2 (k % 6) (omega arith)) (kind_3 (k % 12) (omega arith)) (kind_4 (k % 20))
+    (kind_2 (k % 6) (omega arith)) (kind_3 (k % 12) (omega arith)) (kind_4 (k % field_count tasks))
 
 pub kind_is : (f : ℕ) → IsKind (kind_of f)
 kind_is f = record { from = grind (arith, nat_tests); to = grind (arith, nat_tests) }

@@ -3,8 +3,8 @@ use Rattle.std.specs.Prelude.{◌≡◌, ◌==◌, ℕ, ◌+◌, ◌-◌, ◌*�
 use Rattle.omi_numbers.specs.declared.limits.TheConstants.{OWN_SLOTS}
 use Rattle.omi_script.specs.declared.limits.TheConstants.{MAX_LOCK, MAX_SIZES}
 use Rattle.omi_word.specs.Memory.{address_at}
-use Rattle.omi_layout.specs.declared.limits.TheConstants.{FRONT_WORDS, TABLE_WORDS, VERSION, FAMILY_REGIONS, FAMILY_TASKS}
-use Rattle.omi_layout.specs.Field.{IsField, IsKind, kind_of, runtime, threads, regions, tasks, slots}
+use Rattle.omi_layout.specs.declared.limits.TheConstants.{FIELDS, FRONT_WORDS, TABLE_WORDS, VERSION, FAMILY_REGIONS, FAMILY_TASKS}
+use Rattle.omi_layout.specs.Field.{IsField, IsKind, kind_of, runtime, threads, regions, tasks, nth, slots}
 use Rattle.omi_layout.specs.Table.{version, place, size, thread_count, per_thread, offset}
 
 -- the first field of a record
@@ -21,7 +21,7 @@ field_count p =
     if p == runtime then 6
     else (if p == threads then 6
     else (if p == regions then 12
-    else 20))
+    else (FIELDS + 1) - first_field tasks))
 
 -- the words of all fields of a record
 abbrev pub field_words : ℕ → ℕ → ℕ
@@ -29,11 +29,11 @@ field_words t p =
     if p == runtime then 5 + (MAX_LOCK + 1)
     else (if p == threads then 6
     else (if p == regions then 11 + t
-    else 18 + (MAX_SIZES + OWN_SLOTS)))
+    else (nth - first_field tasks) + (MAX_SIZES + OWN_SLOTS)))
 
 -- the words of the fields in front of a field in the listed order: of these only nthreads-var, right in front of the slots, has more than one
 abbrev pub words_before : ℕ → ℕ
-words_before f = if f == slots then 18 + MAX_SIZES else f - first_field (kind_of f)
+words_before f = if f == slots then (nth - first_field tasks) + MAX_SIZES else f - first_field (kind_of f)
 
 -- the field that stands first in its record in family `k`
 abbrev pub turned_first : ℕ → ℕ → ℕ

@@ -1,6 +1,6 @@
--- The definitions to believe, in reading order: the fields of the records, the layout table, valid layouts, the places of records and words, and the families.
-pub mod Field
+-- The definitions to believe, in reading order: the numbers and names of fields, the records that they belong to, the layout table, valid layouts, the places of records and words, and the families.
 pub mod Named
+pub mod Field
 pub mod Table
 pub mod Valid
 pub mod Place

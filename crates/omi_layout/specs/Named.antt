@@ -1,5 +1,5 @@
--- The numbers of the kinds of records and of their fields, by name.
-use Rattle.std.specs.Prelude.{ℕ}
+-- The numbers of the kinds of records and of their fields, by name, and the texts that name fields.
+use Rattle.std.specs.Prelude.{ℕ, List, [], ◌∷◌, codes, map, slice_index_or}
 use Rattle.omi_layout.specs.declared.field.Kind.{Kind}
 use Rattle.omi_layout.specs.declared.field.Kind.TheVariants.{Runtime, Threads, Regions, Tasks}
 use Rattle.omi_layout.specs.declared.field.Field.{Field}
@@ -58,3 +58,60 @@ number TaskChildren = 41
 number TaskReferences = 42
 number TaskNthreads = 43
 number TaskSlots = 44
+
+-- the fields in the order of their numbers, each with its name
+abbrev pub fields : List (Field × List ℕ)
+fields =
+    (RuntimeVersion, codes "rt.version")
+    ∷ (RuntimeThreads, codes "rt.threads")
+    ∷ (RuntimeProcs, codes "rt.procs")
+    ∷ (RuntimeDebug, codes "rt.debug")
+    ∷ (RuntimeMaxActive, codes "rt.maxact")
+    ∷ (RuntimeLocks, codes "rt.locks")
+    ∷ (ThreadLife, codes "thread.life")
+    ∷ (ThreadNative, codes "thread.native")
+    ∷ (ThreadCurrent, codes "thread.cur")
+    ∷ (ThreadState, codes "thread.state")
+    ∷ (ThreadClaim, codes "thread.claim")
+    ∷ (ThreadAssign, codes "thread.assign")
+    ∷ (RegionLife, codes "region.life")
+    ∷ (RegionFunction, codes "region.func")
+    ∷ (RegionEnclosing, codes "region.enclosing")
+    ∷ (RegionEncountering, codes "region.encounter")
+    ∷ (RegionSize, codes "region.size")
+    ∷ (RegionLevels, codes "region.levels")
+    ∷ (RegionActive, codes "region.active")
+    ∷ (RegionReleased, codes "region.released")
+    ∷ (RegionArrived, codes "region.arrived")
+    ∷ (RegionPending, codes "region.pending")
+    ∷ (RegionLeft, codes "region.left")
+    ∷ (RegionTeam, codes "region.team")
+    ∷ (TaskLife, codes "task.life")
+    ∷ (TaskImplicit, codes "task.implicit")
+    ∷ (TaskRegion, codes "task.region")
+    ∷ (TaskThread, codes "task.thread")
+    ∷ (TaskNumber, codes "task.number")
+    ∷ (TaskGenerating, codes "task.generating")
+    ∷ (TaskScheduling, codes "task.scheduling")
+    ∷ (TaskFunction, codes "task.func")
+    ∷ (TaskExit, codes "task.exit")
+    ∷ (TaskEnter, codes "task.enter")
+    ∷ (TaskDynamic, codes "task.dyn")
+    ∷ (TaskNthreadsLength, codes "task.nthn")
+    ∷ (TaskSchedule, codes "task.sched")
+    ∷ (TaskDevice, codes "task.device")
+    ∷ (TaskFinal, codes "task.final")
+    ∷ (TaskTool, codes "task.tool")
+    ∷ (TaskChildren, codes "task.children")
+    ∷ (TaskReferences, codes "task.refs")
+    ∷ (TaskNthreads, codes "task.nth")
+    ∷ (TaskSlots, codes "task.slots")
+    ∷ []
+
+-- the names of the fields by number. 0 stands for the layout table
+abbrev pub names : List (List ℕ)
+names = codes "layout" ∷ map (λ field. field.1) fields
+
+-- the text by which a fault names a field
+abbrev pub field_text : ℕ → List ℕ
+field_text f = slice_index_or names f []

@@ -1,9 +1,10 @@
 -- The words with which a program opens in a layout: the tables in front, the records of the runtime, the threads, the initial region and the initial task, and 0 everywhere else, in gaps too.
-use Rattle.std.specs.Prelude.{◌≡◌, ◌==◌, ◌≢◌, ℕ, ◌<◌, List, length, slice_index, if◌then◌else◌}
+use Rattle.std.specs.Prelude.{◌≡◌, ◌==◌, ℕ, zero, suc, ◌<◌, List, length, slice_index, if◌then◌else◌}
 use Rattle.omi_numbers.specs.declared.states.TheConstants.{WORK_SERIAL, IDLE}
 use Rattle.omi_numbers.specs.declared.words.TheConstants.{OPENMP_VERSION}
 use Rattle.omi_script.specs.declared.program.Program.{Program}
-use Rattle.omi_layout.specs.declared.field.Field.TheVariants.{RuntimeVersion, RuntimeThreads, RuntimeProcs, RuntimeDebug, RuntimeMaxActive, RuntimeLocks, ThreadLife, ThreadNative, ThreadCurrent, ThreadState, ThreadClaim, ThreadAssign, RegionLife, RegionFunction, RegionEnclosing, RegionEncountering, RegionSize, RegionLevels, RegionActive, RegionReleased, RegionArrived, RegionPending, RegionLeft, RegionTeam, TaskLife, TaskImplicit, TaskRegion, TaskThread, TaskNumber, TaskGenerating, TaskScheduling, TaskFunction, TaskExit, TaskEnter, TaskDynamic, TaskNthreadsLength, TaskSchedule, TaskDevice, TaskFinal, TaskTool, TaskChildren, TaskReferences, TaskNthreads, TaskSlots}
+use Rattle.omi_layout.specs.declared.field.Field.{Field}
+use Rattle.omi_layout.specs.declared.field.Field.TheVariants.{RuntimeVersion, RuntimeThreads, RuntimeProcs, RuntimeDebug, RuntimeMaxActive, ThreadLife, ThreadNative, ThreadCurrent, ThreadState, RegionLife, RegionFunction, RegionSize, RegionTeam, TaskLife, TaskImplicit, TaskRegion, TaskThread, TaskFunction, TaskExit, TaskDynamic, TaskNthreadsLength, TaskSchedule, TaskDevice, TaskNthreads}
 use Rattle.omi_layout.specs.Field.{runtime, threads, regions, tasks}
 use Rattle.omi_layout.specs.Named.{number}
 use Rattle.omi_layout.specs.Table.{thread_count}
@@ -15,62 +16,70 @@ use Rattle.omi_numbers.specs.Words.{flag, native_id}
 use Rattle.omi_numbers.specs.Addresses.{entry_address, exit_frame}
 use Rattle.omi_script.specs.Schedules.{schedule_word}
 
+-- a field of one word, and a field whose words are 0
+abbrev pub alone : ℕ → ℕ → ℕ
+alone word zero = word
+alone word (suc at) = 0
+
+abbrev pub zeros : ℕ → ℕ
+zeros at = 0
+
 -- the version of OpenMP, and the values of the environment. No lock is held
+abbrev pub runtime_opening : Program → Field → ℕ → ℕ
+runtime_opening p RuntimeVersion = alone OPENMP_VERSION
+runtime_opening p RuntimeThreads = alone p.threads
+runtime_opening p RuntimeProcs = alone p.env.procs
+runtime_opening p RuntimeDebug = alone (flag p.env.debug)
+runtime_opening p RuntimeMaxActive = alone p.env.max_active
+runtime_opening p _ = zeros
+
+-- thread 0 has begun, runs the initial task and is in the state work_serial; a worker hasn't begun, has no task and is idle. No thread
+-- is claimed, and no task is assigned to one
+abbrev pub thread_opening : List ℕ → ℕ → Field → ℕ → ℕ
+thread_opening w i ThreadLife = alone (if i == 0 then 1 else 0)
+thread_opening w i ThreadNative = alone (native_id i)
+thread_opening w i ThreadCurrent = alone (if i == 0 then slot_address w tasks 0 0 else 0)
+thread_opening w i ThreadState = alone (if i == 0 then WORK_SERIAL else IDLE)
+thread_opening w i _ = zeros
+
+-- the initial region: the first region of thread 0, in which `main` runs. Its one member is the initial task. Nothing encloses it,
+-- it has no levels, and nobody has come to a barrier, has a task to finish there or has left
+abbrev pub region_opening : Program → List ℕ → Field → ℕ → ℕ
+region_opening p w RegionLife = alone 1
+region_opening p w RegionFunction = alone (entry_address p.main)
+region_opening p w RegionSize = alone 1
+region_opening p w RegionTeam = alone (slot_address w tasks 0 0)
+region_opening p w _ = zeros
+
+-- the initial task: the first task of thread 0, member 0 of the initial region. Its variables are those of the environment. No task
+-- generated it or was scheduled before it, it has no enter frame, is not final and has no tool word, no children, no references and
+-- no task in a slot
+abbrev pub task_opening : Program → List ℕ → Field → ℕ → ℕ
+task_opening p w TaskLife = alone 1
+task_opening p w TaskImplicit = alone 1
+task_opening p w TaskRegion = alone (slot_address w regions 0 0)
+task_opening p w TaskThread = alone (slot_address w threads 0 0)
+task_opening p w TaskFunction = alone (entry_address p.main)
+task_opening p w TaskExit = alone (exit_frame 0 1)
+task_opening p w TaskDynamic = alone (flag p.env.dynamic)
+task_opening p w TaskNthreadsLength = alone (length p.env.nthreads)
+task_opening p w TaskSchedule = alone (schedule_word p.env.sched)
+task_opening p w TaskDevice = alone p.env.device
+task_opening p w TaskNthreads = slice_index p.env.nthreads
+task_opening p w _ = zeros
+
+-- a record has these words in all fields
 pub record OpensRuntime (p : Program) (r : Rec) : Type 0 where
-  pub version : r (number RuntimeVersion) 0 ≡ OPENMP_VERSION
-  pub threads : r (number RuntimeThreads) 0 ≡ p.threads
-  pub procs : r (number RuntimeProcs) 0 ≡ p.env.procs
-  pub debug : r (number RuntimeDebug) 0 ≡ flag p.env.debug
-  pub max_active : r (number RuntimeMaxActive) 0 ≡ p.env.max_active
-  pub locks : (k : ℕ) → r (number RuntimeLocks) k ≡ 0
+  pub words : (f : Field) (at : ℕ) → r (number f) at ≡ runtime_opening p f at
 
--- thread 0 has begun, runs the initial task and is in the state work_serial; a worker hasn't begun, has no task and is idle
 pub record OpensThread (w : List ℕ) (i : ℕ) (r : Rec) : Type 0 where
-  pub life : r (number ThreadLife) 0 ≡ (if i == 0 then 1 else 0)
-  pub native : r (number ThreadNative) 0 ≡ native_id i
-  pub current : r (number ThreadCurrent) 0 ≡ (if i == 0 then slot_address w tasks 0 0 else 0)
-  pub state : r (number ThreadState) 0 ≡ (if i == 0 then WORK_SERIAL else IDLE)
-  pub claim : r (number ThreadClaim) 0 ≡ 0
-  pub assign : r (number ThreadAssign) 0 ≡ 0
+  pub words : (f : Field) (at : ℕ) → r (number f) at ≡ thread_opening w i f at
 
--- the initial region: the first region of thread 0, in which `main` runs. Nothing encloses it, and its one member is the initial task
 pub record OpensRegion (p : Program) (w : List ℕ) (r : Rec) : Type 0 where
-  pub life : r (number RegionLife) 0 ≡ 1
-  pub function : r (number RegionFunction) 0 ≡ entry_address p.main
-  pub enclosing : r (number RegionEnclosing) 0 ≡ 0
-  pub encountering : r (number RegionEncountering) 0 ≡ 0
-  pub size : r (number RegionSize) 0 ≡ 1
-  pub levels : r (number RegionLevels) 0 ≡ 0
-  pub active : r (number RegionActive) 0 ≡ 0
-  pub released : r (number RegionReleased) 0 ≡ 0
-  pub arrived : r (number RegionArrived) 0 ≡ 0
-  pub pending : r (number RegionPending) 0 ≡ 0
-  pub left : r (number RegionLeft) 0 ≡ 0
-  pub member : r (number RegionTeam) 0 ≡ slot_address w tasks 0 0
-  pub no_other : (j : ℕ) → j ≢ 0 → r (number RegionTeam) j ≡ 0
+  pub words : (f : Field) (at : ℕ) → r (number f) at ≡ region_opening p w f at
 
--- the initial task: the first task of thread 0, member 0 of the initial region. Its variables are those of the environment
 pub record OpensTask (p : Program) (w : List ℕ) (r : Rec) : Type 0 where
-  pub life : r (number TaskLife) 0 ≡ 1
-  pub implicit : r (number TaskImplicit) 0 ≡ 1
-  pub region : r (number TaskRegion) 0 ≡ slot_address w regions 0 0
-  pub thread : r (number TaskThread) 0 ≡ slot_address w threads 0 0
-  pub member : r (number TaskNumber) 0 ≡ 0
-  pub generating : r (number TaskGenerating) 0 ≡ 0
-  pub scheduling : r (number TaskScheduling) 0 ≡ 0
-  pub function : r (number TaskFunction) 0 ≡ entry_address p.main
-  pub exit : r (number TaskExit) 0 ≡ exit_frame 0 1
-  pub enter : r (number TaskEnter) 0 ≡ 0
-  pub dynamic : r (number TaskDynamic) 0 ≡ flag p.env.dynamic
-  pub nthreads_length : r (number TaskNthreadsLength) 0 ≡ length p.env.nthreads
-  pub schedule : r (number TaskSchedule) 0 ≡ schedule_word p.env.sched
-  pub device : r (number TaskDevice) 0 ≡ p.env.device
-  pub final : r (number TaskFinal) 0 ≡ 0
-  pub tool : r (number TaskTool) 0 ≡ 0
-  pub children : r (number TaskChildren) 0 ≡ 0
-  pub references : r (number TaskReferences) 0 ≡ 0
-  pub nthreads : (j : ℕ) → r (number TaskNthreads) j ≡ slice_index p.env.nthreads j
-  pub slots : (j : ℕ) → r (number TaskSlots) j ≡ 0
+  pub words : (f : Field) (at : ℕ) → r (number f) at ≡ task_opening p w f at
 
 -- all words of a record are 0
 abbrev pub IsZero : Rec → Type 0

@@ -16,6 +16,11 @@ use omi_numbers::OWN_SLOTS;
 use omi_script::limits::{MAX_LOCK, MAX_SIZES};
 use omi_word::FIRST_ADDRESS;
 
+/// The fields of a task's record, and how many of them stand in front of the elements of nthreads-var: each of one word.
+const TASK_FIELDS: u8 = FIELDS + 1 - Field::TaskLife as u8;
+
+const TASK_SINGLES: u64 = Field::TaskNthreads as u64 - Field::TaskLife as u64;
+
 /// The first field of a record.
 fn first_field(p: u8) -> u8
     ensures { result ≡ Family.first_field p }
@@ -42,7 +47,7 @@ fn field_count(p: u8) -> u8
     } else if p == REGIONS {
         12
     } else {
-        20
+        TASK_FIELDS
     }
 }
 
@@ -57,7 +62,7 @@ fn field_words(threads: u8, p: u8) -> u64
     } else if p == REGIONS {
         11 + u64::from(threads)
     } else {
-        18 + (MAX_SIZES as u64 + u64::from(OWN_SLOTS))
+        TASK_SINGLES + (MAX_SIZES as u64 + u64::from(OWN_SLOTS))
     }
 }
 
@@ -67,7 +72,7 @@ fn words_before(field: u8) -> u64
     ensures { result ≡ Family.words_before field }
 {
     if field == Field::TaskSlots as u8 {
-        18 + MAX_SIZES as u64
+        TASK_SINGLES + MAX_SIZES as u64
     } else {
         u64::from(field - first_field(kind(field)))
     }

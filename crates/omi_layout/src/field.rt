@@ -1,8 +1,8 @@
 //! The kinds of records and their fields, by name.
 
 ghost use Rattle.std.specs.Prelude.{◌≡◌, ◌≤◌};
-ghost use Rattle.omi_layout.specs.Field.{field_text, kind_of, IsField};
-ghost use Rattle.omi_layout.specs.Named.{number, kind_number};
+ghost use Rattle.omi_layout.specs.Field.{kind_of, IsField};
+ghost use Rattle.omi_layout.specs.Named.{number, kind_number, field_text};
 ghost use Rattle.omi_layout.specs.declared.limits.TheConstants.{FIELDS};
 
 /// A kind of record, and the arena in which the records of this kind lie.

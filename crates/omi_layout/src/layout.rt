@@ -233,7 +233,7 @@ impl Layout {
         first && second && third && fourth
     }
 
-    /// The least number of words, 99 or more, in which every arena ends.
+    /// The least number of words, those in front of the records among them, in which every arena ends.
     pub fn image_words(&self) -> usize
         ensures { result ≡ Place.image_words self.now.table }
     {

@@ -1,13 +1,14 @@
 //! The limits of a layout. Each stands here alone: definitions, code and the crates above name it.
 
+use crate::field::Field;
 use omi_script::limits::MAX_THREADS;
 use omi_word::MEMORY_END;
 
 /// The fields of all records together. They are numbered from 1 on.
-pub const FIELDS: u8 = 44;
+pub const FIELDS: u8 = Field::TaskSlots as u8;
 
-/// The words of a layout table.
-pub const TABLE_WORDS: usize = 56;
+/// The words of a layout table: twelve of version and arenas, and the offset of each field.
+pub const TABLE_WORDS: usize = 12 + FIELDS as usize;
 
 /// The version of the layout table.
 pub const VERSION: u64 = 1;
@@ -40,7 +41,7 @@ pub const MOST_RECORDS: u64 = 262_144;
 pub const LAST_END: u64 = MEMORY_END;
 
 /// The words in front of the records: symbol table, entry point words and layout table.
-pub const FRONT_WORDS: u64 = 99;
+pub const FRONT_WORDS: u64 = TABLE_PLACE + TABLE_WORDS as u64;
 
 /// The place in an image of the first word of the layout table.
 pub const TABLE_PLACE: u64 = 43;

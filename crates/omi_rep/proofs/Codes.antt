@@ -7,7 +7,7 @@ use Rattle.omi_model.specs.declared.id.Tid.{Tid}
 use Rattle.omi_layout.specs.declared.field.Field.{Field}
 use Rattle.omi_layout.specs.declared.field.Field.TheVariants.{RuntimeLocks, ThreadLife, RegionTeam, TaskNthreads}
 use Rattle.omi_layout.specs.Field.{kind_of, runtime, threads, regions, tasks}
-use Rattle.omi_layout.specs.Memory.{Rec, memory_of, word_address, IsRecordWord}
+use Rattle.omi_layout.specs.Memory.{memory_of, word_address, IsRecordWord}
 use Rattle.omi_layout.specs.Named.{number}
 use Rattle.omi_layout.specs.Place.{image_words, IsSlot}
 use Rattle.omi_layout.specs.Table.{thread_count, width}

@@ -1,5 +1,5 @@
 -- The opening words of a program show its opening state, in which nothing lives but the initial region and the initial task.
-use Rattle.std.proofs.Common.{◌≡◌, ◌==◌, ◌<◌, ℕ, ◌+◌, ◌*◌, ◌≤◌, ◌&&◌, Bool, true, false, cond, List, [], ◌∷◌, length, Some, None, refl, sym, ap, subst, ◌∙◌, arith, lit≤, lit<, eqb-true, if◌then◌else◌}
+use Rattle.std.proofs.Common.{◌≡◌, ◌==◌, ◌<◌, ℕ, ◌+◌, ◌*◌, ◌&&◌, Bool, true, false, cond, List, [], ◌∷◌, Some, None, refl, sym, ap, subst, ◌∙◌, arith, lit≤, lit<, eqb-true, if◌then◌else◌}
 use Rattle.std.specs.Prelude.{Contains, IsSome}
 use Rattle.std.proofs.lemmas.Bool.Decides.{nat_tests}
 use Rattle.std.proofs.lemmas.List.Elements.{All-from_recursion}
@@ -207,8 +207,8 @@ module _ (p : Program) (w words : List ℕ) (v : IsValid w) (suits : p.threads �
         (runtime_opened p w (memory_of w words 0 runtime 0) opens.runtime_record);
     lives = threads_shown shown_unbegun;
     threads = λ i known _. threads_shown shown i known;
-    region_lives = λ c k _ _. slots_shown regions RegionLife (opening_region p) c k (life_stands RegionLife regions refl slot_0.0 ((opens.made 0 (some_threads w v)).region refl).life);
-    task_lives = λ c k _ _. slots_shown tasks TaskLife (opening_task p) c k (life_stands TaskLife tasks refl slot_0.1 ((opens.made 0 (some_threads w v)).task refl).life);
+    region_lives = λ c k _ _. slots_shown regions RegionLife (opening_region p) c k (life_stands RegionLife regions refl slot_0.0 (((opens.made 0 (some_threads w v)).region refl).words RegionLife 0));
+    task_lives = λ c k _ _. slots_shown tasks TaskLife (opening_task p) c k (life_stands TaskLife tasks refl slot_0.1 (((opens.made 0 (some_threads w v)).task refl).words TaskLife 0));
     regions = λ n seen. region_in n seen.region (alone_found (opening_region p) seen.region n.0.creator n.0.slot n.0.generation seen.live);
     tasks = λ k seen. task_in k seen.task (alone_found (opening_task p) seen.task k.0.creator k.0.slot k.0.generation seen.live);
   }

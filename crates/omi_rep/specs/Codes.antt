@@ -1,6 +1,6 @@
 -- What each word of a record means: the word that stands in a field, at a place of the field, by the part of the state that it tells. An object
 -- stands as the address of its record, none as 0, a function as its entry address, and a flag as 1 or 0.
-use Rattle.std.specs.Prelude.{◌≡◌, ℕ, zero, suc, ◌==◌, Bool, true, false, nat_lt, List, [], ◌∷◌, length, slice_get, sum, Option, Some, None, if◌then◌else◌}
+use Rattle.std.specs.Prelude.{◌≡◌, ℕ, zero, suc, ◌==◌, Bool, nat_lt, List, [], ◌∷◌, length, slice_get, sum, Option, Some, None, if◌then◌else◌}
 use Rattle.std.specs.Option.{option_map}
 use Rattle.std.specs.List.{list_any}
 use Rattle.omi_numbers.specs.declared.holders.TheConstants.{FREE_CLAIM}

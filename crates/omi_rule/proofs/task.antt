@@ -6,6 +6,7 @@ pub mod Fills
 pub mod Raises
 pub mod Events
 pub mod Slots
+pub mod FilledTasks
 pub mod NewTasks
 pub mod Making
 pub mod StartsNow

@@ -1,3 +1,4 @@
+-- The steps of a worker.
 pub mod WorkerEvents
 pub mod WorkerLoads
 pub mod WorkerBegins

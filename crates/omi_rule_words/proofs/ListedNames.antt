@@ -3,31 +3,32 @@ use Rattle.std.proofs.Common.{ℕ, List, sym, ap, subst, ◌∙◌}
 use Rattle.omi_model.specs.declared.item.Item.{Item}
 use Rattle.omi_model.specs.declared.task.Task.{Task}
 use Rattle.omi_model.specs.Changes.{with_list}
-use Rattle.omi_model.specs.LawNames.{AreNamesLive, IsLiveRegion}
+use Rattle.omi_model.specs.LawNames.{AreNamesLive, IsLiveRegion, IsLiveTask}
 use Rattle.omi_model.specs.LawStays.{Stays}
 use Rattle.omi_model.specs.declared.id.Rid.{Rid}
+use Rattle.omi_model.specs.declared.id.Tid.{Tid}
 use Rattle.omi_model.specs.State.{State}
-use Rattle.omi_model.proofs.NamesLive.{live_region, live_task, member_stays}
-use Rattle.omi_model.proofs.StaysKept.{stays_list}
+use Rattle.omi_model.proofs.NamesLive.{live_region, member_stays}
+use Rattle.omi_model.proofs.StaysKept.{list_keeps, stays_list}
 use Rattle.omi_model.proofs.Steps.{IsRelisted, is_relisted}
 
 pub names_stay_live : (s : State) (i : ℕ) (list : List Item) → AreNamesLive s
     → AreNamesLive (with_list s i list)
 names_stay_live s i list o = record {
-  currents = λ j k is. live_task s after stays k (o.currents j k (sym (moved.currents j) ∙ is));
+  currents = λ j k is. still k (o.currents j k (sym (moved.currents j) ∙ is));
   tasks = λ k t is.
       let (u, items, was, same) = moved.tasks k t is in
       let x = o.tasks k u was in
       record {
         region = subst (λ (n : Rid). IsLiveRegion after n) (sym (ap (λ (y : Task). y.region) same)) (live_region s after stays u.region x.region);
-        generating = λ q made. live_task s after stays q (x.generating q (sym (ap (λ (y : Task). y.generating) same) ∙ made));
-        scheduling = λ q made. live_task s after stays q (x.scheduling q (sym (ap (λ (y : Task). y.scheduling) same) ∙ made));
+        generating = λ q made. still q (x.generating q (sym (ap (λ (y : Task). y.generating) same) ∙ made));
+        scheduling = λ q made. still q (x.scheduling q (sym (ap (λ (y : Task). y.scheduling) same) ∙ made));
       };
   regions = λ n r is.
       let x = o.regions n r (sym (moved.regions n) ∙ is) in
       record {
         enclosing = λ q outer. live_region s after stays q (x.enclosing q outer);
-        encountering = λ q made. live_task s after stays q (x.encountering q made);
+        encountering = λ q made. still q (x.encountering q made);
         team = λ j m at. member_stays s after stays n j m (x.team j m at);
       };
 }
@@ -37,6 +38,9 @@ names_stay_live s i list o = record {
 
     stays : Stays s (with_list s i list)
     stays = stays_list s i list
+
+    still : (k : Tid) → IsLiveTask s k → IsLiveTask after k
+    still k (t, live, un) = let (v, found, same) = list_keeps s i list k t live in (v, found, same.started un)
 
     moved : IsRelisted s (with_list s i list)
     moved = is_relisted s i list

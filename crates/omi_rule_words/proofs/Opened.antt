@@ -13,7 +13,7 @@ use Rattle.omi_model.specs.Put.{first_alone, unused}
 use Rattle.omi_model.specs.State.{State}
 use Rattle.omi_model.proofs.OpeningObjects.{each_first_task}
 use Rattle.omi_layout.specs.declared.field.Field.{Field}
-use Rattle.omi_layout.specs.declared.field.Field.TheVariants.{RegionLife, TaskLife}
+use Rattle.omi_layout.specs.declared.field.Field.TheVariants.{RegionLeft, RegionLife, RegionPending, TaskChildren, TaskLife, TaskSlots, ThreadAssign}
 use Rattle.omi_layout.specs.Field.{runtime, threads, regions, tasks}
 use Rattle.omi_layout.specs.Memory.{Rec, MadeRecords, Memory, memory_of}
 use Rattle.omi_layout.specs.Named.{number}
@@ -91,7 +91,7 @@ module _ (p : Program) (w words : List ℕ) (v : IsValid w) (suits : Suits p w)
   assign_kept : (i : ℕ) (r : Rec) → OpensThread w i r → KeepsAssign w s owes i r
   assign_kept i r o = record {
     waiting = λ k waits. absurd (none_waits i k waits);
-    none = λ nobody. o.assign;
+    none = λ nobody. o.words ThreadAssign 0;
   }
 
   region_kept : (n : Rid) (r : Rec) → OpensRegion p w r → KeepsRegion w s owes n r (opening_region p)
@@ -102,11 +102,11 @@ module _ (p : Program) (w words : List ℕ) (v : IsValid w) (suits : Suits p w)
         slots_none w s (λ c k t. one (is_unfinished t && is_region n t.region))
         (none_counted p (λ t. one (is_unfinished t && is_region n t.region)) refl) in
         let owed = owed_none s owes (pending_owed n) none refl in
-        let is = o.pending in
+        let is : r (number RegionPending) 0 ≡ 0 = o.words RegionPending 0 in
         omega (arith, unfinished, owed, is);
     left =
         let owed = owed_none s owes (left_owed n) none refl in
-        let is = o.left in
+        let is : r (number RegionLeft) 0 ≡ 0 = o.words RegionLeft 0 in
         omega (arith, owed, is);
   }
 
@@ -117,7 +117,7 @@ module _ (p : Program) (w words : List ℕ) (v : IsValid w) (suits : Suits p w)
         slots_none w s (λ c j t. one (is_unfinished t && is_some_task k t.generating))
         (none_counted p (λ t. one (is_unfinished t && is_some_task k t.generating)) refl) in
         let owed = owed_none s owes (children_owed s k) none refl in
-        let is = o.children in
+        let is : r (number TaskChildren) 0 ≡ 0 = o.words TaskChildren 0 in
         omega (arith, unfinished, owed, is);
   }
 
@@ -126,7 +126,7 @@ module _ (p : Program) (w words : List ℕ) (v : IsValid w) (suits : Suits p w)
     environment = λ f at word _ told. task_opened p w r o f at word told;
     place = λ _ f at word _ told. task_opened p w r o f at word told;
     counts = counts_kept k r o;
-    slots = λ implicit place within. inl (o.slots place);
+    slots = λ implicit place within. inl (o.words TaskSlots place);
   }
 
   region_slot_kept : (i slot : ℕ) (made : MadeRecords) → OpensMade p w i made
@@ -136,7 +136,7 @@ module _ (p : Program) (w words : List ℕ) (v : IsValid w) (suits : Suits p w)
         life_kept (opening_region p) (made regions slot) RegionLife
         (has_region_slot slot (owes i).region) i slot
         (ap (λ (o : Owed). has_region_slot slot o.region) (none i))
-        (λ creator place. subst (λ j. made regions j (number RegionLife) 0 ≡ 1) (sym place) (o.region creator).life)
+        (λ creator place. subst (λ j. made regions j (number RegionLife) 0 ≡ 1) (sym place) ((o.region creator).words RegionLife 0))
         (λ other. o.no_region slot other (number RegionLife) 0);
     live = λ x is.
         let (creator, place, same) = alone_live (opening_region p) x i slot is in
@@ -150,7 +150,7 @@ module _ (p : Program) (w words : List ℕ) (v : IsValid w) (suits : Suits p w)
   task_slot_kept i slot made o = record {
     life = life_kept (opening_task p) (made tasks slot) TaskLife (has_slot slot (owes i).tasks) i slot
         (ap (λ (o : Owed). has_slot slot o.tasks) (none i))
-        (λ creator place. subst (λ j. made tasks j (number TaskLife) 0 ≡ 1) (sym place) (o.task creator).life)
+        (λ creator place. subst (λ j. made tasks j (number TaskLife) 0 ≡ 1) (sym place) ((o.task creator).words TaskLife 0))
         (λ other. o.no_task slot other (number TaskLife) 0);
     live = λ x is.
         let (creator, place, same) = alone_live (opening_task p) x i slot is in

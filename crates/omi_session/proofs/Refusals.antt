@@ -5,6 +5,7 @@ use Rattle.std.specs.Prelude.{codes}
 use Rattle.omi_layout.specs.declared.fault.LayoutFault.{LayoutFault}
 use Rattle.omi_layout.specs.declared.fault.LayoutFault.TheVariants.{Version, Overlap, OutOfRecord, BadArena}
 use Rattle.omi_layout.specs.declared.reading.LayoutError.TheVariants.{Unmapped}
+use Rattle.omi_layout.specs.declared.limits.TheConstants.{TABLE_WORDS}
 use Rattle.omi_word.specs.Words.{Words}
 use Rattle.omi_word.specs.SymbolTable.{symbol_in}
 use Rattle.omi_layout.specs.Valid.{word_named}
@@ -14,7 +15,7 @@ use Rattle.omi_session.specs.declared.rc.Rc.TheVariants.{Error, CallbackError}
 use Rattle.omi_session.specs.Opening.{Refuses, StopsAt}
 
 -- the word that a fault names is one of the table
-pub named_within : (w : List ℕ) (fault : LayoutFault) → valid.RefusesTable w fault → word_named fault < 56
+pub named_within : (w : List ℕ) (fault : LayoutFault) → valid.RefusesTable w fault → word_named fault < TABLE_WORDS
 named_within w (Version v) r = omega arith
 named_within w (OutOfRecord f) r = omega (arith, r.is.to)
 named_within w (Overlap f g) r = omega (arith, r.second.to)

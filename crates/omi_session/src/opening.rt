@@ -14,7 +14,7 @@ ghost use Rattle.omi_session.specs.Opening.{Refuses, IsRefusal, StopsAt, OpensWi
 
 use crate::rc::Rc;
 use omi_calls::{Callbacks, Place, Sizes, Table, ToHost};
-use omi_layout::{Layout, LayoutFault};
+use omi_layout::{Layout, LayoutFault, TABLE_WORDS};
 
 /// The sizes of the basic types of a target that this library knows.
 const SIZES: Sizes = Sizes {
@@ -40,11 +40,11 @@ fn refusal(address: u64, fault: &LayoutFault) -> Rc
     }
 }
 
-/// Reads the 56 words of a layout table at a byte address, in rising order. The first that fails or isn't mapped ends it.
+/// Reads the words of a layout table at a byte address, in rising order. The first that fails or isn't mapped ends it.
 fn read_table<C: Callbacks, F: ToHost>(
     table: &mut Table<C, F>,
     address: u64,
-) -> Result<[u64; 56], Rc>
+) -> Result<[u64; TABLE_WORDS], Rc>
     ensures words { (memory : Words) → Tells (C.told table.old.calls) memory
         → MatchResult result (λ words. words_from (wrapped memory) address TABLE_WORDS ≡ Some words)
         (StopsAt memory address) }
@@ -54,8 +54,8 @@ fn read_table<C: Callbacks, F: ToHost>(
     ensures cause { HasCause (C.faults table.old.calls) (C.faults table.new.calls)
         (result ≡ Err Rc.CallbackError) }
 {
-    let mut words = [0u64; 56];
-    for at in 0..56usize {
+    let mut words = [0u64; TABLE_WORDS];
+    for at in 0..TABLE_WORDS {
         let addr = address.wrapping_add(8 * at as u64);
         let Ok(found) = table.word(addr) else {
             return Err(Rc::CallbackError);

@@ -1,8 +1,9 @@
 -- What a record in the making is filled with: the word of each store, by its number.
-use Rattle.std.specs.Prelude.{◌≡◌, ℕ, ◌-◌, ◌<◌, nat_lt, List, [], ◌∷◌, slice_index, slice_index_or, if◌then◌else◌}
+use Rattle.std.specs.Prelude.{◌≡◌, ℕ, ◌-◌, ◌<◌, nat_lt, List, [], ◌∷◌, slice_index, slice_index_or, Some, if◌then◌else◌}
 use Rattle.omi_word.specs.declared.op.Op.{Op}
 use Rattle.omi_word.specs.declared.op.Op.TheVariants as op
 use Rattle.omi_model.specs.declared.id.Id.{Id}
+use Rattle.omi_model.specs.declared.task.Variables.{Variables}
 use Rattle.omi_layout.specs.declared.field.Field.{Field}
 use Rattle.omi_layout.specs.declared.field.Field.TheVariants.{RegionFunction, RegionEnclosing, RegionEncountering, RegionSize, RegionLevels, RegionActive, RegionReleased, RegionArrived, RegionPending, RegionLeft, TaskImplicit, TaskRegion, TaskThread, TaskNumber, TaskGenerating, TaskScheduling, TaskFunction, TaskExit, TaskEnter, TaskDynamic, TaskNthreadsLength, TaskSchedule, TaskDevice, TaskFinal, TaskTool, TaskChildren, TaskReferences, TaskNthreads, TaskSlots}
 use Rattle.omi_numbers.specs.Words.{flag}
@@ -11,6 +12,7 @@ use Rattle.omi_layout.specs.Field.{IsField, kind_of}
 use Rattle.omi_layout.specs.Memory.{word_address}
 use Rattle.omi_layout.specs.Named.{number}
 use Rattle.omi_layout.specs.Table.{width}
+use Rattle.omi_rep.specs.Codes.{TaskWords}
 use Rattle.omi_rep.specs.Records.{thread_address, region_address, task_address, task_word}
 use Rattle.omi_step_words.specs.declared.plan.NewRegion.{NewRegion}
 use Rattle.omi_step_words.specs.declared.plan.NewTask.{NewTask}
@@ -88,6 +90,24 @@ task_words w t =
 
 abbrev pub task_plan : List ℕ → NewTask → ℕ → Planned
 task_plan w t word = slice_index_or (task_words w t) word (zero_in TaskSlots 3)
+
+-- what these words tell of the task, where the words of its data environment are those of these variables
+abbrev pub planned_task : NewTask → Variables → TaskWords
+planned_task n v =
+    record {
+      implicit = n.implicit;
+      region = n.region;
+      thread = n.thread;
+      number = n.number;
+      generating = Some n.generating;
+      scheduling = n.scheduling;
+      function = n.function;
+      exit = n.exit;
+      enter = 0;
+      variables = v;
+      is_final = n.is_final;
+      tool = 0;
+    }
 
 -- ---- data environments
 

@@ -13,7 +13,7 @@ use Rattle.omi_outside.specs.declared.files.Refused.{Refused}
 use Rattle.omi_outside.specs.declared.files.Refused.TheVariants as refused
 use Rattle.omi_outside.specs.declared.status.Status.{Status}
 use Rattle.omi_outside.specs.declared.status.Status.TheVariants as status
-use Rattle.omi_layout.specs.Field.{field_text}
+use Rattle.omi_layout.specs.Named.{field_text}
 use Rattle.omi_text.specs.Numbers.{hexadecimal}
 use Rattle.omi_verbs.specs.declared.limits.TheConstants.{LINE_ROOM}
 use Rattle.omi_verbs.specs.declared.refusal.Input.{Input}

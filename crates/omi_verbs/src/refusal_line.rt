@@ -5,7 +5,7 @@ ghost use Rattle.std.specs.Fmt.{digit_glyph, digits_onto};
 ghost use Rattle.std.specs.String.{string_len, string_capacity};
 ghost use Rattle.std.specs.List.{flat_map, sum_by};
 ghost use Rattle.std.specs.Option.{option_map};
-ghost use Rattle.omi_layout.specs.Field.{field_text};
+ghost use Rattle.omi_layout.specs.Named.{field_text};
 ghost use Rattle.omi_verbs.specs.Refusal.{HasRoom, cycle_line, damaged_line, refusal_line};
 
 use crate::limits::LINE_ROOM;

@@ -9,6 +9,7 @@ use Rattle.omi_model.specs.declared.id.Tid.{Tid}
 use Rattle.omi_model.specs.Fresh.{IsFresh}
 use Rattle.omi_model.specs.State.{State}
 use Rattle.omi_model.proofs.Slots.{found_live, none_some}
+use Rattle.omi_layout.specs.declared.limits.TheConstants.{FIELDS}
 use Rattle.omi_layout.specs.declared.field.Field.TheVariants.{TaskLife, TaskSlots}
 use Rattle.omi_layout.specs.Field.{tasks}
 use Rattle.omi_layout.specs.Memory.{Memory, replace_at, with_word, word_address}
@@ -126,7 +127,7 @@ module _ (p : Program) (w : List ℕ) (m : Memory) (events : List (ℕ × Event)
     below : word < TASK_WORDS
     below = (fits p w m events s actors i before D at).1
 
-    planned : IsPlannedWord w tasks 25 45 Word
+    planned : IsPlannedWord w tasks (number TaskLife) (FIELDS + 1) Word
     planned = task_planned w (new_task p (actors i)) word below
 
     making : IsInTheMaking i (s.tasks i) t.0
@@ -158,7 +159,7 @@ module _ (p : Program) (w : List ℕ) (m : Memory) (events : List (ℕ × Event)
     fill_keeps = (
       Y,
       record {
-        there = planned_there w tasks 25 45 i t.0.slot Word (omega arith) (subst (λ j. IsSlot w tasks j t.0.slot) making.maker (placed p w m events s actors i before D at)) planned;
+        there = planned_there w tasks (number TaskLife) (FIELDS + 1) i t.0.slot Word (omega arith) (subst (λ j. IsSlot w tasks j t.0.slot) making.maker (placed p w m events s actors i before D at)) planned;
         address = ap (λ j. word_address w j t.0.slot (number Word.field) Word.at) making.maker;
       },
       go (nat_lt (word + 1) TASK_WORDS) refl,

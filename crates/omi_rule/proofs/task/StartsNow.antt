@@ -176,7 +176,7 @@ module _ (p : Program) (w : List ℕ) (m : Memory) (events : List (ℕ × Event)
       starts_now_keep p w m Z (all_owed actors) i t f final K Maker
       (words_moved p w m events s actors i before C at rest) ready.within ready.names before.valid before.known ready.owes
       (record_is_filled p w (actors i) f final 0 Maker (m i tasks t.0.slot) made_is final_is o.region_is ready.filled (task_few p w m events s actors i before C at) ready.variables)
-      (place_is_filled p w (actors i) f final 0 Maker (m i tasks t.0.slot) made_is final_is o.region_is ready.filled i (own p w m events s actors i before C at).thread o.number o.exit)
+      (place_is_filled p w (actors i) f final 0 Maker (m i tasks t.0.slot) made_is final_is o.region_is ready.filled (task_few p w m events s actors i before C at) ready.variables i (own p w m events s actors i before C at).thread o.number o.exit)
 
   -- ---- the state has grown
 

@@ -1,5 +1,5 @@
 -- The records that were filled for a fork are those of the region and of the members' tasks that it makes.
-use Rattle.std.proofs.Common.{◌≡◌, ◌+◌, ◌^◌, ◌==◌, ◌<◌, ◌≤◌, nat_lt, ℕ, zero, suc, Bool, true, false, List, [], ◌∷◌, length, slice_get, Some, refl, sym, ap, ◌∙◌, arith, eqb-true, if◌then◌else◌}
+use Rattle.std.proofs.Common.{◌≡◌, ◌+◌, ◌^◌, ◌==◌, ◌<◌, ◌≤◌, nat_lt, ℕ, zero, suc, Bool, true, false, List, [], ◌∷◌, length, slice_get, Some, refl, sym, subst, ap, ◌∙◌, arith, eqb-true, if◌then◌else◌}
 use Rattle.std.proofs.lemmas.Option.{slice_get_within}
 use Rattle.omi_script.specs.declared.program.Program.{Program}
 use Rattle.omi_model.specs.declared.id.Rid.{Rid}
@@ -7,26 +7,27 @@ use Rattle.omi_model.specs.declared.id.Tid.{Tid}
 use Rattle.omi_model.specs.declared.region.Region.{Region}
 use Rattle.omi_model.specs.declared.task.Task.{Task}
 use Rattle.omi_numbers.specs.Addresses.{exit_frame, entry_address, exit_below}
-use Rattle.omi_model.specs.Teams.{member_task, new_region, shortened}
-use Rattle.omi_layout.specs.declared.field.Field.TheVariants.{RegionActive, RegionArrived, RegionEnclosing, RegionEncountering, RegionFunction, RegionLevels, RegionReleased, RegionSize, RegionTeam, TaskDevice, TaskDynamic, TaskEnter, TaskExit, TaskFinal, TaskFunction, TaskGenerating, TaskImplicit, TaskNthreads, TaskNthreadsLength, TaskNumber, TaskRegion, TaskSchedule, TaskScheduling, TaskSlots, TaskThread, TaskTool}
+use Rattle.omi_model.specs.Teams.{inherited, member_task, new_region}
+use Rattle.omi_layout.specs.declared.field.Field.TheVariants.{RegionActive, RegionArrived, RegionEnclosing, RegionEncountering, RegionFunction, RegionLevels, RegionReleased, RegionSize, RegionTeam, TaskChildren, TaskReferences, TaskSlots}
 use Rattle.omi_layout.specs.Memory.{Rec}
 use Rattle.omi_layout.specs.Named.{number}
 use Rattle.omi_layout.specs.Table.{width}
 use Rattle.omi_pc.specs.declared.actor.Actor.{Actor}
 use Rattle.omi_pc.specs.declared.limits.TheConstants.{REGION_WORDS, TASK_WORDS}
-use Rattle.omi_rep.specs.Codes.{HasCodes, region_code, region_told, task_code, task_told}
+use Rattle.omi_rep.specs.Codes.{HasCodes, TaskWords, region_code, region_told, task_code, task_told}
 use Rattle.omi_rep.proofs.Codes.{member_of_code, same_word}
 use Rattle.omi_rule_words.proofs.Forks.{no_arrivals}
-use Rattle.omi_rep.specs.Records.{region_address, task_address, thread_address}
+use Rattle.omi_rep.specs.Records.{region_address, task_address}
 use Rattle.omi_rule_words.specs.Threads.{Has}
 use Rattle.omi_rule_words.specs.TeamKinds.{MemberIsFilled, RegionIsFilled}
 use Rattle.omi_step_words.specs.Members.{member_of}
-use Rattle.omi_step_words.specs.Plan.{inherited_words, region_plan, task_plan}
+use Rattle.omi_step_words.specs.Plan.{inherited_words, planned_task, region_plan, task_plan}
 use Rattle.omi_step_words.specs.Words.{plus}
 use Rattle.omi_fork.specs.TeamParts as TeamParts
 use Rattle.omi_fork.specs.TeamParts.{parallel_function, new_member}
 use Rattle.omi_rule.specs.Rows.{IsFilled}
-use Rattle.omi_rule.proofs.team.Inherits.{Inherits, shortened_few}
+use Rattle.omi_rule.proofs.team.Inherits.{AreVariables, shortened_few}
+use Rattle.omi_rule.proofs.task.FilledTasks.{planned_codes, planned_stands}
 
 -- the member at a place
 pub member_is : (xs : List (Tid × ℕ)) (j : ℕ) (y : Tid × ℕ) → slice_get xs j ≡ Some y → member_of xs j ≡ y
@@ -79,53 +80,36 @@ module _ (p : Program) (w : List ℕ) (a : Actor) (n : Rid) (f : ℕ) (t : Task)
 
   pub member_filled : (q : Rec) (j : ℕ) (m : Tid × ℕ) → member_of a.gathered.team j ≡ m
       → (j ≡ 0 → t.exit ≡ exit_frame m.1 a.context.depth)
-      → Inherits (inherited_words a.gathered.variables) t.variables → length t.variables.nthreads ≤ 4
+      → AreVariables (inherited_words a.gathered.variables) (inherited t.variables)
+      → length t.variables.nthreads ≤ 4
       → IsFilled q (task_plan w (new_member p a n j)) TASK_WORDS → MemberIsFilled w q (member_task p n a.context.task t r f j m.1)
-  member_filled q j m at exit inherits few o = record { codes = codes; children = o 15 (omega arith); references = o 16 (omega arith); slots = slots }
+  member_filled q j m at first are few o = record {
+    codes = subst (λ (x : TaskWords). HasCodes (task_code w x) q) same (planned_codes w (new_member p a n j) q o (inherited t.variables) are (shortened_few t.variables.nthreads few));
+    children = planned_stands w (new_member p a n j) q o TaskChildren 0 0 refl;
+    references = planned_stands w (new_member p a n j) q o TaskReferences 0 0 refl;
+    slots = slots;
+  }
     where
-      elements : (k x : ℕ) → slice_get (shortened t.variables.nthreads) k ≡ Some x → Has q TaskNthreads k x
-      elements zero x there = o 17 (omega arith) ∙ inherits.elements 0 x there
-      elements (suc zero) x there = o 18 (omega arith) ∙ inherits.elements 1 x there
-      elements (suc (suc zero)) x there = o 19 (omega arith) ∙ inherits.elements 2 x there
-      elements (suc (suc (suc zero))) x there = o 20 (omega arith) ∙ inherits.elements 3 x there
-      elements (suc (suc (suc (suc k)))) x there =
-          let within : suc (suc (suc (suc k))) < length (shortened t.variables.nthreads) =
-          slice_get_within (shortened t.variables.nthreads) (suc (suc (suc (suc k)))) x there in
-          let most = shortened_few t.variables.nthreads few in
-          absurd (omega (arith, within, most))
-
       slots : (place : ℕ) → place < width w (number TaskSlots) → Has q TaskSlots place 0
-      slots zero within = o 21 (omega arith)
-      slots (suc zero) within = o 22 (omega arith)
-      slots (suc (suc zero)) within = o 23 (omega arith)
-      slots (suc (suc (suc zero))) within = o 24 (omega arith)
+      slots zero within = planned_stands w (new_member p a n j) q o TaskSlots 0 0 refl
+      slots (suc zero) within = planned_stands w (new_member p a n j) q o TaskSlots 1 0 refl
+      slots (suc (suc zero)) within = planned_stands w (new_member p a n j) q o TaskSlots 2 0 refl
+      slots (suc (suc (suc zero))) within = planned_stands w (new_member p a n j) q o TaskSlots 3 0 refl
       slots (suc (suc (suc (suc k)))) within = absurd (omega (arith, within))
 
       go : (b : Bool) → j == 0 ≡ b
           → exit_frame m.1 (if b then a.context.depth + 1 else 1) ≡ (if b then exit_below t.exit else exit_frame m.1 1)
-      go true e = let is = exit (eqb-true j 0 e) in omega (arith, is)
+      go true e = let is = first (eqb-true j 0 e) in omega (arith, is)
       go false e = refl
 
-      codes : HasCodes (task_code w (task_told (member_task p n a.context.task t r f j m.1))) q
-      codes TaskImplicit zero x told = o 0 (omega arith) ∙ same_word _ _ told
-      codes TaskRegion zero x told = o 1 (omega arith) ∙ same_word _ _ told
-      codes TaskThread zero x told =
-          o 2 (omega arith) ∙ ap (λ (y : Tid × ℕ). thread_address w y.1) at ∙ same_word _ _ told
-      codes TaskNumber zero x told = o 3 (omega arith) ∙ same_word _ _ told
-      codes TaskGenerating zero x told = o 4 (omega arith) ∙ same_word _ _ told
-      codes TaskScheduling zero x told = o 5 (omega arith) ∙ same_word _ _ told
-      codes TaskFunction zero x told = o 6 (omega arith) ∙ ap entry_address function ∙ same_word _ _ told
-      codes TaskExit zero x told =
-          o 7 (omega arith)
-          ∙ ap (λ (y : Tid × ℕ). exit_frame y.1 (TeamParts.member_depth a j)) at
-          ∙ go (j == 0) refl
-          ∙ same_word _ _ told
-      codes TaskEnter zero x told = o 8 (omega arith) ∙ same_word _ _ told
-      codes TaskDynamic zero x told = o 9 (omega arith) ∙ inherits.dynamic ∙ same_word _ _ told
-      codes TaskNthreadsLength zero x told = o 10 (omega arith) ∙ inherits.size ∙ same_word _ _ told
-      codes TaskSchedule zero x told = o 11 (omega arith) ∙ inherits.schedule ∙ same_word _ _ told
-      codes TaskDevice zero x told = o 12 (omega arith) ∙ inherits.device ∙ same_word _ _ told
-      codes TaskFinal zero x told = o 13 (omega arith) ∙ same_word _ _ told
-      codes TaskTool zero x told = o 14 (omega arith) ∙ same_word _ _ told
-      codes TaskNthreads k x told = elements k x told
-      codes g k x told = absurd (cc)
+      frame : exit_frame (member_of a.gathered.team j).1 (TeamParts.member_depth a j)
+          ≡ (if j == 0 then exit_below t.exit else exit_frame m.1 1)
+      frame = ap (λ (y : Tid × ℕ). exit_frame y.1 (TeamParts.member_depth a j)) at ∙ go (j == 0) refl
+
+      same : planned_task (new_member p a n j) (inherited t.variables)
+          ≡ task_told (member_task p n a.context.task t r f j m.1)
+      same = λ i. record (planned_task (new_member p a n j) (inherited t.variables)) {
+        thread = (at i).1;
+        function = function i;
+        exit = frame i;
+      }

@@ -5,20 +5,17 @@ use Rattle.std.proofs.lemmas.Option.{slice_get_within}
 use Rattle.omi_model.specs.declared.task.Variables.{Variables}
 use Rattle.omi_numbers.specs.Words.{flag}
 use Rattle.omi_script.specs.Schedules.{schedule_word}
-use Rattle.omi_model.specs.Teams.{shortened}
+use Rattle.omi_model.specs.Teams.{inherited, shortened}
 use Rattle.omi_step_words.specs.Plan.{inherited_words}
 use Rattle.omi_rule.specs.Rows.{IsVariable}
 
--- the words of a list of sizes, from the fourth on
-abbrev AreElements : List ℕ → List ℕ → Type 0
-AreElements words ns = (j n : ℕ) → slice_get ns j ≡ Some n → slice_index words (4 + j) ≡ n
-
-pub record Inherits (words : List ℕ) (v : Variables) : Type 0 where
+-- the words of a data environment are those of these variables. Of the words of nthreads-var behind its elements nothing is said
+pub record AreVariables (words : List ℕ) (v : Variables) : Type 0 where
   pub dynamic : slice_index words 0 ≡ flag v.dynamic
-  pub size : slice_index words 1 ≡ length (shortened v.nthreads)
+  pub size : slice_index words 1 ≡ length v.nthreads
   pub schedule : slice_index words 2 ≡ schedule_word v.schedule
   pub device : slice_index words 3 ≡ v.device
-  pub elements : (j n : ℕ) → slice_get (shortened v.nthreads) j ≡ Some n → slice_index words (4 + j) ≡ n
+  pub elements : (j n : ℕ) → slice_get v.nthreads j ≡ Some n → slice_index words (4 + j) ≡ n
 
 pub shortened_few : (ns : List ℕ) → length ns ≤ 4 → length (shortened ns) ≤ 4
 shortened_few [] few = few
@@ -47,13 +44,22 @@ module _ (v : Variables) (words : List ℕ) (few : length v.nthreads ≤ 4)
   all_there (suc (suc (suc (suc j)))) x there =
       let within : suc (suc (suc (suc j))) < length v.nthreads = slice_get_within v.nthreads (suc (suc (suc (suc j)))) x there in absurd (omega (arith, within, few))
 
-  pub inherits : Inherits (inherited_words words) v
+  pub are_variables : AreVariables words v
+  are_variables = record {
+    dynamic = known 0 (omega arith);
+    size = known 1 (omega arith);
+    schedule = known 2 (omega arith);
+    device = known 3 (omega arith);
+    elements = all_there;
+  }
+
+  pub inherits : AreVariables (inherited_words words) (inherited v)
   inherits = go v.nthreads refl (nat_lt 1 (slice_index words 1)) refl
     where
       size : slice_index words 1 ≡ length v.nthreads
       size = known 1 (omega arith)
 
-      kept : shortened v.nthreads ≡ v.nthreads → Inherits words v
+      kept : shortened v.nthreads ≡ v.nthreads → AreVariables words (inherited v)
       kept same = record {
         dynamic = known 0 (omega arith);
         size = size ∙ ap length (sym same);
@@ -63,8 +69,8 @@ module _ (v : Variables) (words : List ℕ) (few : length v.nthreads ≤ 4)
       }
 
       go : (ns : List ℕ) → v.nthreads ≡ ns → (b : Bool) → nat_lt 1 (slice_index words 1) ≡ b
-          → Inherits
-          (if b then slice_index words 0 ∷ (slice_index words 1 - 1) ∷ slice_index words 2 ∷ slice_index words 3 ∷ slice_index words 5 ∷ slice_index words 6 ∷ slice_index words 7 ∷ 0 ∷ [] else words) v
+          → AreVariables
+          (if b then slice_index words 0 ∷ (slice_index words 1 - 1) ∷ slice_index words 2 ∷ slice_index words 3 ∷ slice_index words 5 ∷ slice_index words 6 ∷ slice_index words 7 ∷ 0 ∷ [] else words) (inherited v)
       go [] is true e =
           let long : length v.nthreads ≡ 0 = ap length is in let more = ltb-true 1 (slice_index words 1) e in absurd (omega (arith, long, size, more))
       go (n ∷ []) is true e =

@@ -1,6 +1,8 @@
 -- The words of a plan are words of the records of its kind, and once stored they stay.
 use Rattle.std.proofs.Common.{◌≡◌, ◌≢◌, ◌==◌, ◌+◌, ◌<◌, ◌&&◌, nat_lt, ℕ, zero, suc, Bool, true, false, List, [], ◌∷◌, length, refl, sym, ◌∙◌, subst, arith, eq-eqb, eqb-true, ltb-true}
 use Rattle.std.specs.Prelude.{slice_index_or}
+use Rattle.omi_layout.specs.declared.field.Field.TheVariants.{TaskLife}
+use Rattle.omi_layout.specs.declared.limits.TheConstants.{FIELDS}
 use Rattle.omi_layout.proofs.Arenas.{test_left, test_right}
 use Rattle.omi_layout.specs.Field.{kind_of, regions, tasks}
 use Rattle.omi_layout.specs.Memory.{IsRecordWord, Rec}
@@ -58,10 +60,10 @@ pub region_planned : (w : List ℕ) (n : NewRegion) (k : ℕ) → k < REGION_WOR
 region_planned w n k within = each_planned w regions 13 24 (region_words w n) _ k refl within
 
 pub task_planned : (w : List ℕ) (t : NewTask) (k : ℕ) → k < TASK_WORDS
-    → IsPlannedWord w tasks 25 45 (task_plan w t k)
-task_planned w t k within = each_planned w tasks 25 45 (task_words w t) _ k refl within
+    → IsPlannedWord w tasks (number TaskLife) (FIELDS + 1) (task_plan w t k)
+task_planned w t k within = each_planned w tasks (number TaskLife) (FIELDS + 1) (task_words w t) _ k refl within
 
-pub planned_there : (w : List ℕ) (kind life last creator slot : ℕ) (x : Planned) → last < 46
+pub planned_there : (w : List ℕ) (kind life last creator slot : ℕ) (x : Planned) → last < FIELDS + 2
     → IsSlot w kind creator slot → IsPlannedWord w kind life last x
     → IsRecordWord w creator slot (number x.field) x.at
 planned_there w kind life last creator slot x few there o = record {

@@ -9,6 +9,7 @@ use Rattle.omi_step_words.specs.Moving.{to_team}
 use Rattle.omi_step_words.specs.declared.plan.Planned.{Planned}
 use Rattle.omi_rule_words.proofs.Moves.{moves_keep}
 use Rattle.omi_rule_words.proofs.Fills.{region_fills_keep, task_fills_keep}
+use Rattle.omi_layout.specs.declared.limits.TheConstants.{FIELDS}
 use Rattle.omi_layout.proofs.Arenas.{some_tasks}
 use Rattle.std.proofs.lemmas.Bool.Decides.{nat_tests}
 use Rattle.omi_word.specs.declared.op.Op.TheVariants as op
@@ -176,7 +177,7 @@ module _ (p : Program) (w : List ℕ) (m : Memory) (events : List (ℕ × Event)
     below : word < TASK_WORDS
     below = (fits p w m events s actors i before D at).1
 
-    planned : IsPlannedWord w tasks 25 45 Word
+    planned : IsPlannedWord w tasks (number TaskLife) (FIELDS + 1) Word
     planned = task_planned w (new_member p (actors i) r member) word below
 
     made : KeepsMaking s i (record nothing { region = Some r; tasks = take (member + 1) (tasks_of (actors i).gathered.team) })
@@ -230,7 +231,7 @@ module _ (p : Program) (w : List ℕ) (m : Memory) (events : List (ℕ × Event)
     task_fill_keeps = (
       Y,
       record {
-        there = planned_there w tasks 25 45 i t.0.slot Word (omega arith) (subst (λ j. IsSlot w tasks j t.0.slot) making.maker (placed p w m events s actors i before D at).1) planned;
+        there = planned_there w tasks (number TaskLife) (FIELDS + 1) i t.0.slot Word (omega arith) (subst (λ j. IsSlot w tasks j t.0.slot) making.maker (placed p w m events s actors i before D at).1) planned;
         address = ap (λ j. word_address w j t.0.slot (number Word.field) Word.at) making.maker;
       },
       go (nat_lt (word + 1) TASK_WORDS) refl,

@@ -2,6 +2,7 @@ use Rattle.std.proofs.Common.{◌≡◌, ℕ, ◌+◌, ◌<◌, List, length, Op
 use Rattle.std.specs.Prelude.{slice_index, slice_set, IsSome}
 use Rattle.std.proofs.lemmas.Grind.{common_steps}
 use Rattle.omi_word.specs.Words.{Words}
+use Rattle.omi_layout.specs.declared.limits.TheConstants.{TABLE_WORDS}
 use Rattle.omi_layout.specs.NoLayout.{table_address}
 use Rattle.omi_layout.proofs.ReadTables.{table_read}
 use Rattle.omi_session.proofs.Told.{as_told, keeps_then}
@@ -12,7 +13,7 @@ some_is (Some y) x e = search rules
 some_is None x e = absurd (cc)
 
 -- a word more was read
-next_read : (memory : Words) (address at word : ℕ) (table : List ℕ) → length table ≡ 56 → at < 56
+next_read : (memory : Words) (address at word : ℕ) (table : List ℕ) → length table ≡ TABLE_WORDS → at < TABLE_WORDS
     → ((j : ℕ) → j < at → memory (table_address address j) ≡ Some (slice_index table j)) → Some word ≡ memory (table_address address at)
     → (j : ℕ) → j < at + 1 → memory (table_address address j) ≡ Some (slice_index (slice_set table at word) j)
 next_read memory address at word table long within before is =

@@ -1,6 +1,6 @@
 use Rattle.std.proofs.Common.{◌≡◌, ◌++◌, ◌∷◌, [], ℕ, List, false, string_bytes, codes, ap, ◌∙◌, append_assoc, arith}
 use Rattle.std.specs.Fmt.{digits_onto}
-use Rattle.omi_layout.specs.Field.{field_text}
+use Rattle.omi_layout.specs.Named.{field_text}
 use Rattle.omi_verbs.proofs.Digits.{hexadecimal_is}
 use Rattle.omi_verbs.proofs.refusal_line.push_damaged.Goals as goal
 

@@ -1,6 +1,7 @@
 use Rattle.std.proofs.Common.{◌≡◌, ℕ, ◌+◌, ◌<◌, List, length, sym, ap, subst, ◌∙◌, arith}
 use Rattle.std.specs.Prelude.{slice_index}
 use Rattle.std.proofs.lemmas.List.{length-replicate}
+use Rattle.omi_layout.specs.declared.limits.TheConstants.{FRONT_WORDS}
 use Rattle.omi_layout.specs.Memory.{Rec, memory_of}
 use Rattle.omi_layout.specs.OpeningWords.{OpensRuntime, OpensThread, OpensRegion, OpensTask}
 use Rattle.omi_layout.specs.Place.{image_words}
@@ -52,7 +53,7 @@ returns c =
     ∙ c.publish.ensures.published.count
     ∙ ap (λ (xs : List ℕ). length xs) c.requires.zeros
     ∙ length-replicate (image_words w) 0 in
-    let front : (i : ℕ) → i < 99 → slice_index c.open_task.new.image i ≡ slice_index c.publish.new.image i =
+    let front : (i : ℕ) → i < FRONT_WORDS → slice_index c.open_task.new.image i ≡ slice_index c.publish.new.image i =
     λ i h. task.front i h ∙ region.front i h ∙ threads.front i h ∙ runtime.front i h in
     record {
       count = count;

@@ -1,21 +1,34 @@
-use Rattle.std.proofs.Common.{cond, ap, sym, ◌∙◌}
+use Rattle.std.proofs.Common.{◌≡◌, ℕ, zero, suc, cond, refl, ap, sym, ◌∙◌}
 use Rattle.omi_numbers.specs.declared.states.TheConstants.{WORK_SERIAL, IDLE}
-use Rattle.omi_layout.specs.Memory.{Rec}
+use Rattle.omi_layout.specs.declared.field.Field.{Field}
+use Rattle.omi_layout.specs.declared.field.Field.TheVariants.{ThreadLife, ThreadNative, ThreadCurrent, ThreadState}
+use Rattle.omi_layout.specs.Field.{tasks, threads}
+use Rattle.omi_layout.specs.Memory.{Rec, memory_of}
+use Rattle.omi_layout.specs.Named.{number}
+use Rattle.omi_layout.specs.OpeningWords.{thread_opening}
 use Rattle.omi_layout.specs.Place.{slot_address}
-use Rattle.omi_layout.proofs.Filling.{not_first}
+use Rattle.omi_layout.proofs.Filling.{later_zero, not_first}
 use Rattle.omi_layout.proofs.layout.Layout.open_worker.Goals as goal
 
 pub returns-clause-opens : goal.returns-clause-opens
-returns-clause-opens c =
-    let here = c.fill.ensures.here in
-    let w = c.args.self.now.table in
-    let i = c.args.i in
-    let worker = not_first i c.requires.worker in
-    record {
-      life = ap (λ (r : Rec). r 7 0) here ∙ c.requires.zero 7 0 ∙ sym (ap (λ b. cond b 1 0) worker);
-      native = ap (λ (r : Rec). r 8 0) here ∙ c.native_id.ensures;
-      current = ap (λ (r : Rec). r 9 0) here ∙ c.requires.zero 9 0 ∙ sym (ap (λ b. cond b (slot_address w 4 0 0) 0) worker);
-      state = ap (λ (r : Rec). r 10 0) here ∙ c.from.ensures ∙ sym (ap (λ b. cond b WORK_SERIAL IDLE) worker);
-      claim = ap (λ (r : Rec). r 11 0) here ∙ c.requires.zero 11 0;
-      assign = ap (λ (r : Rec). r 12 0) here ∙ c.requires.zero 12 0;
-    }
+returns-clause-opens c = record { words = words }
+  where
+    words : (f : Field) (at : ℕ)
+        → memory_of c.args.self.now.table c.fill.new.image c.args.i threads 0 (number f) at
+        ≡ thread_opening c.args.self.now.table c.args.i f at
+    words ThreadLife zero =
+        ap (λ (r : Rec). r 7 0) c.fill.ensures.here
+        ∙ c.requires.zero 7 0
+        ∙ sym (ap (λ b. cond b 1 0) (not_first c.args.i c.requires.worker))
+    words ThreadNative zero = ap (λ (r : Rec). r 8 0) c.fill.ensures.here ∙ c.native_id.ensures
+    words ThreadCurrent zero =
+        ap (λ (r : Rec). r 9 0) c.fill.ensures.here
+        ∙ c.requires.zero 9 0
+        ∙ sym (ap (λ b. cond b (slot_address c.args.self.now.table tasks 0 0) 0) (not_first c.args.i c.requires.worker))
+    words ThreadState zero =
+        ap (λ (r : Rec). r 10 0) c.fill.ensures.here
+        ∙ c.from.ensures
+        ∙ sym (ap (λ b. cond b WORK_SERIAL IDLE) (not_first c.args.i c.requires.worker))
+    words f zero = ap (λ (r : Rec). r (number f) 0) c.fill.ensures.here ∙ c.requires.zero (number f) 0
+    words ThreadLife (suc at) = later_zero c.fill.ensures c.requires.zero (number ThreadLife) at refl
+    words f (suc at) = later_zero c.fill.ensures c.requires.zero (number f) at refl
