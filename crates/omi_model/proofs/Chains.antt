@@ -30,7 +30,7 @@ use Rattle.omi_model.specs.Tasking.{MayFinish, MayStart, deferred, deferred_task
 use Rattle.omi_model.specs.Teams.{MayFork, MayJoin, forked, joined, member_task, task_ended}
 use Rattle.omi_model.proofs.EachObject.{EachTask, IsTaskLaw, is_end, members_found, task_step}
 use Rattle.omi_model.proofs.Slots.{each_put, false_true, found_live, made_same, none_some, on_same, put_same, some_same}
-use Rattle.omi_model.proofs.StaysKept.{fresh_empty, new_team, stays_step}
+use Rattle.omi_model.proofs.StaysKept.{fresh_empty, needed_begun, new_team, stays_step}
 use Rattle.omi_model.proofs.Steps.{IsRelisted, of_current, of_current_region, of_region, of_set}
 
 -- ---- which tasks finish
@@ -84,10 +84,8 @@ GoesOn s i e u =
 pub goes_on : (p : Program) (s : State) (i : ℕ) (e : Event) (next : State) → Step p s i e next
     → GoesOn s i e next
 goes_on p s i e next step k t v live begun found other =
-    let (w, found_w, same) = (stays_step p s i e next step).tasks k t live in
-    let one : w ≡ v = some_same found_w found in
     let stage : stage_of t.progress ≤ stage_of v.progress =
-    subst (λ (x : Task). stage_of t.progress ≤ stage_of x.progress) one same.stage in
+    ((stays_step p s i e next step).alike k t v live found).stage in
     by_stage v.progress (subst (λ q. stage_of q ≤ stage_of v.progress) begun stage)
     (λ f. go (finished_step p s i e next step k v found f))
   where
@@ -111,7 +109,7 @@ pub chain_later : (s u : State) → Stays s u → (gone : Tid → Type 0)
     → (j : ℕ) (top : Option Tid) (ks : List Tid) → IsChain s j top ks → ((k : Tid) (t : Task) → task_of s k ≡ Some t → t.thread ≡ j → (IsApart k ks → ⊥) → gone k → ⊥) → IsChain u j top ks
 chain_later s u stay gone keeps j top [] chain free = chain
 chain_later s u stay gone keeps j top (k ∷ ks) (t, is, apart, live, mine, begun, rest) free =
-    let (v, found, same) = stay.tasks k t live in
+    let (v, found, same) = stay.tasks k t live (needed_begun s k t begun) in
     let un : t.progress ≡ Deferred → ⊥ = λ d. not_deferred (sym begun ∙ d) in
     let goes = keeps k t v live begun found (free k t live mine (λ h. h.0 refl)) in (
       v,

@@ -8,6 +8,9 @@ pub mod StaysKept
 pub mod EachObject
 pub mod EachThread
 pub mod OpeningObjects
+pub mod ReachedStates
+pub mod ScheduledFrom
+pub mod NeededTasks
 pub mod NamesLive
 pub mod MembersKnown
 pub mod LevelsCount

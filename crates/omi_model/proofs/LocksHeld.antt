@@ -11,7 +11,7 @@ use Rattle.omi_model.specs.declared.event.Event.TheVariants as event
 use Rattle.omi_model.specs.declared.id.Tid.{Tid}
 use Rattle.omi_model.specs.declared.item.Item.{Item}
 use Rattle.omi_model.specs.declared.item.Item.TheVariants as item
-use Rattle.omi_model.specs.declared.progress.Progress.TheVariants.{Begun, Deferred}
+use Rattle.omi_model.specs.declared.progress.Progress.TheVariants.{Begun, Deferred, Finished}
 use Rattle.omi_model.specs.declared.task.Task.{Task}
 use Rattle.omi_model.specs.declared.thread.Thread.{Thread}
 use Rattle.omi_model.specs.Barriers.{arrived, released}
@@ -35,11 +35,13 @@ use Rattle.omi_model.proofs.EachObject.{EachTask, IsTaskLaw, list_of_current, st
 use Rattle.omi_model.proofs.EachThread.{EachThread, of_lists, thread_step}
 use Rattle.omi_model.proofs.ListLaws.{take_fits, take_keeps}
 use Rattle.omi_model.proofs.LockLists.{Gives, is_lock_event, main_back, member_back, start_back, stays_back, take_back, task_back}
+use Rattle.omi_model.proofs.members.ClosingItems.{lists_right}
 use Rattle.omi_model.proofs.NamesLive.{names_live}
+use Rattle.omi_model.proofs.NeededTasks.{needed_current}
 use Rattle.omi_model.proofs.OpeningObjects.{each_first_task, each_first_thread}
-use Rattle.omi_model.proofs.SchedulingChains.{over_reached}
+use Rattle.omi_model.proofs.ReachedStates.{over_reached}
 use Rattle.omi_model.proofs.Slots.{false_true, found_live, none_some, put_other, put_same, some_same}
-use Rattle.omi_model.proofs.StaysKept.{fresh_empty, stays_list, stays_step}
+use Rattle.omi_model.proofs.StaysKept.{fresh_empty, list_keeps, stays_step}
 use Rattle.omi_model.proofs.Steps.{IsMove, IsRelisted, from_some, is_relisted, list_moves, move_of, moved_on, of_current, of_current_region, of_region, of_set, relisted}
 
 -- ---- the lists of threads without a task have no lock
@@ -181,7 +183,7 @@ module _ (k : ℕ) (p : Program) (events : List (ℕ × Event)) (s : State) (rea
       new_name n fresh is =
           let (t, found, un) = live n is in
           let (v, found_v, same) =
-          (stays_list s i (stays (encounter s i) e m.item m.behind)).tasks n t found in
+          list_keeps s i (stays (encounter s i) e m.item m.behind) n t found in
           none_some (fresh_empty middle.tasks i n.0 fresh)
           (found_live n.0.generation (middle.tasks n.0.creator n.0.slot) v found_v)
 
@@ -214,11 +216,17 @@ module _ (k : ℕ) (p : Program) (events : List (ℕ × Event)) (s : State) (rea
 
   -- the same holder, where the lock is as it was
   thread_next : (holder : Option Tid) → next.locks k ≡ s.locks k → IsThreadOf s k holder
-      → IsThreadOf next k holder
-  thread_next None same h = same ∙ h
-  thread_next (Some n) same (t, found, lock, un) =
-      let (v, found_v, kept) = stay.tasks n t found in
+      → EachTask (Owns k holder) s → IsThreadOf next k holder
+  thread_next None same h all = same ∙ h
+  thread_next (Some n) same (t, found, lock, un) all =
+      let (v, found_v, kept) = stay.tasks n t found (inr (inl (not_over (all n t found)))) in
       (v, found_v, same ∙ (lock ∙ ap (λ j. Some j) (sym (kept.thread un))), kept.started un)
+    where
+      -- a task that gives a lock back has something ahead
+      not_over : Owns k (Some n) n t → t.progress ≡ Finished → ⊥
+      not_over (inr (apart, gives)) over = apart refl
+      not_over (inl (is, gives)) over =
+          false_true (subst (Gives k 1) ((lists_right p events s reached n t found).finished over) gives)
 
   holder_live : (holder : Option Tid) → IsThreadOf s k holder → (n : Tid) → holder ≡ Some n → IsLiveTask s n
   holder_live None h n is = absurd (none_some refl is)
@@ -241,7 +249,7 @@ module _ (k : ℕ) (p : Program) (events : List (ℕ × Event)) (s : State) (rea
       → ((w : ℕ) → Gives k w (m.item ∷ m.behind) → Gives k w (stays (encounter s i) e m.item m.behind))
       → IsThreadOf s k holder → EachTask (Owns k holder) s → Next
   same_holder holder same keeps thread all =
-      (holder, thread_next holder same thread, tasks_next holder holder (λ n t is taken own. kept_own holder keeps n t taken own) (λ n t ne found own. own) (holder_live holder thread) all)
+      (holder, thread_next holder same thread all, tasks_next holder holder (λ n t is taken own. kept_own holder keeps n t taken own) (λ n t ne found own. own) (holder_live holder thread) all)
 
   -- ---- a lock is taken or given back
 
@@ -321,7 +329,7 @@ module _ (k : ℕ) (p : Program) (events : List (ℕ × Event)) (s : State) (rea
           (λ w h. subst (λ b. gives_back k (stays (encounter s i) e m.item m.behind) (if b then suc w else w) ≡ true) (ne_eqb l k ne) (gone_lock l w of h)) thread all
       go (inl same) =
           let (n, t, current) = by_task (λ h. subst (λ (y : Item). NoLocks (y ∷ m.behind)) of h) in
-          let (v, found_v, kept) = stay.tasks n t current.live in
+          let (v, found_v, kept) = stay.tasks n t current.live (needed_current p events s reached i n t current.name current.live) in
           let runs = current_begun p events s reached i n t current.name current.live in
           let un : t.progress ≡ Deferred → ⊥ = λ d. not_begun (sym runs.0 ∙ d) in
           let held : next.locks k ≡ Some i = ap (λ (f : ℕ → Option ℕ). f k) after_locks ∙ (ap (put s.locks l (Some i)) (sym same) ∙ put_same s.locks l (Some i)) in (

@@ -1,5 +1,5 @@
 -- The members of regions, by their numbers.
-use Rattle.std.proofs.Common.{◌≡◌, ◌==◌, ◌+◌, ℕ, true, false, List, length, slice_get, slice_index, Option, Some, None, if◌then◌else◌, refl, sym, ap, ◌∙◌, subst, arith}
+use Rattle.std.proofs.Common.{◌≡◌, ◌==◌, ◌≤◌, ◌+◌, ℕ, true, false, List, [], ◌∷◌, length, slice_get, slice_index, Option, Some, None, if◌then◌else◌, refl, sym, ap, ◌∙◌, subst, arith}
 use Rattle.std.proofs.lemmas.List.{length-map, length-replicate, length-set}
 use Rattle.omi_script.specs.declared.program.Program.{Program}
 use Rattle.omi_model.specs.declared.event.Event.{Event}
@@ -18,6 +18,11 @@ use Rattle.omi_model.proofs.OpeningObjects.{each_first_region, each_first_task}
 use Rattle.omi_model.proofs.Slots.{false_true, some_same}
 use Rattle.omi_model.proofs.StaysKept.{stays_step}
 use Rattle.omi_model.proofs.Steps.{IsRelisted}
+
+-- the first of a team
+pub first_at : {A : Type 0} (xs : List A) → 1 ≤ length xs → (x : A) × (slice_get xs 0 ≡ Some x)
+first_at [] some = absurd (omega (arith, some))
+first_at (x ∷ xs) some = (x, refl)
 
 begun_waits : Begun ≡ NotBegun → ⊥
 begun_waits e = cc

@@ -1,5 +1,5 @@
 -- Each name that an object or a thread holds stays the name of a live object.
-use Rattle.std.proofs.Common.{◌≡◌, ◌==◌, ℕ, zero, suc, Bool, true, false, List, [], ◌∷◌, slice_get, Some, None, if◌then◌else◌, refl, sym, ap, ◌∙◌, subst}
+use Rattle.std.proofs.Common.{◌≡◌, ◌==◌, inl, ℕ, zero, suc, Bool, true, false, List, [], ◌∷◌, slice_get, Some, None, if◌then◌else◌, refl, sym, ap, ◌∙◌, subst}
 use Rattle.omi_script.specs.declared.program.Program.{Program}
 use Rattle.omi_model.specs.declared.event.Event.{Event}
 use Rattle.omi_model.specs.declared.id.Id.{Id}
@@ -12,37 +12,33 @@ use Rattle.omi_model.specs.declared.task.Task.{Task}
 use Rattle.omi_model.specs.declared.thread.Thread.{Thread}
 use Rattle.omi_model.specs.Changes.{IsCurrent}
 use Rattle.omi_model.specs.LawNames.{AreNamesLive, IsLiveRegion, IsLiveTask, IsMemberTask, NamesOfRegion, NamesOfTask}
-use Rattle.omi_model.specs.LawStays.{Stays}
+use Rattle.omi_model.specs.LawStays.{IsNeeded, Stays}
 use Rattle.omi_model.specs.Opening.{initial_task, opening, opening_region, opening_task}
 use Rattle.omi_model.specs.Reached.{Reached, Step}
-use Rattle.omi_model.specs.State.{State}
+use Rattle.omi_model.specs.State.{State, region_of, task_of}
 use Rattle.omi_model.specs.Teams.{master_of}
-use Rattle.omi_model.proofs.EachObject.{EachRegion, EachTask, IsRegionLaw, IsTaskLaw, over_events, region_step, task_step}
+use Rattle.omi_model.proofs.EachObject.{EachRegion, EachTask, IsRegionLaw, IsTaskLaw, region_step, task_step}
 use Rattle.omi_model.proofs.EachThread.{EachThread, IsThreadLaw, thread_step}
+use Rattle.omi_model.proofs.NeededTasks.{needed_current, needed_encountering, needed_scheduling}
 use Rattle.omi_model.proofs.OpeningObjects.{each_first_thread, first_alone_named}
+use Rattle.omi_model.proofs.ReachedStates.{over_reached}
 use Rattle.omi_model.proofs.Slots.{none_some, some_same}
 use Rattle.omi_model.proofs.Steps.{IsRelisted}
-use Rattle.omi_model.proofs.StaysKept.{stays_step}
+use Rattle.omi_model.proofs.StaysKept.{needed_generating, needed_waiting, stays_step}
 
 -- ---- later states
 
-pub live_task : (s u : State) → Stays s u → (k : Tid) → IsLiveTask s k → IsLiveTask u k
-live_task s u stay k (t, e, un) = let (v, f, same) = stay.tasks k t e in (v, f, same.started un)
+live_task : (s u : State) → Stays s u → (k : Tid) → IsLiveTask s k
+    → ((t : Task) → task_of s k ≡ Some t → IsNeeded s k t) → IsLiveTask u k
+live_task s u stay k (t, e, un) need = let (v, f, same) = stay.tasks k t e (need t e) in (v, f, same.started un)
 
 pub live_region : (s u : State) → Stays s u → (n : Rid) → IsLiveRegion s n → IsLiveRegion u n
 live_region s u stay n (r, e) = let (q, f, same) = stay.regions n r e in (q, f)
 
-names_of_task : (s u : State) → Stays s u → (t : Task) → NamesOfTask s t → NamesOfTask u t
-names_of_task s u stay t is = record {
-  region = live_region s u stay t.region is.region;
-  generating = λ k e. live_task s u stay k (is.generating k e);
-  scheduling = λ k e. live_task s u stay k (is.scheduling k e);
-}
-
 pub member_stays : (s u : State) → Stays s u → (n : Rid) (j : ℕ) (m : Tid × ℕ) → IsMemberTask s n j m
     → IsMemberTask u n j m
 member_stays s u stay n j m is =
-    let (v, found, same) = stay.tasks m.0 is.task is.live in
+    let (v, found, same) = stay.tasks m.0 is.task is.live (inl is.implicit) in
     record {
       task = v;
       live = found;
@@ -52,14 +48,6 @@ member_stays s u stay n j m is =
       number = same.number is.undeferred ∙ is.number;
       thread = same.thread is.undeferred ∙ is.thread;
     }
-
-names_of_region : (s u : State) → Stays s u → (n : Rid) (r : Region) → NamesOfRegion s n r
-    → NamesOfRegion u n r
-names_of_region s u stay n r is = record {
-  enclosing = λ o e. live_region s u stay o (is.enclosing o e);
-  encountering = λ k e. live_task s u stay k (is.encountering k e);
-  team = λ j m e. member_stays s u stay n j m (is.team j m e);
-}
 
 not_waiting : (t : Task) → t.progress ≡ NotBegun → t.progress ≡ Deferred → ⊥
 not_waiting t e f = cc
@@ -80,10 +68,38 @@ first_name : (s : State) (team : List (Tid × ℕ)) (k : Tid)
 first_name s [] k all e = absurd (none_some refl e)
 first_name s (m ∷ ms) k all e = subst (IsLiveTask s) (some_same refl e) (all 0 m refl)
 
-module _ (p : Program) (s : State) (i : ℕ) (e : Event) (next : State) (step : Step p s i e next)
-    (names : AreNamesLive s) where
+module _ (p : Program) (events : List (ℕ × Event)) (s : State) (reached : Reached p events s) (i : ℕ)
+    (e : Event) (next : State) (step : Step p s i e next) (names : AreNamesLive s) where
   stay : Stays s next
   stay = stays_step p s i e next step
+
+  -- what a thread, a task and a region name
+  current_stays : (j : ℕ) (k : Tid) → (s.threads j).current ≡ Some k → IsLiveTask next k
+  current_stays j k name =
+      live_task s next stay k (names.currents j k name)
+      (λ t live. needed_current p events s reached j k t name live)
+
+  scheduling_stays : (k : Tid) (t : Task) → task_of s k ≡ Some t → (n : Tid) → t.scheduling ≡ Some n
+      → IsLiveTask next n
+  scheduling_stays k t live n is =
+      live_task s next stay n ((names.tasks k t live).scheduling n is)
+      (λ v found. needed_scheduling p events s reached k t live n v is found)
+
+  names_of_task : (k : Tid) (t : Task) → task_of s k ≡ Some t → NamesOfTask next t
+  names_of_task k t live = record {
+    region = live_region s next stay t.region (names.tasks k t live).region;
+    generating = λ n is. live_task s next stay n ((names.tasks k t live).generating n is) (λ v found. needed_generating s k t live n v is);
+    scheduling = scheduling_stays k t live;
+  }
+
+  names_of_region : (n : Rid) (r : Region) → region_of s n ≡ Some r → NamesOfRegion next n r
+  names_of_region n r live =
+      let of = names.regions n r live in
+      record {
+        enclosing = λ o is. live_region s next stay o (of.enclosing o is);
+        encountering = λ k is. live_task s next stay k (of.encountering k is) (λ t found. needed_encountering p events s reached n r live of k t is);
+        team = λ j m at. member_stays s next stay n j m (of.team j m at);
+      }
 
   task_law : (middle : State) (y : Item) → IsRelisted s middle → Stays middle next
       → EachTask (λ k t. NamesOfTask next t) middle
@@ -113,7 +129,7 @@ module _ (p : Program) (s : State) (i : ℕ) (e : Event) (next : State) (step : 
   }
     where
       current : (k : Tid) (t : Task) → IsCurrent middle i k t → IsLiveTask next k
-      current k t is = live_task s next stay k (names.currents i k (sym (before.currents i) ∙ is.name))
+      current k t is = current_stays i k (sym (before.currents i) ∙ is.name)
 
   region_law : (middle : State) → IsRelisted s middle → Stays middle next
       → IsRegionLaw p middle i next (λ n r. NamesOfRegion next n r)
@@ -124,7 +140,7 @@ module _ (p : Program) (s : State) (i : ℕ) (e : Event) (next : State) (step : 
     joins = λ k t r is found may q. record { enclosing = q.enclosing; encountering = q.encountering; team = q.team };
     forks = λ region team f k t r is found may new. record {
       enclosing = λ o g. subst (IsLiveRegion next) (some_same refl g) (live_region middle next later t.region (r, found));
-      encountering = λ n g. subst (IsLiveTask next) (some_same refl g) (live_task s next stay k (names.currents i k (sym (before.currents i) ∙ is.name)));
+      encountering = λ n g. subst (IsLiveTask next) (some_same refl g) (current_stays i k (sym (before.currents i) ∙ is.name));
       team = λ j m at. record { task = _; live = new j m at; implicit = refl; undeferred = not_deferred (j == 0); region = refl; number = refl; thread = refl };
     };
   }
@@ -136,12 +152,12 @@ module _ (p : Program) (s : State) (i : ℕ) (e : Event) (next : State) (step : 
   next_tasks =
       task_step p (λ k t. NamesOfTask next t) s i e next step
       (λ k t y ys is taken q. record { region = q.region; generating = q.generating; scheduling = q.scheduling }) task_law
-      (λ k t live. names_of_task s next stay t (names.tasks k t live))
+      names_of_task
 
   next_regions : EachRegion (λ n r. NamesOfRegion next n r) next
   next_regions =
       region_step p (λ n r. NamesOfRegion next n r) s i e next step region_law
-      (λ n r live. names_of_region s next stay n r (names.regions n r live))
+      names_of_region
 
   thread_law : (middle : State) → IsRelisted s middle → Stays middle next → EachThread Current middle
       → IsThreadLaw p middle i e next Current
@@ -153,7 +169,7 @@ module _ (p : Program) (s : State) (i : ℕ) (e : Event) (next : State) (step : 
     claims = λ w may of q. q;
     shows = λ state wait of q. q;
     forks = λ region team f k t r is found may new q n g. first_name next team n (λ j m at. (_, new j m at, not_deferred (j == 0))) g;
-    joins_team = λ task may of q n g. subst (IsLiveTask next) (some_same refl g) (live_task middle next later task (may.member, may.live, λ d. not_waiting may.member may.waiting d));
+    joins_team = λ task may of q n g. subst (IsLiveTask next) (some_same refl g) (live_task middle next later task (may.member, may.live, λ d. not_waiting may.member may.waiting d) (λ t live. needed_waiting middle task t (ap (λ (x : Task). x.progress) (some_same live may.live) ∙ may.waiting)));
     ends = λ k t r is found im other over q n g. absurd (none_some refl g);
     joins = λ k t r is found may of q n g.
         let (v, live, same) = later.regions t.region r found in
@@ -167,13 +183,12 @@ module _ (p : Program) (s : State) (i : ℕ) (e : Event) (next : State) (step : 
           → IsLiveTask next n
       from_scheduling k t is n g =
           let (v, xs, live, same) = before.tasks k t is.live in
-          live_task s next stay n
-          ((names.tasks k v live).scheduling n (ap (λ (x : Task). x.scheduling) (sym same) ∙ g))
+          scheduling_stays k v live n (ap (λ (x : Task). x.scheduling) (sym same) ∙ g)
 
   next_currents : EachThread Current next
   next_currents =
       thread_step p Current s i e next step (λ y ys none taken q. q) thread_law
-      (λ j k f. live_task s next stay k (names.currents j k f))
+      current_stays
 
   pub names_step : AreNamesLive next
   names_step = record { currents = next_currents; tasks = next_tasks; regions = next_regions }
@@ -206,5 +221,6 @@ names_opening p = record {
 
 pub names_live : (p : Program) (events : List (ℕ × Event)) (s : State) → Reached p events s → AreNamesLive s
 names_live p events s reached =
-    over_events p AreNamesLive (λ u i e next step h. names_step p u i e next step h)
-    (opening p) events s reached (names_opening p)
+    over_reached p AreNamesLive
+    (λ first u first_reached i e next step h. names_step p first u first_reached i e next step h) []
+    (opening p) refl events s reached (names_opening p)

@@ -31,7 +31,7 @@ use Rattle.omi_model.proofs.LastItems.{Closes, main_closes, member_closes, start
 use Rattle.omi_model.proofs.ListLaws.{take_fits}
 use Rattle.omi_model.proofs.NamesLive.{names_live}
 use Rattle.omi_model.proofs.OpeningObjects.{each_first_task}
-use Rattle.omi_model.proofs.SchedulingChains.{over_reached}
+use Rattle.omi_model.proofs.ReachedStates.{over_reached}
 use Rattle.omi_model.proofs.Slots.{false_true, found_live, same_or_not, some_same}
 use Rattle.omi_model.proofs.StaysKept.{stays_leads, stays_step}
 use Rattle.omi_model.proofs.Steps.{IsMove, IsRelisted, is_relisted, move_of, moved_on}
@@ -358,7 +358,7 @@ regions_end p events more s u reached i e k t last legal is leads n v live ex re
     subst (λ ph. Stands ph t.number (slice_index r.arrivals t.number) r.released) outside member.stands in
     let sum = member.barriers in
     let on = stays_leads p s more u leads in
-    let (t', live', same) = on.tasks k t is.live in
+    let (t', live', same) = on.implicit k t is.live im in
     let (r', found', same_region) = on.regions t.region r found in
     let reached_u : Reached p (events ++ more) u = leads_append p (opening p) events s more u reached leads in
     let (q, found_q, member') =

@@ -15,7 +15,7 @@ use Rattle.omi_model.specs.declared.task.Task.{Task}
 use Rattle.omi_model.specs.Barriers.{AreFinished}
 use Rattle.omi_model.specs.Changes.{IsCurrent}
 use Rattle.omi_model.specs.LawBarriers.{IsReleaseAmong}
-use Rattle.omi_model.specs.LawStays.{Stays}
+use Rattle.omi_model.specs.LawStays.{StaysOver}
 use Rattle.omi_model.specs.Reached.{Leads, Reached, Step}
 use Rattle.omi_model.specs.Rules.{Legal, Rule}
 use Rattle.omi_model.specs.State.{State, region_of, task_of}
@@ -23,7 +23,7 @@ use Rattle.omi_model.proofs.BarrierLaw.{near, placed}
 use Rattle.omi_model.proofs.BarrierSteps.{Changes, region_changed}
 use Rattle.omi_model.proofs.NamesLive.{names_live}
 use Rattle.omi_model.proofs.Slots.{same_or_not, some_same}
-use Rattle.omi_model.proofs.StaysKept.{stays_leads, stays_step, stays_trans}
+use Rattle.omi_model.proofs.StaysKept.{stays_leads}
 use Rattle.omi_model.proofs.Steps.{move_of}
 
 pub arrivals_near : (p : Program) (events : List (ℕ × Event)) (s : State) → Reached p events s
@@ -117,13 +117,10 @@ pass_follows p first more s next u i k t v reached is step leads is_later legal 
     let arrived : slice_index q.arrivals t.number ≡ slice_index r0.arrivals t.number + 1 =
     ap (λ xs. slice_index xs t.number) (touched.0 refl)
     ∙ get_or-set_same r0.arrivals t.number (slice_index r0.arrivals t.number + 1) 0 (inside r0 im found) in
-    let on : Stays s u =
-    stays_trans s next u (stays_step p s i event.Arrive next step) (stays_leads p next more u leads) in
-    let (v', live', same) = on.tasks k t is.live in
-    let one_later : v' ≡ v = some_same live' is_later.live in
-    let region : v.region ≡ t.region = ap (λ (x : Task). x.region) (sym one_later) ∙ same.region in
-    let number : v.number ≡ t.number =
-    ap (λ (x : Task). x.number) (sym one_later) ∙ same.number (undeferred p first s reached k t is.live im) in
+    let on : StaysOver s u = stays_leads p s ((i, event.Arrive) ∷ more) u (next, step, leads) in
+    let same = on.alike k t v is.live is_later.live in
+    let region : v.region ≡ t.region = same.region in
+    let number : v.number ≡ t.number = same.number (undeferred p first s reached k t is.live im) in
     let (w, found_w, same_w) = (stays_leads p next more u leads).regions t.region q found_q in
     let (k1, v1, r1, is1, found1, may) = legal.rule in
     let one_passing : v1 ≡ v =

@@ -1,53 +1,63 @@
 -- Scheduling tasks: each is the generating task or a member of the region, and their chains end.
-use Rattle.std.proofs.Common.{◌≡◌, ◌==◌, ◌⊎◌, inl, inr, ℕ, zero, suc, Bool, true, false, List, [], ◌∷◌, ◌++◌, Option, Some, None, if◌then◌else◌, refl, sym, ap, ◌∙◌, subst}
+use Rattle.std.proofs.Common.{◌≡◌, ◌==◌, ◌⊎◌, inl, inr, ℕ, zero, suc, Bool, true, false, List, [], Option, Some, None, if◌then◌else◌, refl, sym, ap, ◌∙◌}
 use Rattle.std.specs.Option.{option_and_then}
 use Rattle.omi_script.specs.declared.program.Program.{Program}
 use Rattle.omi_model.specs.declared.event.Event.{Event}
-use Rattle.omi_model.specs.declared.event.Event.TheVariants as event
 use Rattle.omi_model.specs.declared.id.Tid.{Tid}
 use Rattle.omi_model.specs.declared.item.Item.{Item}
-use Rattle.omi_model.specs.declared.item.Item.TheVariants as item
-use Rattle.omi_model.specs.declared.progress.Progress.TheVariants.{Deferred, NotBegun}
+use Rattle.omi_model.specs.declared.progress.Progress.{Progress}
+use Rattle.omi_model.specs.declared.progress.Progress.TheVariants.{Begun, Deferred, NotBegun}
 use Rattle.omi_model.specs.declared.task.Task.{Task}
-use Rattle.omi_model.specs.Changes.{IsCurrent, encounter}
+use Rattle.omi_model.specs.Changes.{IsCurrent}
 use Rattle.omi_model.specs.LawNames.{AreNamesLive, IsLiveTask}
-use Rattle.omi_model.specs.LawScheduling.{IsInBarrier, IsScheduled, IsScheduledRightly}
-use Rattle.omi_model.specs.LawStays.{Stays}
-use Rattle.omi_model.specs.Lists.{fits, stays, take_item}
+use Rattle.omi_model.specs.LawScheduling.{IsScheduled, IsScheduledRightly}
+use Rattle.omi_model.specs.LawStays.{IsNeeded, Stays}
 use Rattle.omi_model.specs.Opening.{opening}
-use Rattle.omi_model.specs.Reached.{Leads, Reached, Step}
+use Rattle.omi_model.specs.Reached.{Reached, Step}
 use Rattle.omi_model.specs.State.{State, scheduling_of, task_of}
 use Rattle.omi_model.specs.Tasking.{MayStartAt}
 use Rattle.omi_model.specs.WellFormed.{Ends, along}
-use Rattle.omi_model.proofs.EachObject.{EachTask, IsTaskLaw, list_of_current, task_step_from, stays_after}
-use Rattle.omi_model.proofs.ListLaws.{take_fits}
+use Rattle.omi_model.proofs.ChainsKept.{current_begun}
+use Rattle.omi_model.proofs.EachObject.{EachTask, IsTaskLaw, task_step_from, stays_after}
 use Rattle.omi_model.proofs.NamesLive.{names_live}
+use Rattle.omi_model.proofs.NeededTasks.{needed_scheduling}
 use Rattle.omi_model.proofs.OpeningObjects.{each_first_task}
-use Rattle.omi_model.proofs.Scheduling.{at_item}
-use Rattle.omi_model.proofs.Slots.{false_true, none_some, some_same}
-use Rattle.omi_model.proofs.StaysKept.{stays_step}
-use Rattle.omi_model.proofs.Steps.{IsMove, IsRelisted, is_relisted, move_of, moved_on, relisted}
+use Rattle.omi_model.proofs.ReachedStates.{over_reached}
+use Rattle.omi_model.proofs.ScheduledFrom.{IsStartedUnder, starts_under, was}
+use Rattle.omi_model.proofs.Slots.{false_true, none_some}
+use Rattle.omi_model.proofs.StaysKept.{needed_begun, stays_step}
+use Rattle.omi_model.proofs.Steps.{IsMove, move_of, moved_on}
+
+begun_not_deferred : (q : Progress) → q ≡ Begun → q ≡ Deferred → ⊥
+begun_not_deferred q a b = cc
 
 -- ---- chains in a later state
 
-pub chain_stays : (s u : State) → Stays s u → AreNamesLive s → (m : ℕ) (o : Option Tid)
-    → ((k : Tid) → o ≡ Some k → IsLiveTask s k) → along (scheduling_of u) m o ≡ along (scheduling_of s) m o
-chain_stays s u stay names zero o live = refl
-chain_stays s u stay names (suc m) None live =
-    chain_stays s u stay names m None (λ k e. absurd (none_some refl e))
-chain_stays s u stay names (suc m) (Some k) live =
-    let (t, found, un) = live k refl in
-    let (v, found_v, same) = stay.tasks k t found in
-    let here : scheduling_of s k ≡ t.scheduling = ap (option_and_then (λ (x : Task). x.scheduling)) found in
-    let there : scheduling_of u k ≡ t.scheduling =
-    ap (option_and_then (λ (x : Task). x.scheduling)) found_v ∙ same.scheduling un in
-    ap (along (scheduling_of u) m) there
-    ∙
-    (chain_stays s u stay names m t.scheduling (names.tasks k t found).scheduling ∙ ap (along (scheduling_of s) m) (sym here))
+module _ (p : Program) (events : List (ℕ × Event)) (s : State) (reached : Reached p events s) (u : State)
+    (stay : Stays s u) where
+  names : AreNamesLive s
+  names = names_live p events s reached
 
-ends_later : (s u : State) → Stays s u → AreNamesLive s → (o : Option Tid)
-    → ((k : Tid) → o ≡ Some k → IsLiveTask s k) → Ends (scheduling_of s) o → Ends (scheduling_of u) o
-ends_later s u stay names o live (m, e) = (m, chain_stays s u stay names m o live ∙ e)
+  pub chain_stays : (m : ℕ) (o : Option Tid) → ((k : Tid) → o ≡ Some k → IsLiveTask s k)
+      → ((k : Tid) (t : Task) → o ≡ Some k → task_of s k ≡ Some t → IsNeeded s k t)
+      → along (scheduling_of u) m o ≡ along (scheduling_of s) m o
+  chain_stays zero o live need = refl
+  chain_stays (suc m) None live need =
+      chain_stays m None (λ k e. absurd (none_some refl e)) (λ k t e found. absurd (none_some refl e))
+  chain_stays (suc m) (Some k) live need =
+      let (t, found, un) = live k refl in
+      let (v, found_v, same) = stay.tasks k t found (need k t refl found) in
+      let here : scheduling_of s k ≡ t.scheduling = ap (option_and_then (λ (x : Task). x.scheduling)) found in
+      let there : scheduling_of u k ≡ t.scheduling =
+      ap (option_and_then (λ (x : Task). x.scheduling)) found_v ∙ same.scheduling un in
+      ap (along (scheduling_of u) m) there
+      ∙
+      (chain_stays m t.scheduling (names.tasks k t found).scheduling (λ n w is found_w. needed_scheduling p events s reached k t found n w is found_w) ∙ ap (along (scheduling_of s) m) (sym here))
+
+  ends_later : (k : Tid) (t : Task) → task_of s k ≡ Some t → Ends (scheduling_of s) t.scheduling
+      → Ends (scheduling_of u) t.scheduling
+  ends_later k t live (m, e) =
+      (m, chain_stays m t.scheduling (names.tasks k t live).scheduling (λ n w is found. needed_scheduling p events s reached k t live n w is found) ∙ e)
 
 rightly_later : (s u : State) → Stays s u → (t : Task) → IsScheduledRightly s t → IsScheduledRightly u t
 rightly_later s u stay t h ex un = go (h ex un)
@@ -56,13 +66,7 @@ rightly_later s u stay t h ex un = go (h ex un)
         → (t.scheduling ≡ t.generating) ⊎ ((k : Tid) × (v : Task) × (t.scheduling ≡ Some k) × (task_of u k ≡ Some v) × (v.implicit ≡ true) × (v.region ≡ t.region))
     go (inl e) = inl e
     go (inr (k, v, is, found, im, region)) =
-        let (w, found_w, same) = stay.tasks k v found in inr (k, w, is, found_w, same.implicit ∙ im, same.region ∙ region)
-
--- the wait at which a task starts is taken by a start
-starts_only : (e : Event) (state : ℕ) → fits e (item.Tasks state) ≡ true
-    → (task : Tid) × (e ≡ event.Start task)
-starts_only (event.Start task) state fit = (task, refl)
-starts_only e state fit = absurd (false_true fit)
+        let (w, found_w, same) = stay.tasks k v found (inl im) in inr (k, w, is, found_w, same.implicit ∙ im, same.region ∙ region)
 
 module _ (p : Program) (events : List (ℕ × Event)) (s : State) (reached : Reached p events s) (i : ℕ)
     (e : Event) (next : State) (step : Step p s i e next) (all : EachTask (λ k u. IsScheduled s u) s) where
@@ -75,48 +79,22 @@ module _ (p : Program) (events : List (ℕ × Event)) (s : State) (reached : Rea
   stay : Stays s next
   stay = stays_step p s i e next step
 
-  names : AreNamesLive s
-  names = names_live p events s reached
-
   later : Stays middle next
   later = stays_after p s i e next m
 
-  before : IsRelisted s middle
-  before = is_relisted s i (stays (encounter s i) e m.item m.behind)
-
-  -- a task starts from this item under the current one
-  under : (x : Item) → m.item ≡ x → (k : Tid) (t : Task) → IsCurrent s i k t → (u : Task) → MayStartAt x k t u
-      → (u.generating ≡ Some k) ⊎ (IsInBarrier t × (u.region ≡ t.region))
-  under (item.Tasks state) of k t is u may =
-      let taken : take_item p (encounter s i) e t.list ≡ Some (item.Tasks state, m.behind) =
-      ap (take_item p (encounter s i) e) (sym (list_of_current s i k t is))
-      ∙ (m.taken ∙ ap (λ (y : Item). Some (y, m.behind)) of) in
-      let (task, starts) =
-      starts_only e state (take_fits p (encounter s i) e t.list (item.Tasks state) m.behind taken) in
-      at_item p events s reached (item.Tasks state) m.behind k t u i task
-      (subst (λ (x : Event). take_item p (encounter s i) x t.list ≡ Some (item.Tasks state, m.behind)) starts taken) is.live may
-  under item.OneTask of k t is u may = inl may
-  under x of k t is u may = absurd may
-
-  -- the current task in the state before, and in the next one
-  was : (k : Tid) (t : Task) → IsCurrent middle i k t
-      → (v : Task) × (xs : List Item) × IsCurrent s i k v × (t ≡ relisted xs v)
-  was k t is =
-      let (v, xs, live, same) = before.tasks k t is.live in
-      let current : IsCurrent s i k v = record { name = sym (before.currents i) ∙ is.name; live = live } in (v, xs, current, same)
+  begun : (k : Tid) (t : Task) → IsCurrent middle i k t → t.progress ≡ Begun
+  begun k t is =
+      let (v, xs, current, same) = was p events s reached i e next step m k t is in
+      ap (λ (x : Task). x.progress) same ∙ (current_begun p events s reached i k v current.name current.live).0
 
   started : (k : Tid) (t : Task) → IsCurrent middle i k t → t.progress ≡ Deferred → ⊥
-  started k t is d =
-      let (v, xs, cur, same) = was k t is in
-      let (v', live, un) = names.currents i k cur.name in
-      un
-      (ap (λ (x : Task). x.progress) (some_same live cur.live) ∙ (ap (λ (x : Task). x.progress) (sym same) ∙ d))
+  started k t is d = begun_not_deferred t.progress (begun k t is) d
 
   ends_current : EachTask (λ k u. IsScheduled next u) middle → (k : Tid) (t : Task) → IsCurrent middle i k t
       → Ends (scheduling_of next) (Some k)
   ends_current of_tasks k t is =
       let (n, e') = (of_tasks k t is.live).ends in
-      let (v, found, same) = later.tasks k t is.live in
+      let (v, found, same) = later.tasks k t is.live (needed_begun middle k t (begun k t is)) in
       (suc n, ap (along (scheduling_of next) n) (ap (option_and_then (λ (x : Task). x.scheduling)) found ∙ same.scheduling (started k t is)) ∙ e')
 
   law : EachTask (λ k u. IsScheduled next u) middle
@@ -141,27 +119,15 @@ module _ (p : Program) (events : List (ℕ × Event)) (s : State) (reached : Rea
       of_first true k h = h
       of_first false k h = (0, refl)
 
-      may_before : (x : Item) (j : Tid) (t v u : Task) (xs : List Item) → t ≡ relisted xs v
-          → MayStartAt x j t u → MayStartAt x j v u
-      may_before (item.Tasks state) j t v u xs same may =
-          subst (λ (y : Task). MayStartAt (item.Tasks state) j y u) same may
-      may_before item.OneTask j t v u xs same may = may
-      may_before x j t v u xs same may = absurd may
-
       under_here : (x : Item) → m.item ≡ x → (j : Tid) (t : Task) → IsCurrent middle i j t → (u : Task)
           → MayStartAt x j t u
           → (◌≡◌ {A = Option Tid} (Some j) u.generating) ⊎ ((k : Tid) × (v : Task) × (◌≡◌ {A = Option Tid} (Some j) (Some k)) × (task_of next k ≡ Some v) × (v.implicit ≡ true) × (v.region ≡ u.region))
-      under_here x of j t is u may =
-          let (v, xs, cur, same) = was j t is in
-          let (w, found, kept) = stay.tasks j v cur.live in
-          go w found (kept.implicit) (kept.region) (under x of j v cur u (may_before x j t v u xs same may))
+      under_here x of j t is u may = go (starts_under p events s reached i e next step m x of j t is u may)
         where
-          go : {v : Task} (w : Task) → task_of next j ≡ Some w → w.implicit ≡ v.implicit → w.region ≡ v.region
-              → (u.generating ≡ Some j) ⊎ (IsInBarrier v × (u.region ≡ v.region))
-              → (◌≡◌ {A = Option Tid} (Some j) u.generating) ⊎ ((k : Tid) × (v' : Task) × (◌≡◌ {A = Option Tid} (Some j) (Some k)) × (task_of next k ≡ Some v') × (v'.implicit ≡ true) × (v'.region ≡ u.region))
-          go w found im region (inl g) = inl (sym g)
-          go w found im region (inr (barrier, g)) =
-              inr (j, w, refl, found, im ∙ barrier.implicit, region ∙ sym g)
+          go : IsStartedUnder next j u
+              → (◌≡◌ {A = Option Tid} (Some j) u.generating) ⊎ ((k : Tid) × (v : Task) × (◌≡◌ {A = Option Tid} (Some j) (Some k)) × (task_of next k ≡ Some v) × (v.implicit ≡ true) × (v.region ≡ u.region))
+          go (inl by) = inl (sym by)
+          go (inr (v, found, im, region)) = inr (j, v, refl, found, im, region)
 
   pub scheduled_step : EachTask (λ k u. IsScheduled next u) next
   scheduled_step =
@@ -169,27 +135,10 @@ module _ (p : Program) (events : List (ℕ × Event)) (s : State) (reached : Rea
       (λ k t is taken q. record { rightly = q.rightly; ends = q.ends }) (λ k t ne live q. q) law
       (λ k t live. record {
         rightly = rightly_later s next stay t (all k t live).rightly;
-        ends = ends_later s next stay names t.scheduling (names.tasks k t live).scheduling (all k t live).ends;
+        ends = ends_later p events s reached next stay k t live (all k t live).ends;
       })
 
 -- ---- every reached state
-
-pub leads_on : (p : Program) (s : State) (xs : List (ℕ × Event)) (u : State) (x : ℕ × Event) (next : State)
-    → Leads p s xs u → Step p u x.0 x.1 next → Leads p s (xs ++ x ∷ []) next
-leads_on p s [] u x after_step same step =
-    (after_step, subst (λ v. Step p v x.0 x.1 after_step) same step, refl)
-leads_on p s (y ∷ ys) u x after_step (mid, first, leads) step =
-    (mid, first, leads_on p mid ys u x after_step leads step)
-
--- a law whose step knows that its state is reached
-pub over_reached : (p : Program) (L : State → Type 0)
-    → ((events : List (ℕ × Event)) (s : State) → Reached p events s → (i : ℕ) (e : Event) (next : State) → Step p s i e next → L s → L next)
-    → (first : List (ℕ × Event)) (s : State) → Reached p first s → (events : List (ℕ × Event)) (u : State) → Leads p s events u → L s → L u
-over_reached p L keeps first s reached [] u same h = subst L (sym same) h
-over_reached p L keeps first s reached (x ∷ xs) u (after_step, step, leads) h =
-    over_reached p L keeps (first ++ x ∷ []) after_step
-    (leads_on p (opening p) first s x after_step reached step) xs u leads
-    (keeps first s reached x.0 x.1 after_step step h)
 
 pub scheduling_right : (p : Program) (events : List (ℕ × Event)) (s : State) → Reached p events s
     → (k : Tid) (u : Task) → task_of s k ≡ Some u → IsScheduled s u

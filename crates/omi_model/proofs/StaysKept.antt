@@ -1,5 +1,5 @@
 -- What stays over every event.
-use Rattle.std.proofs.Common.{◌≡◌, ◌<◌, ◌≤◌, ◌+◌, ◌-◌, ℕ, zero, suc, Bool, true, false, List, [], ◌∷◌, ◌++◌, length, map, get_or, slice_get, slice_index, slice_set, Option, Some, None, refl, sym, ap, ◌∙◌, subst, arith}
+use Rattle.std.proofs.Common.{◌≡◌, ◌<◌, ◌≤◌, ◌+◌, ◌-◌, inl, inr, ℕ, zero, suc, Bool, true, false, List, [], ◌∷◌, ◌++◌, length, map, get_or, slice_get, slice_index, slice_set, Option, Some, None, refl, sym, ap, ◌∙◌, subst, arith}
 use Rattle.std.specs.Prelude.{IfSome}
 use Rattle.std.specs.List.{All}
 use Rattle.std.proofs.lemmas.List.{get_or-map, length-map, length-set}
@@ -20,7 +20,7 @@ use Rattle.omi_model.specs.declared.task.Variables.{Variables}
 use Rattle.omi_model.specs.declared.thread.Thread.{Thread}
 use Rattle.omi_model.specs.Changes.{on_region, on_task, on_thread, with_list, encounter}
 use Rattle.omi_model.specs.Fresh.{AreDistinct, IsFresh}
-use Rattle.omi_model.specs.LawStays.{IsSameRegion, IsSameTask, Stays, stage_of}
+use Rattle.omi_model.specs.LawStays.{IsNeeded, IsSameRegion, IsSameTask, Stays, StaysOver, stage_of}
 use Rattle.omi_model.specs.Put.{Slots, made, put}
 use Rattle.omi_model.specs.Reached.{Leads, Reached, Step}
 use Rattle.omi_model.specs.Rows.{working}
@@ -72,38 +72,59 @@ same_region_trans r q w a b = record {
 
 -- ---- states
 
-pub stays_same : (s : State) → Stays s s
-stays_same s = record { tasks = λ k t e. (t, e, same_task t); regions = λ n r e. (r, e, same_region r); begun = λ i h. h; count = refl }
+-- Each live task of a state lives in the next one: no event that takes one away has a rule.
+record KeepsAll (s u : State) : Type 0 where
+  tasks : (k : Tid) (t : Task) → task_of s k ≡ Some t
+      → (v : Task) × (task_of u k ≡ Some v) × IsSameTask t v
+  regions : (n : Rid) (r : Region) → region_of s n ≡ Some r
+      → (q : Region) × (region_of u n ≡ Some q) × IsSameRegion r q
+  begun : (i : ℕ) → (s.threads i).begun ≡ true → (u.threads i).begun ≡ true
+  count : u.count ≡ s.count
 
-pub stays_trans : (s t u : State) → Stays s t → Stays t u → Stays s u
-stays_trans s t u a b = record {
+alike_of : (s u : State) → KeepsAll s u → (k : Tid) (t v : Task) → task_of s k ≡ Some t → task_of u k ≡ Some v
+    → IsSameTask t v
+alike_of s u h k t v live found =
+    let (w, found_w, same) = h.tasks k t live in
+    subst (IsSameTask t) (some_same found_w found) same
+
+stays_of : (s u : State) → KeepsAll s u → Stays s u
+stays_of s u h = record { tasks = λ k t live need. h.tasks k t live; alike = alike_of s u h; regions = h.regions; begun = h.begun; count = h.count }
+
+over_of : (s u : State) → KeepsAll s u → StaysOver s u
+over_of s u h = record { implicit = λ k t live im. h.tasks k t live; alike = alike_of s u h; regions = h.regions; begun = h.begun; count = h.count }
+
+keeps_same : (s : State) → KeepsAll s s
+keeps_same s = record { tasks = λ k t e. (t, e, same_task t); regions = λ n r e. (r, e, same_region r); begun = λ i h. h; count = refl }
+
+keeps_trans : (s t u : State) → KeepsAll s t → KeepsAll t u → KeepsAll s u
+keeps_trans s t u a b = record {
   tasks = λ k v e. let (v', e', h') = a.tasks k v e in let (v'', e'', h'') = b.tasks k v' e' in (v'', e'', same_task_trans v v' v'' h' h'');
   regions = λ n r e. let (r', e', h') = a.regions n r e in let (r'', e'', h'') = b.regions n r' e' in (r'', e'', same_region_trans r r' r'' h' h'');
   begun = λ i h. b.begun i (a.begun i h);
   count = b.count ∙ a.count;
 }
 
-pub stays_thread : (s : State) (i : ℕ) (f : Thread → Thread)
-    → ((s.threads i).begun ≡ true → (f (s.threads i)).begun ≡ true) → Stays s (on_thread s i f)
-stays_thread s i f keeps = record {
+keeps_thread : (s : State) (i : ℕ) (f : Thread → Thread)
+    → ((s.threads i).begun ≡ true → (f (s.threads i)).begun ≡ true) → KeepsAll s (on_thread s i f)
+keeps_thread s i f keeps = record {
   tasks = λ k t e. (t, e, same_task t);
   regions = λ n r e. (r, e, same_region r);
   begun = λ j. each_put (λ m (h : Thread). (s.threads m).begun ≡ true → h.begun ≡ true) s.threads i (f (s.threads i)) keeps j (λ ne h. h);
   count = refl;
 }
 
-pub stays_task : (s : State) (k : Tid) (f : Task → Task)
-    → ((t : Task) → task_of s k ≡ Some t → IsSameTask t (f t)) → Stays s (on_task s k f)
-stays_task s k f keeps = record {
+keeps_task : (s : State) (k : Tid) (f : Task → Task)
+    → ((t : Task) → task_of s k ≡ Some t → IsSameTask t (f t)) → KeepsAll s (on_task s k f)
+keeps_task s k f keeps = record {
   tasks = λ n t e. later_on IsSameTask same_task s.tasks k.0 f keeps n.0 t e;
   regions = λ n r e. (r, e, same_region r);
   begun = λ i h. h;
   count = refl;
 }
 
-pub stays_region : (s : State) (n : Rid) (f : Region → Region)
-    → ((r : Region) → region_of s n ≡ Some r → IsSameRegion r (f r)) → Stays s (on_region s n f)
-stays_region s n f keeps = record {
+keeps_region : (s : State) (n : Rid) (f : Region → Region)
+    → ((r : Region) → region_of s n ≡ Some r → IsSameRegion r (f r)) → KeepsAll s (on_region s n f)
+keeps_region s n f keeps = record {
   tasks = λ k t e. (t, e, same_task t);
   regions = λ m r e. later_on IsSameRegion same_region s.regions n.0 f keeps m.0 r e;
   begun = λ i h. h;
@@ -254,131 +275,190 @@ joined_region r = record { enclosing = refl; encountering = refl; team = refl; f
 
 -- ---- events
 
-stays_made : (s : State) (k : Tid) (x : Task) (i : ℕ) → IsFresh s.tasks i k.0
-    → Stays s (record s { tasks = made s.tasks k.0 x })
-stays_made s k x i fresh = record {
+keeps_made : (s : State) (k : Tid) (x : Task) (i : ℕ) → IsFresh s.tasks i k.0
+    → KeepsAll s (record s { tasks = made s.tasks k.0 x })
+keeps_made s k x i fresh = record {
   tasks = λ n t e. later_made IsSameTask same_task s.tasks k.0 x (fresh_empty s.tasks i k.0 fresh) n.0 t e;
   regions = λ n r e. (r, e, same_region r);
   begun = λ j h. h;
   count = refl;
 }
 
-stays_forked : (s : State) (i : ℕ) (region : Rid) (new : Region) (task : ℕ → ℕ → Task) (team : List (Tid × ℕ))
+keeps_forked : (s : State) (i : ℕ) (region : Rid) (new : Region) (task : ℕ → ℕ → Task) (team : List (Tid × ℕ))
     → IsFresh s.regions i region.0 → AreNew s.tasks i team
-    → Stays s (record s { regions = made s.regions region.0 new; tasks = with_members task 0 team s.tasks })
-stays_forked s i region new task team fresh news = record {
+    → KeepsAll s (record s { regions = made s.regions region.0 new; tasks = with_members task 0 team s.tasks })
+keeps_forked s i region new task team fresh news = record {
   tasks = λ n t e. later_members IsSameTask same_task task 0 team s.tasks i news n.0 t e;
   regions = λ n r e. later_made IsSameRegion same_region s.regions region.0 new (fresh_empty s.regions i region.0 fresh) n.0 r e;
   begun = λ j h. h;
   count = refl;
 }
 
-stays_global : (s : State) (locks : ℕ → Option ℕ) (n : ℕ)
-    → Stays s (record s { locks = locks; max_active = n })
-stays_global s locks n = record { tasks = λ k t e. (t, e, same_task t); regions = λ k r e. (r, e, same_region r); begun = λ i h. h; count = refl }
+keeps_global : (s : State) (locks : ℕ → Option ℕ) (n : ℕ)
+    → KeepsAll s (record s { locks = locks; max_active = n })
+keeps_global s locks n = record { tasks = λ k t e. (t, e, same_task t); regions = λ k r e. (r, e, same_region r); begun = λ i h. h; count = refl }
 
 -- another current task
-stays_current : (s u : State) (i : ℕ) (k : Option Tid) → Stays s u
-    → Stays s (on_thread u i (λ h. record h { current = k }))
-stays_current s u i k h =
-    stays_trans s u (on_thread u i (λ h. record h { current = k })) h
-    (stays_thread u i (λ h. record h { current = k }) (λ b. b))
+keeps_current : (s u : State) (i : ℕ) (k : Option Tid) → KeepsAll s u
+    → KeepsAll s (on_thread u i (λ h. record h { current = k }))
+keeps_current s u i k h =
+    keeps_trans s u (on_thread u i (λ h. record h { current = k })) h
+    (keeps_thread u i (λ h. record h { current = k }) (λ b. b))
 
-stays_setting : (s : State) (k : Tid) (f : Task → Task) → ((t : Task) → IsSameTask t (f t))
-    → Stays s (on_task s k f)
-stays_setting s k f keeps = stays_task s k f (λ t e. keeps t)
+keeps_setting : (s : State) (k : Tid) (f : Task → Task) → ((t : Task) → IsSameTask t (f t))
+    → KeepsAll s (on_task s k f)
+keeps_setting s k f keeps = keeps_task s k f (λ t e. keeps t)
 
-pub stays_effect : (p : Program) (s : State) (i : ℕ) (e : Event) (y : Item) → Rule s i e y
-    → IfSome (effect p s i e y) (Stays s)
-stays_effect p s i event.Begin y rule = stays_thread s i (λ h. record h { begun = true }) (λ h. refl)
-stays_effect p s i event.Offer y rule = stays_thread s i (λ h. record h { claim = claim.Free }) (λ h. h)
-stays_effect p s i (event.Want n) y rule = stays_thread s i (λ h. record h { wanted = n; asks = [] }) (λ h. h)
-stays_effect p s i (event.Ask w true) y rule =
+keeps_effect : (p : Program) (s : State) (i : ℕ) (e : Event) (y : Item) → Rule s i e y
+    → IfSome (effect p s i e y) (KeepsAll s)
+keeps_effect p s i event.Begin y rule = keeps_thread s i (λ h. record h { begun = true }) (λ h. refl)
+keeps_effect p s i event.Offer y rule = keeps_thread s i (λ h. record h { claim = claim.Free }) (λ h. h)
+keeps_effect p s i (event.Want n) y rule = keeps_thread s i (λ h. record h { wanted = n; asks = [] }) (λ h. h)
+keeps_effect p s i (event.Ask w true) y rule =
     let listed : State = on_thread s i (λ h. record h { asks = h.asks ++ (w, true) ∷ [] }) in
-    stays_trans s listed (on_thread listed w (λ h. record h { claim = claim.By i }))
-    (stays_thread s i (λ h. record h { asks = h.asks ++ (w, true) ∷ [] }) (λ h. h))
-    (stays_thread listed w (λ h. record h { claim = claim.By i }) (λ h. h))
-stays_effect p s i (event.Ask w false) y rule =
-    stays_thread s i (λ h. record h { asks = h.asks ++ (w, false) ∷ [] }) (λ h. h)
-stays_effect p s i (event.Fork region team) (item.Fork f) rule =
-    of_region s i (forked p s i region team f) (Stays s) _ rule
-    (λ k t r is found may. stays_current s _ i (master_of team) (stays_forked s i region _ (member_task p region k t r f) team may.region_new (new_team s.tasks i team may.tasks_new may.distinct)))
-stays_effect p s i (event.Fork region team) y rule = tt
-stays_effect p s i (event.ImplicitBegin task) y rule =
-    stays_current s _ i (Some task)
-    (stays_task s task (λ t. record t { progress = Begun }) (λ t e. let same : rule.member ≡ t = some_same rule.live e in begun_task t (ap (λ (u : Task). u.progress) (sym same) ∙ rule.waiting)))
-stays_effect p s i (event.State state wait) y rule =
-    stays_thread s i (λ h. record h { state = state; wait = wait }) (λ h. h)
-stays_effect p s i event.Enter y rule =
-    of_current s i (entered s) (Stays s) _ rule
-    (λ k t is h. stays_setting s k (λ u. record u { enter = t.exit - 32 }) (λ u. other_task u _ u.tool u.variables u.list))
-stays_effect p s i event.Leave y rule =
-    of_current s i (left s) (Stays s) _ rule
-    (λ k t is h. stays_setting s k (λ u. record u { enter = 0 }) (λ u. other_task u _ u.tool u.variables u.list))
-stays_effect p s i event.Arrive y rule =
-    of_current_region s i (λ k t. arrived s t) (Stays s) _ rule
-    (λ k t r is found h. stays_region s t.region (λ q. record q { arrivals = slice_set q.arrivals t.number (slice_index q.arrivals t.number + 1) }) (λ q e. arrived_region q t.number))
-stays_effect p s i event.Release y rule =
-    of_current_region s i (λ k t. released s t) (Stays s) _ rule
-    (λ k t r is found h. stays_region s t.region (λ q. record q { released = q.released + 1 }) (λ q e. released_region q))
-stays_effect p s i (event.ImplicitEnd task) y rule =
-    of_current_region s i (task_ended s i) (Stays s) _ rule
+    keeps_trans s listed (on_thread listed w (λ h. record h { claim = claim.By i }))
+    (keeps_thread s i (λ h. record h { asks = h.asks ++ (w, true) ∷ [] }) (λ h. h))
+    (keeps_thread listed w (λ h. record h { claim = claim.By i }) (λ h. h))
+keeps_effect p s i (event.Ask w false) y rule =
+    keeps_thread s i (λ h. record h { asks = h.asks ++ (w, false) ∷ [] }) (λ h. h)
+keeps_effect p s i (event.Fork region team) (item.Fork f) rule =
+    of_region s i (forked p s i region team f) (KeepsAll s) _ rule
+    (λ k t r is found may. keeps_current s _ i (master_of team) (keeps_forked s i region _ (member_task p region k t r f) team may.region_new (new_team s.tasks i team may.tasks_new may.distinct)))
+keeps_effect p s i (event.Fork region team) y rule = tt
+keeps_effect p s i (event.ImplicitBegin task) y rule =
+    keeps_current s _ i (Some task)
+    (keeps_task s task (λ t. record t { progress = Begun }) (λ t e. let same : rule.member ≡ t = some_same rule.live e in begun_task t (ap (λ (u : Task). u.progress) (sym same) ∙ rule.waiting)))
+keeps_effect p s i (event.State state wait) y rule =
+    keeps_thread s i (λ h. record h { state = state; wait = wait }) (λ h. h)
+keeps_effect p s i event.Enter y rule =
+    of_current s i (entered s) (KeepsAll s) _ rule
+    (λ k t is h. keeps_setting s k (λ u. record u { enter = t.exit - 32 }) (λ u. other_task u _ u.tool u.variables u.list))
+keeps_effect p s i event.Leave y rule =
+    of_current s i (left s) (KeepsAll s) _ rule
+    (λ k t is h. keeps_setting s k (λ u. record u { enter = 0 }) (λ u. other_task u _ u.tool u.variables u.list))
+keeps_effect p s i event.Arrive y rule =
+    of_current_region s i (λ k t. arrived s t) (KeepsAll s) _ rule
+    (λ k t r is found h. keeps_region s t.region (λ q. record q { arrivals = slice_set q.arrivals t.number (slice_index q.arrivals t.number + 1) }) (λ q e. arrived_region q t.number))
+keeps_effect p s i event.Release y rule =
+    of_current_region s i (λ k t. released s t) (KeepsAll s) _ rule
+    (λ k t r is found h. keeps_region s t.region (λ q. record q { released = q.released + 1 }) (λ q e. released_region q))
+keeps_effect p s i (event.ImplicitEnd task) y rule =
+    of_current_region s i (task_ended s i) (KeepsAll s) _ rule
     (λ k t r is found h. let first : State = on_task s k (λ u. record u { progress = Finished }) in
-    stays_current s _ i None (stays_trans s first _ (stays_setting s k (λ u. record u { progress = Finished }) finished_task) (stays_region first t.region (λ q. record q { ended = slice_set q.ended t.number true }) (λ q e. ended_region q t.number))))
-stays_effect p s i (event.Join region) y rule =
-    of_region s i (joined s i) (Stays s) _ rule
+    keeps_current s _ i None (keeps_trans s first _ (keeps_setting s k (λ u. record u { progress = Finished }) finished_task) (keeps_region first t.region (λ q. record q { ended = slice_set q.ended t.number true }) (λ q e. ended_region q t.number))))
+keeps_effect p s i (event.Join region) y rule =
+    of_region s i (joined s i) (KeepsAll s) _ rule
     (λ k t r is found h. let first : State = on_task s k (λ u. record u { progress = Finished }) in
-    stays_current s _ i r.encountering (stays_trans s first _ (stays_setting s k (λ u. record u { progress = Finished }) finished_task) (stays_region first t.region (λ q. record q { joined = true }) (λ q e. joined_region q))))
-stays_effect p s i (event.FreeTask task) y rule = tt
-stays_effect p s i (event.FreeRegion region) y rule = tt
-stays_effect p s i (event.Defer task) (item.Defer seen f final) rule =
-    of_current s i (deferred p s task f final seen) (Stays s) _ rule
-    (λ k t is fresh. stays_made s task _ i fresh)
-stays_effect p s i (event.Defer task) y rule = tt
-stays_effect p s i (event.StartNow task) (item.Defer seen f final) rule =
-    of_current s i (started_now p s i task f final) (Stays s) _ rule
-    (λ k t is fresh. stays_current s _ i (Some task) (stays_made s task _ i fresh))
-stays_effect p s i (event.StartNow task) (item.StartNow f final) rule =
-    of_current s i (started_now p s i task f final) (Stays s) _ rule
-    (λ k t is fresh. stays_current s _ i (Some task) (stays_made s task _ i fresh))
-stays_effect p s i (event.StartNow task) y rule = tt
-stays_effect p s i (event.Start task) (item.Tasks state) rule =
-    of_current s i (started s i task) (Stays s) _ rule
-    (λ k t is may. stays_current s _ i (Some task) (stays_task s task (λ u. record (scheduled i k t u) { list = working (encounter s i) u.list }) (λ u e. let same : may.new ≡ u = some_same may.live e in started_task i k t u (working (encounter s i) u.list) (ap (λ (x : Task). x.progress) (sym same) ∙ may.deferred))))
-stays_effect p s i (event.Start task) item.OneTask rule =
-    of_current s i (started_alone s i task) (Stays s) _ rule
-    (λ k t is may. stays_current s _ i (Some task) (stays_task s task (scheduled i k t) (λ u e. let same : may.new ≡ u = some_same may.live e in started_task i k t u u.list (ap (λ (x : Task). x.progress) (sym same) ∙ may.deferred))))
-stays_effect p s i (event.Start task) y rule = tt
-stays_effect p s i (event.Finish task) y rule =
-    of_current s i (finished s i) (Stays s) _ rule
-    (λ k t is h. stays_current s _ i t.scheduling (stays_setting s k (λ u. record u { progress = Finished }) finished_task))
-stays_effect p s i (event.Set icv value) y rule =
-    of_set s i icv value (Stays s) rule (stays_global s s.locks value)
-    (λ k t v is e. stays_setting s k (λ u. record u { variables = v }) (λ u. other_task u u.enter u.tool v u.list))
-stays_effect p s i (event.SetTool x) y rule =
-    of_current s i (λ k t. with_tool s x k) (Stays s) _ rule
-    (λ k t is h. stays_setting s k (λ u. record u { tool = x }) (λ u. other_task u u.enter x u.variables u.list))
-stays_effect p s i (event.Lock k) y rule = stays_global s (put s.locks k (Some i)) s.max_active
-stays_effect p s i (event.Unlock k) y rule = stays_global s (put s.locks k None) s.max_active
-stays_effect p s i e y rule = stays_same s
+    keeps_current s _ i r.encountering (keeps_trans s first _ (keeps_setting s k (λ u. record u { progress = Finished }) finished_task) (keeps_region first t.region (λ q. record q { joined = true }) (λ q e. joined_region q))))
+keeps_effect p s i (event.FreeTask task) y rule = tt
+keeps_effect p s i (event.FreeRegion region) y rule = tt
+keeps_effect p s i (event.Defer task) (item.Defer seen f final) rule =
+    of_current s i (deferred p s task f final seen) (KeepsAll s) _ rule
+    (λ k t is fresh. keeps_made s task _ i fresh)
+keeps_effect p s i (event.Defer task) y rule = tt
+keeps_effect p s i (event.StartNow task) (item.Defer seen f final) rule =
+    of_current s i (started_now p s i task f final) (KeepsAll s) _ rule
+    (λ k t is fresh. keeps_current s _ i (Some task) (keeps_made s task _ i fresh))
+keeps_effect p s i (event.StartNow task) (item.StartNow f final) rule =
+    of_current s i (started_now p s i task f final) (KeepsAll s) _ rule
+    (λ k t is fresh. keeps_current s _ i (Some task) (keeps_made s task _ i fresh))
+keeps_effect p s i (event.StartNow task) y rule = tt
+keeps_effect p s i (event.Start task) (item.Tasks state) rule =
+    of_current s i (started s i task) (KeepsAll s) _ rule
+    (λ k t is may. keeps_current s _ i (Some task) (keeps_task s task (λ u. record (scheduled i k t u) { list = working (encounter s i) u.list }) (λ u e. let same : may.new ≡ u = some_same may.live e in started_task i k t u (working (encounter s i) u.list) (ap (λ (x : Task). x.progress) (sym same) ∙ may.deferred))))
+keeps_effect p s i (event.Start task) item.OneTask rule =
+    of_current s i (started_alone s i task) (KeepsAll s) _ rule
+    (λ k t is may. keeps_current s _ i (Some task) (keeps_task s task (scheduled i k t) (λ u e. let same : may.new ≡ u = some_same may.live e in started_task i k t u u.list (ap (λ (x : Task). x.progress) (sym same) ∙ may.deferred))))
+keeps_effect p s i (event.Start task) y rule = tt
+keeps_effect p s i (event.Finish task) y rule =
+    of_current s i (finished s i) (KeepsAll s) _ rule
+    (λ k t is h. keeps_current s _ i t.scheduling (keeps_setting s k (λ u. record u { progress = Finished }) finished_task))
+keeps_effect p s i (event.Set icv value) y rule =
+    of_set s i icv value (KeepsAll s) rule (keeps_global s s.locks value)
+    (λ k t v is e. keeps_setting s k (λ u. record u { variables = v }) (λ u. other_task u u.enter u.tool v u.list))
+keeps_effect p s i (event.SetTool x) y rule =
+    of_current s i (λ k t. with_tool s x k) (KeepsAll s) _ rule
+    (λ k t is h. keeps_setting s k (λ u. record u { tool = x }) (λ u. other_task u u.enter x u.variables u.list))
+keeps_effect p s i (event.Lock k) y rule = keeps_global s (put s.locks k (Some i)) s.max_active
+keeps_effect p s i (event.Unlock k) y rule = keeps_global s (put s.locks k None) s.max_active
+keeps_effect p s i e y rule = keeps_same s
+
+keeps_list : (s : State) (i : ℕ) (zs : List Item) → KeepsAll s (with_list s i zs)
+keeps_list s i zs =
+    list_moves s i zs (KeepsAll s)
+    (λ k is. keeps_setting s k (relisted zs) (λ u. other_task u u.enter u.tool u.variables zs))
+    (λ none. keeps_thread s i (λ h. record h { list = zs }) (λ h. h))
+
+keeps_step : (p : Program) (s : State) (i : ℕ) (e : Event) (next : State) → Step p s i e next
+    → KeepsAll s next
+keeps_step p = step_law p KeepsAll keeps_trans keeps_list (keeps_effect p)
+
+keeps_leads : (p : Program) (s : State) (events : List (ℕ × Event)) (u : State) → Leads p s events u
+    → KeepsAll s u
+keeps_leads p s [] u same = subst (KeepsAll s) (sym same) (keeps_same s)
+keeps_leads p s (x ∷ xs) u (next, step, leads) =
+    keeps_trans s next u (keeps_step p s x.0 x.1 next step) (keeps_leads p next xs u leads)
+
+-- ---- what is used from here on
+
+pub stays_same : (s : State) → Stays s s
+stays_same s = stays_of s s (keeps_same s)
+
+-- a list that moves on takes no task away
+pub list_keeps : (s : State) (i : ℕ) (zs : List Item) (k : Tid) (t : Task) → task_of s k ≡ Some t
+    → (v : Task) × (task_of (with_list s i zs) k ≡ Some v) × IsSameTask t v
+list_keeps s i zs k t live = (keeps_list s i zs).tasks k t live
 
 pub stays_list : (s : State) (i : ℕ) (zs : List Item) → Stays s (with_list s i zs)
-stays_list s i zs =
-    list_moves s i zs (Stays s)
-    (λ k is. stays_setting s k (relisted zs) (λ u. other_task u u.enter u.tool u.variables zs))
-    (λ none. stays_thread s i (λ h. record h { list = zs }) (λ h. h))
+stays_list s i zs = stays_of s (with_list s i zs) (keeps_list s i zs)
 
--- each step keeps what stays
+-- the effect of an event, and a whole event
+pub stays_effect : (p : Program) (s : State) (i : ℕ) (e : Event) (y : Item) → Rule s i e y
+    → IfSome (effect p s i e y) (Stays s)
+stays_effect p s i e y rule = go (effect p s i e y) (keeps_effect p s i e y rule)
+  where
+    go : (o : Option State) → IfSome o (KeepsAll s) → IfSome o (Stays s)
+    go None h = tt
+    go (Some u) h = stays_of s u h
+
 pub stays_step : (p : Program) (s : State) (i : ℕ) (e : Event) (next : State) → Step p s i e next
     → Stays s next
-stays_step p = step_law p Stays stays_trans stays_list (stays_effect p)
+stays_step p s i e next step = stays_of s next (keeps_step p s i e next step)
 
+-- No event that takes a task away has a rule, so each live task stays. What cites this has to change once one has.
+pub stays_whole : (p : Program) (s : State) (i : ℕ) (e : Event) (next : State) → Step p s i e next → (k : Tid)
+    (t : Task) → task_of s k ≡ Some t → (v : Task) × (task_of next k ≡ Some v) × IsSameTask t v
+stays_whole p s i e next step k t live = (keeps_step p s i e next step).tasks k t live
+
+-- and any events
 pub stays_leads : (p : Program) (s : State) (events : List (ℕ × Event)) (u : State) → Leads p s events u
-    → Stays s u
-stays_leads p s [] u same = subst (Stays s) (sym same) (stays_same s)
-stays_leads p s (x ∷ xs) u (next, step, leads) =
-    stays_trans s next u (stays_step p s x.0 x.1 next step) (stays_leads p next xs u leads)
+    → StaysOver s u
+stays_leads p s events u leads = over_of s u (keeps_leads p s events u leads)
+
+pub stay_over_an_event : (p : Program) (first : List (ℕ × Event)) (s : State) (i : ℕ) (e : Event) (next : State)
+    → Reached p first s → Step p s i e next → Stays s next
+stay_over_an_event p first s i e next reached step = stays_step p s i e next step
 
 pub stay : (p : Program) (first more : List (ℕ × Event)) (s u : State) → Reached p first s → Leads p s more u
-    → Stays s u
+    → StaysOver s u
 stay p first more s u reached leads = stays_leads p s more u leads
+
+-- ---- tasks that are needed
+
+-- one that has begun, and one that waits to begin
+pub needed_begun : (s : State) (k : Tid) (t : Task) → t.progress ≡ Begun → IsNeeded s k t
+needed_begun s k t begun = inr (inl (λ over. not_over t.progress begun over))
+  where
+    not_over : (q : Progress) → q ≡ Begun → q ≡ Finished → ⊥
+    not_over q a b = cc
+
+pub needed_waiting : (s : State) (k : Tid) (t : Task) → t.progress ≡ NotBegun → IsNeeded s k t
+needed_waiting s k t waits = inr (inl (λ over. not_over t.progress waits over))
+  where
+    not_over : (q : Progress) → q ≡ NotBegun → q ≡ Finished → ⊥
+    not_over q a b = cc
+
+-- the generating task of a live task
+pub needed_generating : (s : State) (k : Tid) (t : Task) → task_of s k ≡ Some t → (n : Tid) (v : Task)
+    → t.generating ≡ Some n → IsNeeded s n v
+needed_generating s k t live n v by = inr (inr (k, t, live, by))

@@ -1,5 +1,5 @@
--- What stays: an event neither takes a task or a region away nor changes what it is, and what a task or a region has come to is never undone.
-use Rattle.std.specs.Prelude.{◌≡◌, ◌≤◌, ℕ, List, true, slice_get, slice_index, length, Some}
+-- What stays: no event takes away a region or a task that is needed, none changes what a task or a region is, and what these have come to is never undone.
+use Rattle.std.specs.Prelude.{◌≡◌, ◌≤◌, ◌⊎◌, ℕ, List, true, slice_get, slice_index, length, Some}
 use Rattle.omi_script.specs.declared.program.Program.{Program}
 use Rattle.omi_model.specs.declared.event.Event.{Event}
 use Rattle.omi_model.specs.declared.id.Tid.{Tid}
@@ -8,7 +8,7 @@ use Rattle.omi_model.specs.declared.progress.Progress.{Progress}
 use Rattle.omi_model.specs.declared.progress.Progress.TheVariants.{Deferred, NotBegun, Begun, Finished}
 use Rattle.omi_model.specs.declared.region.Region.{Region}
 use Rattle.omi_model.specs.declared.task.Task.{Task}
-use Rattle.omi_model.specs.Reached.{Leads, Reached}
+use Rattle.omi_model.specs.Reached.{Leads, Reached, Step}
 use Rattle.omi_model.specs.State.{State, region_of, task_of}
 
 -- how far a task has come: it waits to run, runs, or is over
@@ -45,16 +45,37 @@ pub record IsSameRegion (r q : Region) : Type 0 where
   pub ended : (j : ℕ) → slice_get r.ended j ≡ Some true → slice_get q.ended j ≡ Some true
   pub joined : r.joined ≡ true → q.joined ≡ true
 
--- a state and a later one
+-- A task that no event takes away from a state: an implicit task, one that is not finished, or the generating task of a live task. What is left is a finished explicit task without a live child.
+abbrev pub IsNeeded : State → Tid → Task → Type 0
+IsNeeded s k t = (t.implicit ≡ true) ⊎ ((t.progress ≡ Finished → ⊥)
+    ⊎ ((n : Tid) × (v : Task) × (task_of s n ≡ Some v) × (v.generating ≡ Some k)))
+
+-- A state and the one behind an event: tasks that are needed stay, and so do regions; a task that lives in both states is the same.
 pub record Stays (s u : State) : Type 0 where
-  pub tasks : (k : Tid) (t : Task) → task_of s k ≡ Some t
+  pub tasks : (k : Tid) (t : Task) → task_of s k ≡ Some t → IsNeeded s k t
       → (v : Task) × (task_of u k ≡ Some v) × IsSameTask t v
+  pub alike : (k : Tid) (t v : Task) → task_of s k ≡ Some t → task_of u k ≡ Some v → IsSameTask t v
   pub regions : (n : Rid) (r : Region) → region_of s n ≡ Some r
       → (q : Region) × (region_of u n ≡ Some q) × IsSameRegion r q
   pub begun : (i : ℕ) → (s.threads i).begun ≡ true → (u.threads i).begun ≡ true
   pub count : u.count ≡ s.count
 
+-- A state and one that any events lead to: implicit tasks stay, and so do regions; a task that lives in both states is the same.
+pub record StaysOver (s u : State) : Type 0 where
+  pub implicit : (k : Tid) (t : Task) → task_of s k ≡ Some t → t.implicit ≡ true
+      → (v : Task) × (task_of u k ≡ Some v) × IsSameTask t v
+  pub alike : (k : Tid) (t v : Task) → task_of s k ≡ Some t → task_of u k ≡ Some v → IsSameTask t v
+  pub regions : (n : Rid) (r : Region) → region_of s n ≡ Some r
+      → (q : Region) × (region_of u n ≡ Some q) × IsSameRegion r q
+  pub begun : (i : ℕ) → (s.threads i).begun ≡ true → (u.threads i).begun ≡ true
+  pub count : u.count ≡ s.count
+
+-- whatever event a reached state allows
+abbrev pub StayOverAnEvent : Type 0
+StayOverAnEvent = (p : Program) (first : List (ℕ × Event)) (s : State) (i : ℕ) (e : Event)
+    (next : State) → Reached p first s → Step p s i e next → Stays s next
+
 -- whatever events lead from a reached state to another one
 abbrev pub Stay : Type 0
 Stay = (p : Program) (first more : List (ℕ × Event)) (s u : State) → Reached p first s
-    → Leads p s more u → Stays s u
+    → Leads p s more u → StaysOver s u

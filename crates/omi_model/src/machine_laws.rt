@@ -20,13 +20,15 @@ ghost use Rattle.omi_model.specs.LawOrder.{BarriersAreInOrder};
 ghost use Rattle.omi_model.specs.LawProgress.{MembersAreInStep};
 ghost use Rattle.omi_model.specs.LawRun.{RunIsLegal};
 ghost use Rattle.omi_model.specs.LawScheduling.{SchedulingIsRight, StartsAreConstrained};
-ghost use Rattle.omi_model.specs.LawStays.{Stay};
+ghost use Rattle.omi_model.specs.LawStays.{Stay, StayOverAnEvent};
 ghost use Rattle.omi_model.specs.LawWellFormed.{ReachedIsWellFormed};
 
 /// Tasks and regions stay what they are: whatever events follow, the parts that say what a task or a region is keep their
-/// values, and no arrival, release, start or end is undone.
+/// values while it lives, and no arrival, release, start or end is undone. No event takes away a region, an implicit task, a
+/// task that isn't finished, or the generating task of a live task.
 pub fn what_stays()
-    ensures { Stay }
+    ensures event { StayOverAnEvent }
+    ensures later { Stay }
 {}
 
 /// Each task and each region that a thread, a task or a region names is live, and a member of a team is an implicit task of

@@ -23,12 +23,14 @@ use Rattle.omi_model.specs.Reached.{Reached, Step}
 use Rattle.omi_model.specs.Rows.{barrier_items, behind, body_items, call_items, first_of, function_items, last_of_member, main_items, member_items, task_items, shown, working}
 use Rattle.omi_model.specs.State.{State, region_of, task_of}
 use Rattle.omi_model.specs.Tasking.{deferred_task, scheduled}
-use Rattle.omi_model.proofs.EachObject.{EachTask, IsTaskLaw, list_of_current, over_events, start_list, stays_after, task_step_from}
+use Rattle.omi_model.proofs.ChainsKept.{current_begun}
+use Rattle.omi_model.proofs.EachObject.{EachTask, IsTaskLaw, list_of_current, start_list, stays_after, task_step_from}
 use Rattle.omi_model.proofs.ListLaws.{take_keeps}
 use Rattle.omi_model.proofs.members.Lineages.{have_lineage}
 use Rattle.omi_model.proofs.OpeningObjects.{each_first_task}
 use Rattle.omi_model.proofs.Slots.{false_true, some_same}
-use Rattle.omi_model.proofs.StaysKept.{stays_step}
+use Rattle.omi_model.proofs.ReachedStates.{over_reached}
+use Rattle.omi_model.proofs.StaysKept.{needed_begun, needed_generating, stays_step}
 use Rattle.omi_model.proofs.Steps.{IsMove, is_relisted, move_of, moved_on}
 use Rattle.omi_rule.specs.Descends.{TasksDescend}
 use Rattle.omi_rule.proofs.MemberFunctions.{member_function}
@@ -168,8 +170,8 @@ IsUnder s t =
 abbrev Descends : State → Tid → Task → Type 0
 Descends s k t = Below t.function t.list × IsUnder s t
 
-module _ (p : Program) (s : State) (i : ℕ) (e : Event) (next : State) (step : Step p s i e next)
-    (all : EachTask (Descends s) s) where
+module _ (p : Program) (events : List (ℕ × Event)) (s : State) (reached : Reached p events s) (i : ℕ)
+    (e : Event) (next : State) (step : Step p s i e next) (all : EachTask (Descends s) s) where
   move : IsMove p s i e next
   move = move_of p s i e next step
 
@@ -188,17 +190,23 @@ module _ (p : Program) (s : State) (i : ℕ) (e : Event) (next : State) (step : 
       subst (λ (f : ℕ). Below f (move.item ∷ move.behind)) (sym (ap (λ (x : Task). x.function) same))
       (taken_below k v (record { name = sym (before.currents i) ∙ is.name; live = live }))
 
-  still_under : (t : Task) → IsUnder s t → IsUnder next t
-  still_under t under ex =
+  still_under : (k : Tid) (t : Task) → task_of s k ≡ Some t → IsUnder s t → IsUnder next t
+  still_under k t lives under ex =
       let (g, u, by, live, less) = under ex in
-      let (v, later, same) = (stays_step p s i e next step).tasks g u live in
+      let (v, later, same) =
+      (stays_step p s i e next step).tasks g u live (needed_generating s k t lives g u by) in
       (g, v, by, later, (let one : v.function ≡ u.function = same.function in omega arith))
 
   -- a task that the current one makes
   made_under : (k : Tid) (t new : Task) → IsCurrent (moved_on s i e move.item move.behind) i k t
       → new.generating ≡ Some k → new.function < t.function → IsUnder next new
   made_under k t new is by less ex =
-      let (v, later, same) = (stays_after p s i e next move).tasks k t is.live in
+      let before = is_relisted s i (stays (encounter s i) e move.item move.behind) in
+      let (u, xs, live, moved) = before.tasks k t is.live in
+      let begun = (current_begun p events s reached i k u (sym (before.currents i) ∙ is.name) live).0 in
+      let (v, later, same) =
+      (stays_after p s i e next move).tasks k t is.live
+      (needed_begun (moved_on s i e move.item move.behind) k t (ap (λ (x : Task). x.progress) moved ∙ begun)) in
       (k, v, by, later, (let one : v.function ≡ t.function = same.function in omega arith))
 
   made_below : (f : ℕ) (final : Bool) (k : Tid) (t : Task)
@@ -226,14 +234,15 @@ module _ (p : Program) (s : State) (i : ℕ) (e : Event) (next : State) (step : 
 
   descend_step : EachTask (Descends next) next
   descend_step = task_step_from p (Descends s) (Descends next) s i e next move
-      (λ k t is taken h. (stays_below t.function (encounter s i) e move.item move.behind (taken_below k t is), still_under t h.1))
-      (λ k t ne live h. (h.0, still_under t h.1)) descend_law all
+      (λ k t is taken h. (stays_below t.function (encounter s i) e move.item move.behind (taken_below k t is), still_under k t is.live h.1))
+      (λ k t ne live h. (h.0, still_under k t live h.1)) descend_law all
 
 descended : (p : Program) (events : List (ℕ × Event)) (s : State) → Reached p events s
     → EachTask (Descends s) s
 descended p events s reached =
-    over_events p (λ z. EachTask (Descends z) z) (λ z i e next step h. descend_step p z i e next step h)
-    (opening p) events s reached
+    over_reached p (λ z. EachTask (Descends z) z)
+    (λ first z first_reached i e next step h. descend_step p first z first_reached i e next step h) []
+    (opening p) refl events s reached
     (each_first_task p (Descends (opening p)) (main_below p (record { debug = p.env.debug; number = 0; level = 0; is_final = false }), λ ex. absurd (false_true (sym ex))))
 
 -- the task that made an explicit task

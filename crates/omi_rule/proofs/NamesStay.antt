@@ -1,5 +1,5 @@
 -- A name that was made stays the name of one task: an event makes no task under it, and leaves its function, flags, region and generating task.
-use Rattle.std.proofs.Common.{◌≡◌, ◌<◌, ◌≤◌, ◌+◌, ℕ, ◌⊎◌, inl, inr, Bool, List, [], ◌∷◌, Option, Some, None, refl, sym, ap, ◌∙◌, subst, arith, if◌then◌else◌, eq-eqb}
+use Rattle.std.proofs.Common.{◌≡◌, ◌<◌, ◌≤◌, ◌+◌, ℕ, ◌⊎◌, inl, inr, Bool, false, List, [], ◌∷◌, Option, Some, None, refl, sym, ap, ◌∙◌, subst, arith, if◌then◌else◌, eq-eqb}
 use Rattle.std.specs.Prelude.{IfSome}
 use Rattle.omi_script.specs.declared.program.Program.{Program}
 use Rattle.omi_model.specs.declared.event.Event.{Event}
@@ -8,18 +8,19 @@ use Rattle.omi_model.specs.declared.id.Id.{Id}
 use Rattle.omi_model.specs.declared.id.Tid.{Tid}
 use Rattle.omi_model.specs.declared.item.Item.{Item}
 use Rattle.omi_model.specs.declared.item.Item.TheVariants as item
+use Rattle.omi_model.specs.declared.progress.Progress.TheVariants.{Finished}
 use Rattle.omi_model.specs.declared.slot.Slot.{Slot}
 use Rattle.omi_model.specs.declared.task.Task.{Task}
 use Rattle.omi_model.specs.Fresh.{IsFresh}
-use Rattle.omi_model.specs.LawStays.{Stays}
+use Rattle.omi_model.specs.LawStays.{IsSameTask, Stays}
 use Rattle.omi_model.specs.Put.{Slots, made, named}
 use Rattle.omi_model.specs.Reached.{Step}
 use Rattle.omi_model.specs.Rules.{Rule, effect}
-use Rattle.omi_model.specs.State.{State}
+use Rattle.omi_model.specs.State.{State, task_of}
 use Rattle.omi_model.specs.Tasking.{deferred, deferred_task, scheduled, started_now}
 use Rattle.omi_model.specs.Teams.{MayFork, forked, member_task, with_members}
 use Rattle.omi_model.proofs.Slots.{each_slot, found_live, made_other, none_some}
-use Rattle.omi_model.proofs.StaysKept.{AreNew, new_team, stays_same, stays_step}
+use Rattle.omi_model.proofs.StaysKept.{AreNew, new_team, same_task, stays_same, stays_step, stays_whole}
 use Rattle.omi_model.proofs.Steps.{from_some, move_of, moved_on, of_current, of_region}
 use Rattle.omi_rule_words.proofs.Shown.{found_generations}
 use Rattle.omi_rule.proofs.NothingNew.{IsNoneNew, Makes, list_new, nothing_new}
@@ -123,14 +124,20 @@ tasks_kept p s i e next step = go (makes_or_not e)
 
 -- ---- the whole
 
+-- explicit tasks that have finished live on
+abbrev pub HaveEnded : State → State → Type 0
+HaveEnded s u =
+    (k : Tid) (t : Task) → task_of s k ≡ Some t → t.implicit ≡ false → t.progress ≡ Finished → (v : Task) × (task_of u k ≡ Some v) × IsSameTask t v
+
 -- a state and a later one
 pub record NamesStay (s u : State) : Type 0 where
   pub stays : Stays s u
+  pub ended : HaveEnded s u
   pub tasks : AreKept s.tasks u.tasks
 
 pub names_same : (s : State) → NamesStay s s
-names_same s = record { stays = stays_same s; tasks = kept_same s.tasks }
+names_same s = record { stays = stays_same s; ended = λ k t live ex over. (t, live, same_task t); tasks = kept_same s.tasks }
 
 pub names_step : (p : Program) (s : State) (i : ℕ) (e : Event) (next : State) → Step p s i e next
     → NamesStay s next
-names_step p s i e next step = record { stays = stays_step p s i e next step; tasks = tasks_kept p s i e next step }
+names_step p s i e next step = record { stays = stays_step p s i e next step; ended = λ k t live ex over. stays_whole p s i e next step k t live; tasks = tasks_kept p s i e next step }

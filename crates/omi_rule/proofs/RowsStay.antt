@@ -302,8 +302,7 @@ module _ (p : Program) (w : List ℕ) (m n : Memory) (s u : State) (i : ℕ) (le
       → MayStartIn v a t
   may_stay v k made may t live =
       let (x, was) = names.tasks.back k.0 t made live in
-      let (y, later, same) = names.stays.tasks k x was in
-      subst (MayStartIn v a) (some_same later live) (may_stays v x y same (may x was))
+      may_stays v x t (names.stays.alike k x t was live) (may x was)
 
   tested_stays : (v : Wait) (code : ℕ) → HasTested w s a v code → HasTested w u a v code
   tested_stays (wait.Barrier b) code o = tt
@@ -323,13 +322,13 @@ module _ (p : Program) (w : List ℕ) (m n : Memory) (s u : State) (i : ℕ) (le
       → ((t x : Task) → IsSameTask t x → known t → known x) → StaysInHand k → IsInHand s a v k known
       → IsInHand u a v k known
   in_hand_stays v k known keeps (t, now, deferred) o =
-      let (x, later, same) = names.stays.tasks k o.task o.is.live in
+      let same = names.stays.alike k o.task t o.is.live now in
       record {
-        task = x;
-        is = record { live = later; explicit = same.implicit ∙ o.is.explicit; progress = ap (λ (y : Task). y.progress) (some_same later now) ∙ deferred };
+        task = t;
+        is = record { live = now; explicit = same.implicit ∙ o.is.explicit; progress = deferred };
         region = same.region ∙ o.region;
-        may = may_stays v o.task x same o.may;
-        knows = keeps o.task x same o.knows;
+        may = may_stays v o.task t same o.may;
+        knows = keeps o.task t same o.knows;
       }
 
   placed_stays : (v : Wait) (k : Tid) (f : ℕ) (final : Bool) (l : ℕ) → j < s.count → (owed a).hand ≡ Some k
@@ -401,7 +400,7 @@ module _ (p : Program) (w : List ℕ) (m n : Memory) (s u : State) (i : ℕ) (le
 
   ended_stays : (k : Tid) (known : Tid → Type 0) → HasEndedUnder s a k known → HasEndedUnder u a k known
   ended_stays k known o =
-      let (x, later, same) = names.stays.tasks k o.task o.live in
+      let (x, later, same) = names.ended k o.task o.live o.explicit o.progress in
       record {
         task = x;
         live = later;

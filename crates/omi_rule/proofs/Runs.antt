@@ -1,10 +1,8 @@
 -- The tasks of a stack run their functions: what moves between the bodies of a task, and what stays over every event.
-use Rattle.std.proofs.Common.{◌≡◌, ℕ, List, [], ◌∷◌, refl, sym, ap, ◌∙◌, subst}
+use Rattle.std.proofs.Common.{◌≡◌, ℕ, List, [], ◌∷◌, refl, sym, ◌∙◌, subst}
 use Rattle.omi_script.specs.declared.program.Program.{Program}
-use Rattle.omi_model.specs.declared.task.Task.{Task}
 use Rattle.omi_model.specs.LawStays.{Stays}
 use Rattle.omi_model.specs.State.{State}
-use Rattle.omi_model.proofs.Slots.{some_same}
 use Rattle.omi_pc.specs.declared.actor.Actor.{Actor}
 use Rattle.omi_pc.specs.declared.context.Context.{Context}
 use Rattle.omi_pc.specs.declared.frame.Frame.{Frame}
@@ -28,9 +26,7 @@ module _ (p : Program) (s u : State) (i : ℕ) (stays : Stays s u) where
       → RunsFunctions u c fs
   bodies_run c [] o runs = tt
   bodies_run c (f ∷ fs) (o, body, rest) (here, under) = (
-    λ opens t live.
-        let (v, later, same) = stays.tasks c.task o.task o.live in
-        ap (λ (x : Task). x.function) (some_same live later) ∙ same.function ∙ here opens o.task o.live,
+    λ opens t live. (stays.alike c.task o.task t o.live live).function ∙ here opens o.task o.live,
     bodies_run (context_under c f.opened) fs rest under,
   )
 

@@ -18,7 +18,7 @@ use Rattle.omi_model.specs.Rules as Rules
 use Rattle.omi_model.specs.State.{State, task_of}
 use Rattle.omi_model.proofs.EachThread.{EachThread, IsThreadLaw, thread_step_from}
 use Rattle.omi_model.proofs.OpeningObjects.{each_first_thread}
-use Rattle.omi_model.proofs.SchedulingChains.{over_reached}
+use Rattle.omi_model.proofs.ReachedStates.{over_reached}
 use Rattle.omi_model.proofs.Slots.{none_some, some_same}
 use Rattle.omi_model.proofs.Steps.{IsMove, move_of, moved_on}
 use Rattle.omi_model.proofs.claims.ClaimLaws.{claims_kept}

@@ -30,9 +30,9 @@ use Rattle.omi_model.proofs.EachObject.{EachTask, IsTaskLaw, list_of_current, ta
 use Rattle.omi_model.proofs.ListLaws.{take_fits}
 use Rattle.omi_model.proofs.NamesLive.{names_live}
 use Rattle.omi_model.proofs.OpeningObjects.{each_first_task}
-use Rattle.omi_model.proofs.SchedulingChains.{over_reached}
+use Rattle.omi_model.proofs.ReachedStates.{over_reached}
 use Rattle.omi_model.proofs.Slots.{each_put, false_true, found_live, none_some, put_same, some_same}
-use Rattle.omi_model.proofs.StaysKept.{fresh_empty, stays_list}
+use Rattle.omi_model.proofs.StaysKept.{fresh_empty, list_keeps}
 use Rattle.omi_model.proofs.Steps.{IsMove, IsRelisted, from_some, is_relisted, move_of, moved_on}
 use Rattle.omi_model.proofs.claims.WorkerLists.{have_places, taken_at}
 
@@ -93,7 +93,7 @@ pub new_name : (s : State) (i : ℕ) (zs : List Item) (n : Tid) (v : Task)
     → IsFresh (with_list s i zs).tasks i n.0 → task_of s n ≡ Some v → ⊥
 new_name s i zs n v fresh found =
     let next : State = with_list s i zs in
-    let (w, found_w, same) = (stays_list s i zs).tasks n v found in
+    let (w, found_w, same) = list_keeps s i zs n v found in
     none_some (fresh_empty next.tasks i n.0 fresh)
     (found_live n.0.generation (next.tasks n.0.creator n.0.slot) w found_w)
 

@@ -30,7 +30,7 @@ use Rattle.omi_model.proofs.EachThread.{EachThread}
 use Rattle.omi_model.proofs.claims.FirstThread.{HasTask, RunsElsewhere, first_step}
 use Rattle.omi_model.proofs.ListLaws.{take_fits}
 use Rattle.omi_model.proofs.OpeningObjects.{each_first_task, each_first_thread}
-use Rattle.omi_model.proofs.SchedulingChains.{over_reached}
+use Rattle.omi_model.proofs.ReachedStates.{over_reached}
 use Rattle.omi_model.proofs.Slots.{false_true, none_some}
 use Rattle.omi_model.proofs.Steps.{IsRelisted, move_of}
 use Rattle.omi_model.proofs.claims.WorkerLists.{have_places, offer_waits, waits_by}

@@ -29,7 +29,7 @@ use Rattle.omi_model.proofs.EachObject.{EachTask, IsTaskLaw, members_found, task
 use Rattle.omi_model.proofs.EachThread.{EachThread, IsThreadLaw, of_lists, thread_step}
 use Rattle.omi_model.proofs.ListLaws.{take_fits}
 use Rattle.omi_model.proofs.Slots.{false_true, put_other, put_same, some_same}
-use Rattle.omi_model.proofs.StaysKept.{new_team, stays_step}
+use Rattle.omi_model.proofs.StaysKept.{needed_waiting, new_team, stays_step}
 use Rattle.omi_model.proofs.Steps.{IsMove, IsRelisted, from_some, is_relisted, move_of, moved_on, of_region}
 
 -- ---- events by their items
@@ -390,6 +390,6 @@ module _ (p : Program) (events : List (ℕ × Event)) (s : State) (reached : Rea
 
   pub meant_after : (k : Tid) (w : ℕ) → w ≢ i → IsMeantFor s k w → IsMeantFor next k w
   meant_after k w ne is =
-      let (t, live, same) = (stays_step p s i e next step).tasks k is.task is.live in
+      let (t, live, same) = (stays_step p s i e next step).tasks k is.task is.live (needed_waiting s k is.task is.waiting) in
       let (waits, thread) = still_meant k t live is.task is.live is.waiting (λ h. ne (sym is.thread ∙ h)) in
       record { task = t; live = live; waiting = waits; thread = thread ∙ is.thread }

@@ -30,7 +30,7 @@ use Rattle.omi_model.proofs.ChainsKept.{current_begun, current_kept}
 use Rattle.omi_model.proofs.claims.ClaimSteps.{ClaimIs, IsNewFor, ask_adds, ask_claims, asking_item, asks_after, begin_names, by_ask, by_claimed, by_fork, by_serve, by_want, claim_after, fork_item, forking_item_of, had_task, item_fits, list_kept, meant_after, meant_before, new_meant, want_empties}
 use Rattle.omi_model.proofs.EachObject.{EachTask}
 use Rattle.omi_model.proofs.claims.FirstThread.{RunsElsewhere}
-use Rattle.omi_model.proofs.SchedulingChains.{leads_on}
+use Rattle.omi_model.proofs.ReachedStates.{leads_on}
 use Rattle.omi_model.proofs.Slots.{false_true, none_some, some_same}
 use Rattle.omi_model.proofs.Steps.{IsMove, move_of}
 use Rattle.omi_model.proofs.claims.WorkerLists.{have_places, offer_waits, serves_only, taken_at}

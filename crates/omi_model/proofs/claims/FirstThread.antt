@@ -27,7 +27,7 @@ use Rattle.omi_model.proofs.EachThread.{EachThread, IsThreadLaw, thread_step}
 use Rattle.omi_model.proofs.ListLaws.{take_fits}
 use Rattle.omi_model.proofs.MembersKnown.{members_known}
 use Rattle.omi_model.proofs.OpeningObjects.{each_first_task}
-use Rattle.omi_model.proofs.SchedulingChains.{over_reached}
+use Rattle.omi_model.proofs.ReachedStates.{over_reached}
 use Rattle.omi_model.proofs.Slots.{false_true}
 use Rattle.omi_model.proofs.Steps.{IsMove, IsRelisted, move_of}
 

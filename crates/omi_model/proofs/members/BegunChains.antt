@@ -37,7 +37,9 @@ use Rattle.omi_model.proofs.members.MemberEnds.{ends_as_finished, over_finished}
 use Rattle.omi_model.proofs.MembersKnown.{members_known}
 use Rattle.omi_model.proofs.NamesLive.{names_live}
 use Rattle.omi_model.proofs.OpeningObjects.{each_first_task}
-use Rattle.omi_model.proofs.SchedulingChains.{chain_stays, over_reached}
+use Rattle.omi_model.proofs.NeededTasks.{needed_current, needed_scheduling}
+use Rattle.omi_model.proofs.ReachedStates.{over_reached}
+use Rattle.omi_model.proofs.SchedulingChains.{chain_stays}
 use Rattle.omi_model.proofs.Slots.{false_true, none_some, put_same, same_or_not, some_same}
 use Rattle.omi_model.proofs.StaysKept.{stays_step}
 use Rattle.omi_model.proofs.Steps.{IsMove, IsRelisted, from_some, is_relisted, move_of, moved_on, of_current, of_region, relisted}
@@ -237,8 +239,9 @@ module _ (p : Program) (events : List (ℕ × Event)) (s : State) (reached : Rea
       same_along : (n j : ℕ)
           → along (scheduling_of next) n (s.threads j).current ≡ along (scheduling_of s) n (s.threads j).current
       same_along n j =
-          chain_stays s next stay (names_live p events s reached) n (s.threads j).current
+          chain_stays p events s reached next stay n (s.threads j).current
           (names_of (s.threads j).current j refl)
+          (λ a x is live. needed_current p events s reached j a x is live)
 
       own : (n : ℕ) → along (scheduling_of s) n (s.threads i).current ≡ Some k
           → Moves (next.threads i).current → IsOnChain next i k
@@ -253,7 +256,7 @@ module _ (p : Program) (events : List (ℕ × Event)) (s : State) (reached : Rea
           let was : along (scheduling_of s) n (next.threads i).current ≡ Some k =
           ap (along (scheduling_of s) n) (sym pop.under)
           ∙ (ap (λ (o : Option Tid). along (scheduling_of s) (suc n) o) (sym pop.was) ∙ h) in
-          (n, chain_stays s next stay (names_live p events s reached) n (next.threads i).current (λ a is. ((names_live p events s reached).tasks pop.top v live_v).scheduling a (under ∙ is)) ∙ was)
+          (n, chain_stays p events s reached next stay n (next.threads i).current (λ a is. ((names_live p events s reached).tasks pop.top v live_v).scheduling a (under ∙ is)) (λ a x is live. needed_scheduling p events s reached pop.top v live_v a x (under ∙ is) live) ∙ was)
       own n h (inr (inr (inr none))) =
           absurd (none_some (ap (along (scheduling_of s) n) none ∙ along_none s n) h)
 

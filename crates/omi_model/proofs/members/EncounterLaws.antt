@@ -14,8 +14,8 @@ use Rattle.omi_model.specs.Reached.{Reached}
 use Rattle.omi_model.specs.State.{State, region_of, task_of}
 use Rattle.omi_model.proofs.members.BegunChains.{scheduling_begun}
 use Rattle.omi_model.proofs.members.Encounters.{are_made}
-use Rattle.omi_model.proofs.members.MembersInStep.{first_at, members_in_step}
-use Rattle.omi_model.proofs.MembersKnown.{members_known}
+use Rattle.omi_model.proofs.members.MembersInStep.{members_in_step}
+use Rattle.omi_model.proofs.MembersKnown.{first_at, members_known}
 use Rattle.omi_model.proofs.NamesLive.{names_live}
 use Rattle.omi_model.proofs.ReachedWellFormed.{visible_region}
 use Rattle.omi_model.proofs.RegionEnds.{rests}

@@ -26,8 +26,10 @@ use Rattle.omi_model.proofs.ChainsKept.{current_begun}
 use Rattle.omi_model.proofs.EachObject.{EachRegion, EachTask, IsRegionLaw, IsTaskLaw, region_step, task_step}
 use Rattle.omi_model.proofs.members.Lineages.{have_lines, was}
 use Rattle.omi_model.proofs.MembersKnown.{members_known}
+use Rattle.omi_model.proofs.NamesLive.{names_live}
+use Rattle.omi_model.proofs.NeededTasks.{needed_current, needed_encountering}
 use Rattle.omi_model.proofs.OpeningObjects.{each_first_region, each_first_task}
-use Rattle.omi_model.proofs.SchedulingChains.{over_reached}
+use Rattle.omi_model.proofs.ReachedStates.{over_reached}
 use Rattle.omi_model.proofs.Slots.{false_true, none_some, some_same}
 use Rattle.omi_model.proofs.StaysKept.{stays_step}
 use Rattle.omi_model.proofs.Steps.{IsRelisted}
@@ -112,7 +114,7 @@ module _ (p : Program) (events : List (ℕ × Event)) (s : State) (reached : Rea
 
   met_step : EachRegion (IsMetBy next) next
   met_step = region_step p (IsMetBy next) s i e next step law
-      (λ n r live k met. let (t, found, un, thread, enclosing) = all.met n r live k met in let (v, found_v, kept) = stay.tasks k t found in (v, found_v, kept.started un, kept.thread un ∙ thread, enclosing ∙ ap (λ (x : Rid). Some x) (sym kept.region)))
+      (λ n r live k met. let (t, found, un, thread, enclosing) = all.met n r live k met in let (v, found_v, kept) = stay.tasks k t found (needed_encountering p events s reached n r live ((names_live p events s reached).regions n r live) k t met) in (v, found_v, kept.started un, kept.thread un ∙ thread, enclosing ∙ ap (λ (x : Rid). Some x) (sym kept.region)))
     where
       law : (middle : State) → IsRelisted s middle → Stays middle next
           → IsRegionLaw p middle i next (IsMetBy next)
@@ -123,7 +125,7 @@ module _ (p : Program) (events : List (ℕ × Event)) (s : State) (reached : Rea
         joins = λ k t r is found may q. q;
         forks = λ region team f k t r is found may new n met.
             let (v, xs, cur, same) = was p events s reached i e next step middle before k t is in
-            let (u, found_u, kept) = stay.tasks k v cur.live in
+            let (u, found_u, kept) = stay.tasks k v cur.live (needed_current p events s reached i k v cur.name cur.live) in
             let runs = current_begun p events s reached i k v cur.name cur.live in
             let un : v.progress ≡ Deferred → ⊥ = λ d. begun_deferred (sym runs.0 ∙ d) in
             let one : k ≡ n = some_same refl met in (

@@ -11,7 +11,7 @@ use Rattle.omi_model.specs.declared.progress.Progress.TheVariants.{Begun, Deferr
 use Rattle.omi_model.specs.declared.task.Task.{Task}
 use Rattle.omi_model.specs.Changes.{IsCurrent}
 use Rattle.omi_model.specs.LawLineage.{HasLineage, IsLineage, IsMemberOn}
-use Rattle.omi_model.specs.LawStays.{Stays, stage_of}
+use Rattle.omi_model.specs.LawStays.{IsNeeded, Stays, stage_of}
 use Rattle.omi_model.specs.Opening.{opening}
 use Rattle.omi_model.specs.Reached.{Reached, Step}
 use Rattle.omi_model.specs.State.{State, task_of}
@@ -21,10 +21,12 @@ use Rattle.omi_model.proofs.claims.AsksOrder.{map_at}
 use Rattle.omi_model.proofs.ChainsKept.{current_begun}
 use Rattle.omi_model.proofs.EachObject.{EachTask, IsTaskLaw, task_step}
 use Rattle.omi_model.proofs.claims.FirstThread.{have_scheduling}
+use Rattle.omi_model.proofs.NeededTasks.{needed_current, needed_scheduling}
 use Rattle.omi_model.proofs.OpeningObjects.{each_first_task}
-use Rattle.omi_model.proofs.SchedulingChains.{over_reached, scheduling_right}
+use Rattle.omi_model.proofs.ReachedStates.{over_reached}
+use Rattle.omi_model.proofs.SchedulingChains.{scheduling_right}
 use Rattle.omi_model.proofs.Slots.{false_true, none_some, some_same}
-use Rattle.omi_model.proofs.StaysKept.{stays_step}
+use Rattle.omi_model.proofs.StaysKept.{needed_generating, stays_step}
 use Rattle.omi_model.proofs.Steps.{IsRelisted}
 
 -- ---- chains of generating tasks
@@ -43,12 +45,13 @@ started_later NotBegun b less h = absurd h
 
 lineage_later : (s u : State) → Stays s u
     → (implicit : Bool) (region : Rid) (generating : Option Tid) (gs : List Tid)
+    → ((n : Tid) (v : Task) → generating ≡ Some n → IsNeeded s n v)
     → IsLineage s implicit region generating gs → IsLineage u implicit region generating gs
-lineage_later s u stay implicit region generating [] h = h
-lineage_later s u stay implicit region generating (g ∷ gs) (explicit, t, is, live, here, started, rest) =
-    let (v, found, same) = stay.tasks g t live in
+lineage_later s u stay implicit region generating [] need h = h
+lineage_later s u stay implicit region generating (g ∷ gs) need (explicit, t, is, live, here, started, rest) =
+    let (v, found, same) = stay.tasks g t live (need g t is) in
     let on : IsLineage u t.implicit t.region t.generating gs =
-    lineage_later s u stay t.implicit t.region t.generating gs rest in
+    lineage_later s u stay t.implicit t.region t.generating gs (needed_generating s g t live) rest in
     let a : IsLineage u v.implicit t.region t.generating gs =
     subst (λ b. IsLineage u b t.region t.generating gs) (sym same.implicit) on in
     let b : IsLineage u v.implicit v.region t.generating gs =
@@ -91,10 +94,10 @@ module _ (p : Program) (events : List (ℕ × Event)) (s : State) (reached : Rea
   under all middle before k t is =
       let (v, xs, cur, same) = was middle before k t is in
       let (gs, chain) = all k v cur.live in
-      let (u, found, kept) = stay.tasks k v cur.live in
+      let (u, found, kept) = stay.tasks k v cur.live (needed_current p events s reached i k v cur.name cur.live) in
       let begun = (current_begun p events s reached i k v cur.name cur.live).0 in
       let line : IsLineage next v.implicit v.region v.generating gs =
-      lineage_later s next stay v.implicit v.region v.generating gs chain in
+      lineage_later s next stay v.implicit v.region v.generating gs (needed_generating s k v cur.live) chain in
       let a : IsLineage next u.implicit v.region v.generating gs =
       subst (λ b. IsLineage next b v.region v.generating gs) (sym kept.implicit) line in
       let b : IsLineage next u.implicit u.region v.generating gs =
@@ -106,7 +109,7 @@ module _ (p : Program) (events : List (ℕ × Event)) (s : State) (reached : Rea
   line_step : EachTask (HasLine s) s → EachTask (HasLine next) next
   line_step all =
       task_step p (HasLine next) s i e next step (λ k t y ys is taken q. q) law
-      (λ k t live. let (gs, chain) = all k t live in (gs, lineage_later s next stay t.implicit t.region t.generating gs chain))
+      (λ k t live. let (gs, chain) = all k t live in (gs, lineage_later s next stay t.implicit t.region t.generating gs (needed_generating s k t live) chain))
     where
       law : (middle : State) (y : Item) → IsRelisted s middle → Stays middle next
           → EachTask (HasLine next) middle → IsTaskLaw p middle i e y next (HasLine next)
@@ -127,14 +130,14 @@ module _ (p : Program) (events : List (ℕ × Event)) (s : State) (reached : Rea
       → (v : Task) × (task_of next k ≡ Some v) × (v.progress ≡ Deferred → ⊥) × (v.thread ≡ i)
   on_thread_of middle before k t is =
       let (v, xs, cur, same) = was middle before k t is in
-      let (u, found, kept) = stay.tasks k v cur.live in
+      let (u, found, kept) = stay.tasks k v cur.live (needed_current p events s reached i k v cur.name cur.live) in
       let runs = current_begun p events s reached i k v cur.name cur.live in
       let un : v.progress ≡ Deferred → ⊥ = λ d. begun_deferred (sym runs.0 ∙ d) in
       (u, found, kept.started un, kept.thread un ∙ runs.1)
 
   above_step : EachTask (RunsAbove s) s → EachTask (RunsAbove next) next
   above_step all = task_step p (RunsAbove next) s i e next step (λ k t y ys is taken q. q) law
-      (λ k t live n is. let (v, found, un, same) = all k t live n is in let (u, found_u, kept) = stay.tasks n v found in (u, found_u, kept.started un, kept.thread un ∙ same))
+      (λ k t live n is. let (v, found, un, same) = all k t live n is in let (u, found_u, kept) = stay.tasks n v found (needed_scheduling p events s reached k t live n v is found) in (u, found_u, kept.started un, kept.thread un ∙ same))
     where
       law : (middle : State) (y : Item) → IsRelisted s middle → Stays middle next
           → EachTask (RunsAbove next) middle → IsTaskLaw p middle i e y next (RunsAbove next)

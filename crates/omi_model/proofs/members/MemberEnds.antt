@@ -27,7 +27,7 @@ use Rattle.omi_model.proofs.members.EndSteps.{EndsBy, IsAsOpen, region_ended}
 use Rattle.omi_model.proofs.MembersKnown.{members_known}
 use Rattle.omi_model.proofs.NamesLive.{names_live}
 use Rattle.omi_model.proofs.OpeningObjects.{each_first_task}
-use Rattle.omi_model.proofs.SchedulingChains.{over_reached}
+use Rattle.omi_model.proofs.ReachedStates.{over_reached}
 use Rattle.omi_model.proofs.Slots.{false_true, map_some, none_some, on_same, same_or_not, some_same}
 use Rattle.omi_model.proofs.Steps.{IsMove, IsRelisted, at_current, at_region, is_relisted, move_of, moved_on, relisted}
 

@@ -1,5 +1,5 @@
 -- How far the members of a region have come.
-use Rattle.std.proofs.Common.{◌≡◌, ◌≢◌, ◌<◌, ◌≤◌, ◌+◌, ◌⊎◌, inl, inr, ℕ, zero, suc, Bool, true, false, List, [], ◌∷◌, drop, length, get_or, replicate, slice_get, slice_index, Some, if◌then◌else◌, refl, sym, ap, ◌∙◌, subst, arith, eq-eqb, ne_eqb}
+use Rattle.std.proofs.Common.{◌≡◌, ◌≢◌, ◌<◌, ◌+◌, ◌⊎◌, inl, inr, ℕ, zero, suc, Bool, true, false, List, [], ◌∷◌, drop, length, get_or, replicate, slice_get, slice_index, Some, if◌then◌else◌, refl, sym, ap, ◌∙◌, subst, arith, eq-eqb, ne_eqb}
 use Rattle.std.specs.List.{All}
 use Rattle.std.proofs.lemmas.List.{get_or-set_other}
 use Rattle.std.proofs.lemmas.Bool.{cases_eq}
@@ -26,7 +26,7 @@ use Rattle.omi_model.proofs.EachObject.{EachRegion, IsRegionLaw, over_events, re
 use Rattle.omi_model.proofs.members.FirstLists.{first_lists}
 use Rattle.omi_model.proofs.JoinsLast.{joins_last}
 use Rattle.omi_model.proofs.members.MemberEnds.{ended_of, ends_as_finished, finished_is, is_finished}
-use Rattle.omi_model.proofs.MembersKnown.{members_known}
+use Rattle.omi_model.proofs.MembersKnown.{first_at, members_known}
 use Rattle.omi_model.proofs.NamesLive.{names_live}
 use Rattle.omi_model.proofs.OpeningObjects.{each_first_region}
 use Rattle.omi_model.proofs.RegionEnds.{outside_is}
@@ -96,10 +96,6 @@ unfinished q not = go (is_finished q) refl
     go : (b : Bool) → is_finished q ≡ b → is_finished q ≡ false
     go true is = absurd (not (finished_is q is))
     go false is = is
-
-pub first_at : {A : Type 0} (xs : List A) → 1 ≤ length xs → (x : A) × (slice_get xs 0 ≡ Some x)
-first_at [] some = absurd (omega (arith, some))
-first_at (x ∷ xs) some = (x, refl)
 
 module _ (p : Program) (events : List (ℕ × Event)) (s : State) (reached : Reached p events s) where
   module _ (k : Tid) (t : Task) (r : Region) (live : task_of s k ≡ Some t) (im : t.implicit ≡ true)

@@ -33,7 +33,7 @@ use Rattle.omi_model.proofs.ListLaws.{take_keeps}
 use Rattle.omi_model.proofs.members.ListOrder.{barriers_ordered}
 use Rattle.omi_model.proofs.MembersKnown.{members_known}
 use Rattle.omi_model.proofs.ReleaseAmong.{arrivals_near}
-use Rattle.omi_model.proofs.SchedulingChains.{leads_on}
+use Rattle.omi_model.proofs.ReachedStates.{leads_on}
 use Rattle.omi_model.proofs.Slots.{false_true, found_live, same_or_not, some_same}
 use Rattle.omi_model.proofs.StaysKept.{stays_step}
 use Rattle.omi_model.proofs.Steps.{IsMove, is_relisted, move_of, moved_on}
@@ -160,7 +160,7 @@ module _ (p : Program) (events : List (ℕ × Event)) (s : State) (reached : Rea
       → q.released ≡ r.released → ⊥
   none_arrives k t is im same q found_q set released =
       let (below, was) = member_arrived k t is.live im same in
-      let (v, live, alike) = (stays_step p s i e next step).tasks k t is.live in
+      let (v, live, alike) = (stays_step p s i e next step).tasks k t is.live (inl im) in
       let begun = (current_begun p events s reached i k t is.name is.live).0 in
       let region : v.region ≡ n = alike.region ∙ same in
       let place : v.number ≡ t.number = alike.number (λ d. cc (sym begun, d)) in

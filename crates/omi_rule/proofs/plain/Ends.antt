@@ -1,5 +1,5 @@
 -- The end of the program: thread 0 commits it, and makes the same step again from then on.
-use Rattle.std.proofs.Common.{lit<, ◌≡◌, ℕ, List, [], ◌∷◌, ◌++◌, Some, refl, sym, ap, ◌∙◌, subst}
+use Rattle.std.proofs.Common.{lit<, ◌≡◌, ℕ, List, [], ◌∷◌, ◌++◌, Some, refl, sym, ◌∙◌, subst}
 use Rattle.std.proofs.lemmas.List.Elements.{Contains-append_right}
 use Rattle.omi_script.specs.declared.program.Program.{Program}
 use Rattle.omi_model.specs.declared.event.Event.{Event}
@@ -10,7 +10,6 @@ use Rattle.omi_model.specs.declared.task.Task.{Task}
 use Rattle.omi_model.specs.Opening.{initial_task, opening, opening_task}
 use Rattle.omi_model.specs.Reached.{Reached}
 use Rattle.omi_model.specs.State.{State, task_of}
-use Rattle.omi_model.proofs.Slots.{some_same}
 use Rattle.omi_model.proofs.StaysKept.{stay}
 use Rattle.omi_layout.specs.Memory.{Memory, replace_at}
 use Rattle.omi_pc.specs.declared.actor.Actor.{Actor}
@@ -39,9 +38,7 @@ use Rattle.omi_rule.proofs.plain.Loads.{here, load_keeps, loads_native, native, 
 first_runs : (p : Program) (events : List (ℕ × Event)) (s : State) → Reached p events s → (t : Task)
     → task_of s initial_task ≡ Some t → t.thread ≡ 0
 first_runs p events s reached t live =
-    let (v, now, same) =
-    (stay p [] events (opening p) s refl reached).tasks initial_task (opening_task p) refl in
-    ap (λ (x : Task). x.thread) (some_same live now) ∙ same.thread (λ e. cc e)
+    ((stay p [] events (opening p) s refl reached).alike initial_task (opening_task p) t refl live).thread (λ e. cc e)
 
 module _ (p : Program) (w : List ℕ) (m : Memory) (events : List (ℕ × Event)) (s : State) (actors : ℕ → Actor)
     (i : ℕ) (before : Before p w m events s actors i) where

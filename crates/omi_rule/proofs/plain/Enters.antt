@@ -22,7 +22,7 @@ use Rattle.omi_model.specs.Rows.{behind, call_items, first_of}
 use Rattle.omi_model.specs.Settings as Settings
 use Rattle.omi_model.specs.State.{State}
 use Rattle.omi_model.proofs.members.ListOrder.{barriers_ordered}
-use Rattle.omi_model.proofs.SchedulingChains.{leads_on}
+use Rattle.omi_model.proofs.ReachedStates.{leads_on}
 use Rattle.omi_model.proofs.Steps.{at_current, relisted}
 use Rattle.omi_layout.specs.declared.field.Field.TheVariants.{TaskEnter}
 use Rattle.omi_layout.specs.Field.{tasks}

@@ -15,7 +15,7 @@ use Rattle.omi_model.specs.Opening.{opening}
 use Rattle.omi_model.specs.Reached.{Reached, Step}
 use Rattle.omi_model.specs.Rules.{Rule, effect, moved, taken_by}
 use Rattle.omi_model.specs.State.{State, task_of}
-use Rattle.omi_model.proofs.SchedulingChains.{over_reached}
+use Rattle.omi_model.proofs.ReachedStates.{over_reached}
 use Rattle.omi_model.proofs.Slots.{some_same}
 use Rattle.omi_model.proofs.Steps.{relisted}
 use Rattle.omi_layout.specs.Memory.{Memory}

@@ -22,7 +22,7 @@ use Rattle.omi_model.proofs.BarrierOrder.{and_left, and_right}
 use Rattle.omi_model.proofs.EachObject.{EachTask, IsTaskLaw, task_step}
 use Rattle.omi_model.proofs.NthreadsShortened.{set_nthreads}
 use Rattle.omi_model.proofs.OpeningObjects.{each_first_task}
-use Rattle.omi_model.proofs.SchedulingChains.{over_reached}
+use Rattle.omi_model.proofs.ReachedStates.{over_reached}
 use Rattle.omi_model.proofs.Slots.{false_true}
 use Rattle.omi_model.proofs.Steps.{IsRelisted}
 use Rattle.omi_model.proofs.TableItems.{IsItemRight}

@@ -27,7 +27,7 @@ use Rattle.omi_model.proofs.MembersKnown.{members_known}
 use Rattle.omi_model.proofs.Slots.{on_same, put_same, some_same}
 use Rattle.omi_model.proofs.Steps.{at_current, relisted}
 use Rattle.omi_model.specs.Opening.{opening}
-use Rattle.omi_model.proofs.SchedulingChains.{leads_on}
+use Rattle.omi_model.proofs.ReachedStates.{leads_on}
 use Rattle.omi_model.proofs.claims.ClaimLaws.{claims_kept}
 use Rattle.omi_model.proofs.TaskThreads.{are_manned}
 use Rattle.omi_model.proofs.members.MembersInStep.{members_in_step}

@@ -1,0 +1,140 @@
+-- The scheduling task of a task: its generating task, or an implicit task that lives.
+use Rattle.std.proofs.Common.{◌≡◌, ◌==◌, ◌⊎◌, inl, inr, ℕ, Bool, true, false, List, [], Option, Some, None, if◌then◌else◌, refl, sym, ap, ◌∙◌, subst}
+use Rattle.omi_script.specs.declared.program.Program.{Program}
+use Rattle.omi_model.specs.declared.event.Event.{Event}
+use Rattle.omi_model.specs.declared.event.Event.TheVariants as event
+use Rattle.omi_model.specs.declared.id.Tid.{Tid}
+use Rattle.omi_model.specs.declared.item.Item.{Item}
+use Rattle.omi_model.specs.declared.item.Item.TheVariants as item
+use Rattle.omi_model.specs.declared.task.Task.{Task}
+use Rattle.omi_model.specs.Changes.{IsCurrent, encounter}
+use Rattle.omi_model.specs.LawScheduling.{IsInBarrier}
+use Rattle.omi_model.specs.LawStays.{Stays}
+use Rattle.omi_model.specs.Lists.{fits, stays, take_item}
+use Rattle.omi_model.specs.Opening.{opening}
+use Rattle.omi_model.specs.Reached.{Reached, Step}
+use Rattle.omi_model.specs.State.{State, task_of}
+use Rattle.omi_model.specs.Tasking.{MayStartAt}
+use Rattle.omi_model.proofs.EachObject.{EachTask, IsTaskLaw, list_of_current, task_step_from}
+use Rattle.omi_model.proofs.ListLaws.{take_fits}
+use Rattle.omi_model.proofs.OpeningObjects.{each_first_task}
+use Rattle.omi_model.proofs.ReachedStates.{over_reached}
+use Rattle.omi_model.proofs.Scheduling.{at_item}
+use Rattle.omi_model.proofs.Slots.{false_true, none_some, some_same}
+use Rattle.omi_model.proofs.StaysKept.{stays_step}
+use Rattle.omi_model.proofs.Steps.{IsMove, IsRelisted, is_relisted, move_of, moved_on, relisted}
+
+-- the wait at which a task starts is taken by a start
+starts_only : (e : Event) (state : ℕ) → fits e (item.Tasks state) ≡ true
+    → (task : Tid) × (e ≡ event.Start task)
+starts_only (event.Start task) state fit = (task, refl)
+starts_only e state fit = absurd (false_true fit)
+
+-- a live implicit task
+abbrev pub IsLiveImplicit : State → Tid → Type 0
+IsLiveImplicit s k = (v : Task) × (task_of s k ≡ Some v) × (v.implicit ≡ true)
+
+abbrev pub IsScheduledFrom : State → Tid → Task → Type 0
+IsScheduledFrom s k t =
+    (n : Tid) → t.scheduling ≡ Some n → (t.generating ≡ Some n) ⊎ IsLiveImplicit s n
+
+-- a task was made by this one, or is of the region of this live implicit one
+abbrev pub IsStartedUnder : State → Tid → Task → Type 0
+IsStartedUnder s j u =
+    (u.generating ≡ Some j) ⊎ ((v : Task) × (task_of s j ≡ Some v) × (v.implicit ≡ true) × (v.region ≡ u.region))
+
+module _ (p : Program) (events : List (ℕ × Event)) (s : State) (reached : Reached p events s) (i : ℕ)
+    (e : Event) (next : State) (step : Step p s i e next) (m : IsMove p s i e next) where
+  abbrev middle : State
+  middle = moved_on s i e m.item m.behind
+
+  stay : Stays s next
+  stay = stays_step p s i e next step
+
+  before : IsRelisted s middle
+  before = is_relisted s i (stays (encounter s i) e m.item m.behind)
+
+  -- the current task, in the state before
+  pub was : (k : Tid) (t : Task) → IsCurrent middle i k t
+      → (v : Task) × (xs : List Item) × IsCurrent s i k v × (t ≡ relisted xs v)
+  was k t is =
+      let (v, xs, live, same) = before.tasks k t is.live in
+      let current : IsCurrent s i k v = record { name = sym (before.currents i) ∙ is.name; live = live } in (v, xs, current, same)
+
+  -- a task starts from this item under the current one
+  under : (x : Item) → m.item ≡ x → (k : Tid) (t : Task) → IsCurrent s i k t → (u : Task) → MayStartAt x k t u
+      → (u.generating ≡ Some k) ⊎ (IsInBarrier t × (u.region ≡ t.region))
+  under (item.Tasks state) of k t is u may =
+      let taken : take_item p (encounter s i) e t.list ≡ Some (item.Tasks state, m.behind) =
+      ap (take_item p (encounter s i) e) (sym (list_of_current s i k t is))
+      ∙ (m.taken ∙ ap (λ (y : Item). Some (y, m.behind)) of) in
+      let (task, starts) =
+      starts_only e state (take_fits p (encounter s i) e t.list (item.Tasks state) m.behind taken) in
+      at_item p events s reached (item.Tasks state) m.behind k t u i task
+      (subst (λ (x : Event). take_item p (encounter s i) x t.list ≡ Some (item.Tasks state, m.behind)) starts taken) is.live may
+  under item.OneTask of k t is u may = inl may
+  under x of k t is u may = absurd may
+
+  may_before : (x : Item) (j : Tid) (t v u : Task) (xs : List Item) → t ≡ relisted xs v → MayStartAt x j t u
+      → MayStartAt x j v u
+  may_before (item.Tasks state) j t v u xs same may =
+      subst (λ (y : Task). MayStartAt (item.Tasks state) j y u) same may
+  may_before item.OneTask j t v u xs same may = may
+  may_before x j t v u xs same may = absurd may
+
+  -- a task that starts is scheduled from its generating task, or from an implicit task of its region
+  pub starts_under : (x : Item) → m.item ≡ x → (j : Tid) (t : Task) → IsCurrent middle i j t → (u : Task)
+      → MayStartAt x j t u → IsStartedUnder next j u
+  starts_under x of j t is u may =
+      let (v, xs, current, same) = was j t is in
+      go v current (under x of j v current u (may_before x j t v u xs same may))
+    where
+      go : (v : Task) → IsCurrent s i j v → (u.generating ≡ Some j) ⊎ (IsInBarrier v × (u.region ≡ v.region))
+          → IsStartedUnder next j u
+      go v current (inl by) = inl by
+      go v current (inr (barrier, region)) =
+          let (w, found, kept) = stay.tasks j v current.live (inl barrier.implicit) in
+          inr (w, found, kept.implicit ∙ barrier.implicit, kept.region ∙ sym region)
+
+  from_current : (j : Tid) (u : Task) → IsStartedUnder next j u → (n : Tid) → ◌≡◌ {A = Option Tid} (Some j) (Some n) → (u.generating ≡ Some n) ⊎ IsLiveImplicit next n
+  from_current j u (inl by) n is = inl (by ∙ is)
+  from_current j u (inr (v, found, im, region)) n is =
+      inr (v, ap (task_of next) (sym (some_same refl is)) ∙ found, im)
+
+  from_law : EachTask (IsScheduledFrom next) middle
+      → IsTaskLaw p middle i e m.item next (IsScheduledFrom next)
+  from_law all = record {
+    shows = λ k t x q. q;
+    tools = λ k t x q. q;
+    sets = λ k t icv value v f at_set q. q;
+    begins = λ k t waits mine by q. q;
+    finishes = λ k t is over q. q;
+    starts = λ k u j t x is live ex de may of by q. from_current j u (starts_under x of j t is u may);
+    members = λ region team f k t r is found may new of by j n at. of_first (j == 0) k;
+    deferred = λ task f final seen k t is of fresh n from. absurd (none_some refl from);
+    made = λ task f final k t is of fresh by n from. inl from;
+  }
+    where
+      of_first : (b : Bool) (k n : Tid) → (if b then Some k else None) ≡ Some n
+          → (◌≡◌ {A = Option Tid} (Some k) (Some n)) ⊎ IsLiveImplicit next n
+      of_first true k n from = inl from
+      of_first false k n from = absurd (none_some refl from)
+
+  from_step : EachTask (IsScheduledFrom s) s → EachTask (IsScheduledFrom next) next
+  from_step all =
+      task_step_from p (IsScheduledFrom next) (IsScheduledFrom next) s i e next m (λ k t is taken q. q)
+      (λ k t ne live q. q) from_law (λ k t live n is. later t n (all k t live n is))
+    where
+      later : (t : Task) (n : Tid) → (t.generating ≡ Some n) ⊎ IsLiveImplicit s n
+          → (t.generating ≡ Some n) ⊎ IsLiveImplicit next n
+      later t n (inl by) = inl by
+      later t n (inr (v, found, im)) =
+          let (w, found_w, same) = stay.tasks n v found (inl im) in inr (w, found_w, same.implicit ∙ im)
+
+pub scheduled_from : (p : Program) (events : List (ℕ × Event)) (s : State) → Reached p events s
+    → EachTask (IsScheduledFrom s) s
+scheduled_from p events s reached =
+    over_reached p (λ v. EachTask (IsScheduledFrom v) v)
+    (λ first u first_reached i e next step h. from_step p first u first_reached i e next step (move_of p u i e next step) h) []
+    (opening p) refl events s reached
+    (each_first_task p (IsScheduledFrom (opening p)) (λ n from. absurd (none_some refl from)))
