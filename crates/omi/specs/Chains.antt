@@ -1,5 +1,5 @@
 -- What a step along a chain of regions or tasks answers, by what the inquiry for the next object does.
-use Rattle.std.specs.Prelude.{◌≡◌, ◌==◌, ℕ, ◌+◌, ◌≤◌, Bool, true, false, Option, Some, None, Result, Ok, Err}
+use Rattle.std.specs.Prelude.{◌≡◌, ◌==◌, ◌||◌, ◌⊎◌, ℕ, ◌+◌, ◌≤◌, Bool, true, false, Option, Some, None, Result, Ok, Err}
 use Rattle.std.specs.FinMap.{get}
 use Rattle.std.specs.Option.{option_map}
 use Rattle.std.specs.Ordering.{nat_cmp}
@@ -26,6 +26,21 @@ came_by chain address = contains nat_cmp chain.records address
 abbrev pub is_record_of : Option Held → ℕ → Bool
 is_record_of None address = false
 is_record_of (Some h) address = h.addr == address
+
+-- the chain came by the records of before, and by none else
+abbrev pub StaysBy : Chain → Chain → Type 0
+StaysBy old new = (address : ℕ) → came_by new address ≡ came_by old address
+
+-- the chain came by the records of before and by this object's, and by none else
+abbrev pub ComesBy : Chain → Chain → Option Held → Type 0
+ComesBy old new object =
+    (address : ℕ) → came_by new address ≡ (came_by old address || is_record_of object address)
+
+-- By which records the chain came after a step from an object: by its record too, whatever the answer is. Where memory ran out it may
+-- be that it came by none but those of before
+abbrev pub StepComesBy : {A : Type 0} → Chain → Chain → Option Held → Result A ChainError → Type 0
+StepComesBy old new object (Err (Refused NoMem)) = StaysBy old new ⊎ ComesBy old new object
+StepComesBy old new object answer = ComesBy old new object
 
 -- a step, by its handle's pair of key and serial
 abbrev pub as_step : {H : Type 0} → (H → ℕ × ℕ) → Result (Option H) ChainError

@@ -1,3 +1,4 @@
--- The definitions to believe: what an opened core is and why one isn't opened; and what a step along a chain answers.
+-- The definitions to believe: what an opened core is and why one isn't opened; what a step along a chain answers; and that a tool looked.
 pub mod Opened
 pub mod Chains
+pub mod Targets

@@ -1,6 +1,6 @@
 //! Chains of regions and of tasks, along which no record comes twice.
 
-ghost use Rattle.std.specs.Prelude.{◌≡◌, ◌||◌, ◌+◌, ◌-◌, ◌^◌, ◌<◌, ℕ, false, IfErr, OnOk, option_map};
+ghost use Rattle.std.specs.Prelude.{◌≡◌, ◌-◌, ◌^◌, ◌<◌, ℕ, false, IfErr, OnErr, OnOk, option_map};
 ghost use Rattle.std.specs.Prelude as prelude;
 ghost use Rattle.std.specs.FinMap.{get};
 ghost use Rattle.omi_ask.specs.Regions.{enclosing_region};
@@ -14,7 +14,7 @@ ghost use Rattle.omi_session.specs.Made.{IsMade, Makes, as_pair, region_pair, ta
 ghost use Rattle.omi_session.specs.Reads.{ReadsAtMost};
 ghost use Rattle.omi_session.specs.declared.rc.Rc.{Rc};
 ghost use Rattle.omi_session.specs.Opened.{Stays};
-ghost use Rattle.omi.specs.Chains.{IsCallbackError, IsStepTo, MakesStep, Steps, as_step, came_by, is_record_of};
+ghost use Rattle.omi.specs.Chains.{ComesBy, IsCallbackError, IsStepTo, MakesStep, StaysBy, StepComesBy, Steps, as_step, came_by};
 
 use omi_ask::get_enclosing_parallel_handle;
 use omi_asktask::{get_generating_task_handle, get_scheduling_task_handle};
@@ -25,7 +25,8 @@ use std::alloc::Global;
 use std::collections::BTreeSet;
 use thiserror::Error;
 
-/// The records by which a chain of regions or of tasks came so far.
+/// The records by which a chain of regions or of tasks came so far. A refused step counts as one: it may be tried again, as it comes by
+/// the same record.
 #[derive(Drop)]
 pub struct Chain {
     records: BTreeSet<u64>,
@@ -94,8 +95,8 @@ impl Chain {
         s: &Session<C, F>,
         pair: (u64, u64),
     ) -> Result<(), ChainError>
-        ensures added { OnOk result ((address : ℕ) → came_by self.new address
-            ≡ (came_by self.old address || is_record_of (get s.now.handles.held pair) address)) }
+        ensures added { OnOk result (ComesBy self.old self.new (get s.now.handles.held pair)) }
+        ensures kept { OnErr result (StaysBy self.old self.new) }
         ensures memory { IfErr result (λ e. e ≡ ChainError.Refused Rc.NoMem) }
     {
         let Some(held) = s.find(pair.0, pair.1) else {
@@ -147,9 +148,8 @@ impl Chain {
             (enclosing_region s.old.layout (get s.old.handles.held (region_pair r))) }
         ensures reads { ReadsAtMost C.told C.asked s.old s.new
             (enclosing_region s.old.layout (get s.old.handles.held (region_pair r))) }
-        ensures records { OnOk result ((address : ℕ) → came_by self.new address
-            ≡ (came_by self.old address
-            || is_record_of (get s.old.handles.held (region_pair r)) address)) }
+        ensures records { StepComesBy self.old self.new (get s.old.handles.held (region_pair r))
+            result }
         ensures handles { MakesStep Region s.old.handles s.new.handles (as_step region_pair result) }
         ensures stays { Stays C.told s.old s.new }
         ensures cause { HasCause (C.faults s.old.table.calls) (C.faults s.new.table.calls)
@@ -173,9 +173,8 @@ impl Chain {
             (scheduling_task s.old.layout (get s.old.handles.held (task_pair k))) }
         ensures reads { ReadsAtMost C.told C.asked s.old s.new
             (scheduling_task s.old.layout (get s.old.handles.held (task_pair k))) }
-        ensures records { OnOk result ((address : ℕ) → came_by self.new address
-            ≡ (came_by self.old address
-            || is_record_of (get s.old.handles.held (task_pair k)) address)) }
+        ensures records { StepComesBy self.old self.new (get s.old.handles.held (task_pair k))
+            result }
         ensures handles { MakesStep Task s.old.handles s.new.handles (as_step task_pair result) }
         ensures stays { Stays C.told s.old s.new }
         ensures cause { HasCause (C.faults s.old.table.calls) (C.faults s.new.table.calls)
@@ -199,9 +198,8 @@ impl Chain {
             (generating_task s.old.layout (get s.old.handles.held (task_pair k))) }
         ensures reads { ReadsAtMost C.told C.asked s.old s.new
             (generating_task s.old.layout (get s.old.handles.held (task_pair k))) }
-        ensures records { OnOk result ((address : ℕ) → came_by self.new address
-            ≡ (came_by self.old address
-            || is_record_of (get s.old.handles.held (task_pair k)) address)) }
+        ensures records { StepComesBy self.old self.new (get s.old.handles.held (task_pair k))
+            result }
         ensures handles { MakesStep Task s.old.handles s.new.handles (as_step task_pair result) }
         ensures stays { Stays C.told s.old s.new }
         ensures cause { HasCause (C.faults s.old.table.calls) (C.faults s.new.table.calls)

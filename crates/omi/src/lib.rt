@@ -5,6 +5,7 @@
 mod chain;
 pub mod limits;
 mod opened;
+mod tool;
 
 pub use chain::{Chain, ChainError};
 pub use omi_ask::{
@@ -39,4 +40,5 @@ pub use omi_session::{
 pub use omi_text::report_text;
 pub use omi_walk::{WalkFault, walk};
 pub use omi_word::Natives;
-pub use opened::{OpenCore, OpenError, Tool, look_into, open_core};
+pub use opened::{OpenCore, OpenError, open_core};
+pub use tool::{Tool, look_into};

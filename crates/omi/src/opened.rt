@@ -1,7 +1,6 @@
 //! From the name of a core's file to a session with the target.
 
 ghost use Rattle.std.specs.Prelude.{◌≡◌, List, ℕ, Option, Some, IfOk, IfErr};
-ghost use Rattle.std.specs.Int.{from_le_bytes, w64};
 ghost use Rattle.omi_calls.specs.CoreCalls.{told_of_core};
 ghost use Rattle.omi_calls.specs.Kept.{GivesNumbers, TakesAll};
 ghost use Rattle.omi_calls.specs.Memory.{told_by};
@@ -138,55 +137,4 @@ pub fn open_core<F: Files, H: ToHost>(
         Err(ReadError::Failed) => Err(OpenError::NotRead),
         Err(ReadError::OutOfMemory) => Err(OpenError::OutOfMemory),
     }
-}
-
-/// What a tool does with a target.
-pub trait Tool {
-    /// Asks the session what it wants to know. The threads are the native ids that the core names.
-    fn look<F: ToHost>(&mut self, session: &mut Session<CoreCalls, F>, threads: &Natives);
-}
-
-/// Opens the core in a file, and has a tool look into it.
-fn look_by<F: Files, H: ToHost, T: Tool>(
-    alloc: Global,
-    files: &mut F,
-    name: &str,
-    to_host: H,
-    tool: &mut T,
-) -> Result<(), OpenError>
-    requires takes { TakesAll (H.takes to_host) }
-    requires gives { GivesNumbers (H.gives to_host) 0 }
-    ensures refused { (content : Option (List ℕ)) → F.told files.old name.now ≡ Some content
-        → IfErr result (IsNotOpened content) }
-    ensures cause { HasCause (F.reads files.old) (F.reads files.new) (IsNotRead result) }
-    ensures same { F.told files.new ≡ F.told files.old }
-    ensures writes { F.writes files.new ≡ F.writes files.old }
-{
-    let mut target = open_core(alloc, files, name, to_host)?;
-    tool.look(&mut target.session, &target.threads);
-    Ok(())
-}
-
-/// Opens the core in a file, and has a tool look into the target whose words it holds.
-pub fn look_into<F: Files, T: Tool>(
-    alloc: Global,
-    files: &mut F,
-    name: &str,
-    tool: &mut T,
-) -> Result<(), OpenError>
-    ensures refused { (content : Option (List ℕ)) → F.told files.old name.now ≡ Some content
-        → IfErr result (IsNotOpened content) }
-    ensures cause { HasCause (F.reads files.old) (F.reads files.new) (IsNotRead result) }
-    ensures same { F.told files.new ≡ F.told files.old }
-    ensures writes { F.writes files.new ≡ F.writes files.old }
-{
-    look_by(
-        alloc,
-        files,
-        name,
-        |bytes: [u8; 8]| -> u64
-            ensures { result ≡ from_le_bytes w64 bytes }
-        { u64::from_le_bytes(bytes) },
-        tool,
-    )
 }

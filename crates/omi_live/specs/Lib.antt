@@ -7,6 +7,8 @@ pub mod Command
 pub mod Lines
 pub mod Run
 pub mod Answer
+-- What a gate is made with
+pub mod Gates
 -- The rule of the table of words, and what an operation on it tells a seat
 pub mod Running
 pub mod Plays

@@ -1,4 +1,7 @@
 // A gate at which all threads wait until each can be taken into a team.
+ghost use Rattle.std.specs.Prelude.{◌≡◌};
+ghost use Rattle.omi_live.specs.Gates.{turns_of};
+
 use omi_outside::Gate;
 use std::hint::spin_loop;
 use std::sync::atomic::AtomicU64;
@@ -28,8 +31,10 @@ pub struct StartGate {
 }
 
 impl StartGate {
-    /// A gate at which each thread waits for at most so many turns.
-    pub fn of(turns: u64) -> StartGate {
+    /// A gate at which each thread waits for at most so many turns. Whom it holds is counted anew where it is opened.
+    pub fn of(turns: u64) -> StartGate
+        ensures turns { turns_of result ≡ turns }
+    {
         StartGate {
             turns,
             awaited: AtomicU64::new(0),
@@ -62,10 +67,13 @@ impl StartGate {
 
 impl Gate for StartGate {
     fn open(&self, threads: u8, budget: u64) {
-        if budget >= OFFERED {
-            let others = u64::from(threads.saturating_sub(1));
-            self.awaited.store(others, SeqCst);
-        }
+        let others = if budget >= OFFERED {
+            u64::from(threads.saturating_sub(1))
+        } else {
+            0
+        };
+        self.offered.store(0, SeqCst);
+        self.awaited.store(others, SeqCst);
     }
 
     fn pass(&self, thread: u8, step: u64) {

@@ -5,6 +5,7 @@ pub mod Spans
 -- What an opening call answers beside what reading gives.
 pub mod Bounds
 pub mod Outcomes
+pub mod Left
 -- What is told, and what is kept of a file.
 pub mod Told
 pub mod Paging

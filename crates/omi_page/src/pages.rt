@@ -1,6 +1,6 @@
 //! A core file that is read on demand.
 
-ghost use Rattle.std.specs.Prelude.{◌≡◌, ◌≤◌, ◌+◌, List, ℕ, Some, None, IfOk, IsOk, IfErr, Err, length, vec_len, []};
+ghost use Rattle.std.specs.Prelude.{◌≡◌, ◌≤◌, ◌+◌, List, ℕ, Some, None, IfOk, IsOk, IfErr, IsErrOf, OnErr, Err, length, vec_len, []};
 ghost use Rattle.omi_outside.specs.Outside.{HasCause};
 ghost use Rattle.omi_corefile.specs.Spelling.{Core};
 ghost use Rattle.omi_corefile.specs.Refusals.{CoreRefused};
@@ -12,6 +12,7 @@ ghost use Rattle.omi_calls.specs.Answers.{SaysMapped, SaysPlace};
 ghost use Rattle.omi_word.specs.SymbolTable.{symbol_in};
 ghost use Rattle.omi_calls.specs.Memory.{told_by};
 ghost use Rattle.omi_page.specs.declared.limits.TheConstants.{MOST_PAGES, PAGE_BYTES};
+ghost use Rattle.omi_page.specs.Left.{LeavesFiles};
 ghost use Rattle.omi_page.specs.Outcomes.{IsLength, Holds, IsFaultOf, UnlessFree};
 ghost use Rattle.omi_page.specs.Bounds.{EndWithin};
 ghost use Rattle.omi_page.specs.Paging.{AreLong, ArePages, ArePartsOf, IsOpened};
@@ -80,6 +81,10 @@ impl<'a, F: Files> Pages<'a, F> {
         ensures later { IfOk result (λ pages. F.reads files.old ≤ faults_counted pages) }
         ensures writes { IfOk result (λ pages. F.writes (files_of pages).now
             ≡ F.writes files.old) }
+
+        // A refusal leaves files that tell the same, of which no write failed, and Failed comes only where their count of reads rose.
+        ensures cause { OnErr result (LeavesFiles F.told F.reads F.writes files.old
+            (IsErrOf result PageError.Failed)) }
     {
         let opened = open(alloc, files, name)?;
         Ok(Pages::of(files, name, opened))

@@ -1,20 +1,31 @@
 //! The lines of events.
 
-ghost use Rattle.std.specs.Prelude.{◌≡◌, ◌++◌, OnOk, string_bytes};
+ghost use Rattle.std.specs.Prelude.{◌≡◌, ◌++◌, IfOk, OnErr, OnOk, string_bytes};
 ghost use Rattle.omi_verbs.specs.EventLines.{event_lines};
 
 use omi_run_lists::EventList;
 use omi_text::push_event_line;
-use std::alloc::AllocError;
+use std::alloc::{AllocError, Global};
 
-/// Adds the line of each event.
-pub fn push_event_lines(text: &mut String, events: &EventList) -> Result<(), AllocError>
-    ensures { OnOk result
-        (string_bytes text.new ≡ string_bytes text.old ++ event_lines events.now.items) }
+/// The line of each event.
+fn lines_of(alloc: Global, events: &EventList) -> Result<String, AllocError>
+    ensures { IfOk result (λ lines. string_bytes lines ≡ event_lines events.now.items) }
 {
+    let mut lines = String::new(alloc);
     for at in 0..events.len() {
         let (step, thread, event) = events.get(at);
-        push_event_line(text, step, thread, &event)?;
+        push_event_line(&mut lines, step, thread, &event)?;
     }
-    Ok(())
+    Ok(lines)
+}
+
+/// Adds the line of each event. Where memory runs out, none is added.
+pub fn push_event_lines(text: &mut String, events: &EventList) -> Result<(), AllocError>
+    ensures lines { OnOk result
+        (string_bytes text.new ≡ string_bytes text.old ++ event_lines events.now.items) }
+    ensures kept { OnErr result (string_bytes text.new ≡ string_bytes text.old) }
+{
+    let alloc = *text.allocator();
+    let lines = lines_of(alloc, events)?;
+    text.push_str(&lines)
 }

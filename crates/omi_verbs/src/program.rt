@@ -1,7 +1,7 @@
 //! What a program does before and behind its top call.
 
 ghost use Rattle.std.specs.Prelude.{◌≡◌, ◌≢◌, ◌⊎◌, IfErr, alloc_error};
-ghost use Rattle.omi_outside.specs.Disk.{disk_unsynced as unsynced, disk_write_faults as write_faults};
+ghost use Rattle.omi_outside.specs.Disk.{disk_read_faults as read_faults, disk_unsynced as unsynced, disk_write_faults as write_faults};
 ghost use Rattle.omi_outside.specs.Outside.{Rose};
 
 use omi_outside::{DiskFiles, Status};
@@ -37,6 +37,8 @@ pub fn handed_over<R: Files + AllocGlobal + Drop>(
         ⊎ ((result ≡ Status.WriteFault) × Rose (write_faults files.old) (write_faults files.new)) }
     ensures no_fault { result ≢ Status.WriteFault
         → write_faults files.new ≡ write_faults files.old }
+    // Nothing is read.
+    ensures reads { read_faults files.new ≡ read_faults files.old }
 {
     match files.sync() {
         Ok(()) => status,
