@@ -210,9 +210,54 @@ barrier_in_critical : verdict (codes "func b\nbarrier\nend\nfunc main\ncritical 
 unfolding refuses
 barrier_in_critical = refl
 
+-- the text of a function with one region over another function
+over : List ℕ → List ℕ → List ℕ
+over name under = codes "func " ++ name ++ codes "\nparallel " ++ under ++ codes "\nend\n"
+
+-- the texts of the functions a to p, each with a region over the one before it
+tower : List ℕ
+tower =
+    codes "func a\nwork\nend\n"
+    ++ over (codes "b") (codes "a")
+    ++ over (codes "c") (codes "b")
+    ++ over (codes "d") (codes "c")
+    ++ over (codes "e") (codes "d")
+    ++ over (codes "f") (codes "e")
+    ++ over (codes "g") (codes "f")
+    ++ over (codes "h") (codes "g")
+    ++ over (codes "i") (codes "h")
+    ++ over (codes "j") (codes "i")
+    ++ over (codes "k") (codes "j")
+    ++ over (codes "l") (codes "k")
+    ++ over (codes "m") (codes "l")
+    ++ over (codes "n") (codes "m")
+    ++ over (codes "o") (codes "n")
+    ++ over (codes "p") (codes "o")
+
+-- the functions a to p
+tower_functions : List Func
+tower_functions =
+    func (codes "a") (Work ∷ [])
+    ∷ func (codes "b") (Parallel 0 None ∷ [])
+    ∷ func (codes "c") (Parallel 1 None ∷ [])
+    ∷ func (codes "d") (Parallel 2 None ∷ [])
+    ∷ func (codes "e") (Parallel 3 None ∷ [])
+    ∷ func (codes "f") (Parallel 4 None ∷ [])
+    ∷ func (codes "g") (Parallel 5 None ∷ [])
+    ∷ func (codes "h") (Parallel 6 None ∷ [])
+    ∷ func (codes "i") (Parallel 7 None ∷ [])
+    ∷ func (codes "j") (Parallel 8 None ∷ [])
+    ∷ func (codes "k") (Parallel 9 None ∷ [])
+    ∷ func (codes "l") (Parallel 10 None ∷ [])
+    ∷ func (codes "m") (Parallel 11 None ∷ [])
+    ∷ func (codes "n") (Parallel 12 None ∷ [])
+    ∷ func (codes "o") (Parallel 13 None ∷ [])
+    ∷ func (codes "p") (Parallel 14 None ∷ [])
+    ∷ []
+
 -- OverLimit: a region over a function of depth 15
-depth_16 : verdict (codes "func a\nwork\nend\nfunc b\nparallel a\nend\nfunc c\nparallel b\nend\nfunc d\nparallel c\nend\nfunc e\nparallel d\nend\nfunc f\nparallel e\nend\nfunc g\nparallel f\nend\nfunc h\nparallel g\nend\nfunc i\nparallel h\nend\nfunc j\nparallel i\nend\nfunc k\nparallel j\nend\nfunc l\nparallel k\nend\nfunc m\nparallel l\nend\nfunc n\nparallel m\nend\nfunc o\nparallel n\nend\nfunc p\nparallel o\nend\nfunc main\nparallel p\nend\n") ≡ refuses 50 OverLimit
-unfolding refuses
+depth_16 : verdict (tower ++ codes "func main\nparallel p\nend\n") ≡ refuses 50 OverLimit
+unfolding refuses tower over
 depth_16 = refl
 
 -- two faults on one line, and on two lines
@@ -233,8 +278,9 @@ unfolding refuses
 two_lines = refl
 
 -- the depth 15 is good
-depth_15 : verdict (codes "func a\nwork\nend\nfunc b\nparallel a\nend\nfunc c\nparallel b\nend\nfunc d\nparallel c\nend\nfunc e\nparallel d\nend\nfunc f\nparallel e\nend\nfunc g\nparallel f\nend\nfunc h\nparallel g\nend\nfunc i\nparallel h\nend\nfunc j\nparallel i\nend\nfunc k\nparallel j\nend\nfunc l\nparallel k\nend\nfunc m\nparallel l\nend\nfunc n\nparallel m\nend\nfunc o\nparallel n\nend\nfunc p\nparallel o\nend\nfunc main\nparallel o\nend\n") ≡ accepts no_head_lines (func (codes "a") (Work ∷ []) ∷ func (codes "b") (Parallel 0 None ∷ []) ∷ func (codes "c") (Parallel 1 None ∷ []) ∷ func (codes "d") (Parallel 2 None ∷ []) ∷ func (codes "e") (Parallel 3 None ∷ []) ∷ func (codes "f") (Parallel 4 None ∷ []) ∷ func (codes "g") (Parallel 5 None ∷ []) ∷ func (codes "h") (Parallel 6 None ∷ []) ∷ func (codes "i") (Parallel 7 None ∷ []) ∷ func (codes "j") (Parallel 8 None ∷ []) ∷ func (codes "k") (Parallel 9 None ∷ []) ∷ func (codes "l") (Parallel 10 None ∷ []) ∷ func (codes "m") (Parallel 11 None ∷ []) ∷ func (codes "n") (Parallel 12 None ∷ []) ∷ func (codes "o") (Parallel 13 None ∷ []) ∷ func (codes "p") (Parallel 14 None ∷ []) ∷ func (codes "main") (Parallel 14 None ∷ []) ∷ [])
-unfolding accepts no_head_lines func
+depth_15 : verdict (tower ++ codes "func main\nparallel o\nend\n")
+    ≡ accepts no_head_lines (tower_functions ++ func (codes "main") (Parallel 14 None ∷ []) ∷ [])
+unfolding accepts no_head_lines func tower tower_functions over
 depth_15 = refl
 
 -- more than 65,536 bytes
@@ -273,17 +319,39 @@ unfolding behind_statements
 statement_4097 = refl
 
 -- the names of two functions in one statement list, with all that may stand after a task
-tasks : verdict (codes "func a\nend\nfunc main\ntask a if 1\ntask a if 0\ntask a final 1\ntask a final 0\ntask a if 0 final 1\nparallel a num 64\nset_schedule guided 9\nend") ≡ accepts no_head_lines (func (codes "a") [] ∷ func (codes "main") (Task 0 false false ∷ Task 0 true false ∷ Task 0 false true ∷ Task 0 false false ∷ Task 0 true true ∷ Parallel 0 (Some 64) ∷ SetSchedule (record { kind = 3; chunk = 9 }) ∷ []) ∷ [])
+tasks : verdict
+    (codes "func a\nend\nfunc main\ntask a if 1\ntask a if 0\ntask a final 1\ntask a final 0\n"
+    ++ codes "task a if 0 final 1\nparallel a num 64\nset_schedule guided 9\nend")
+    ≡ accepts no_head_lines
+    (func (codes "a") []
+    ∷ func (codes "main")
+    (Task 0 false false ∷ Task 0 true false ∷ Task 0 false true ∷ Task 0 false false ∷ Task 0 true true
+    ∷ Parallel 0 (Some 64) ∷ SetSchedule (record { kind = 3; chunk = 9 }) ∷ [])
+    ∷ [])
 unfolding accepts no_head_lines func
 tasks = refl
 
 -- a barrier after a parallel region does not count
-barrier_behind_region : verdict (codes "func b\nbarrier\nend\nfunc p\nparallel b\nend\nfunc main\ntask p\nend\n") ≡ accepts no_head_lines (func (codes "b") (Barrier ∷ []) ∷ func (codes "p") (Parallel 0 None ∷ []) ∷ func (codes "main") (Task 1 false false ∷ []) ∷ [])
+barrier_behind_region : verdict
+    (codes "func b\nbarrier\nend\nfunc p\nparallel b\nend\nfunc main\ntask p\nend\n")
+    ≡ accepts no_head_lines
+    (func (codes "b") (Barrier ∷ [])
+    ∷ func (codes "p") (Parallel 0 None ∷ [])
+    ∷ func (codes "main") (Task 1 false false ∷ [])
+    ∷ [])
 unfolding accepts no_head_lines func
 barrier_behind_region = refl
 
 -- the text of `make 2`
-made_text : verdict (codes "threads 4\nfunc leaf\n  work\nend\nfunc node\n  task leaf\n  task leaf\n  taskwait\nend\nfunc team\n  repeat 2 node\nend\nfunc main\n  parallel team num 4\nend\n") ≡ accepts (record no_head { threads = Some 4 }) (func (codes "leaf") (Work ∷ []) ∷ func (codes "node") (Task 0 false false ∷ Task 0 false false ∷ Taskwait ∷ []) ∷ func (codes "team") (Repeat 2 1 ∷ []) ∷ func (codes "main") (Parallel 2 (Some 4) ∷ []) ∷ [])
+made_text : verdict
+    (codes "threads 4\nfunc leaf\n  work\nend\nfunc node\n  task leaf\n  task leaf\n  taskwait\nend\n"
+    ++ codes "func team\n  repeat 2 node\nend\nfunc main\n  parallel team num 4\nend\n")
+    ≡ accepts (record no_head { threads = Some 4 })
+    (func (codes "leaf") (Work ∷ [])
+    ∷ func (codes "node") (Task 0 false false ∷ Task 0 false false ∷ Taskwait ∷ [])
+    ∷ func (codes "team") (Repeat 2 1 ∷ [])
+    ∷ func (codes "main") (Parallel 2 (Some 4) ∷ [])
+    ∷ [])
 unfolding accepts func
 made_text = refl
 
@@ -292,6 +360,19 @@ defaults : env_of (record no_head { threads = Some 4 }) ≡ record { nthreads = 
 defaults = refl
 
 -- all head lines, in another order than the canonical text's
-all_heads : verdict (codes "env procs 65535\nenv debug disabled\nenv device 255\nenv schedule auto,65535\nenv max_active_levels 0\nenv dynamic true\nenv num_threads 64,1,2,3\nthreads 16\nfunc main\nend\n") ≡ accepts (record { threads = Some 16; nthreads = Some (64 ∷ 1 ∷ 2 ∷ 3 ∷ []); dynamic = Some true; max_active = Some 0; sched = Some (record { kind = 4; chunk = 65535 }); device = Some 255; debug = Some false; procs = Some 65535 }) (func (codes "main") [] ∷ [])
+all_heads : verdict
+    (codes "env procs 65535\nenv debug disabled\nenv device 255\nenv schedule auto,65535\n"
+    ++ codes "env max_active_levels 0\nenv dynamic true\nenv num_threads 64,1,2,3\nthreads 16\n"
+    ++ codes "func main\nend\n")
+    ≡ accepts (record {
+      threads = Some 16;
+      nthreads = Some (64 ∷ 1 ∷ 2 ∷ 3 ∷ []);
+      dynamic = Some true;
+      max_active = Some 0;
+      sched = Some (record { kind = 4; chunk = 65535 });
+      device = Some 255;
+      debug = Some false;
+      procs = Some 65535;
+    }) (func (codes "main") [] ∷ [])
 unfolding accepts func
 all_heads = refl

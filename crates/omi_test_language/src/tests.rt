@@ -11,33 +11,63 @@ use std::test::Fail;
 const CANONICAL: [(&str, &str); 6] = [
     // each head line and each statement, in the canonical spelling
     (
-        "threads 16\nenv num_threads 4,2\nenv dynamic true\nenv max_active_levels 3\nenv schedule guided,7\nenv device 1\nenv debug disabled\nenv procs 8\nfunc leaf\n  work\nend\nfunc main\n  parallel leaf\n  parallel leaf num 4\n  task leaf\n  task leaf if 0\n  task leaf final 1\n  task leaf if 0 final 1\n  taskwait\n  taskyield\n  barrier\n  critical 7 leaf\n  call leaf\n  only 63 leaf\n  repeat 1000 leaf\n  set_num_threads 64\n  set_dynamic 1\n  set_max_active_levels 255\n  set_schedule auto 65535\n  set_default_device 255\n  tool 18446744073709551615\n  work\nend\n",
-        "threads 16\nenv num_threads 4,2\nenv dynamic true\nenv max_active_levels 3\nenv schedule guided,7\nenv device 1\nenv debug disabled\nenv procs 8\nfunc leaf\n  work\nend\nfunc main\n  parallel leaf\n  parallel leaf num 4\n  task leaf\n  task leaf if 0\n  task leaf final 1\n  task leaf if 0 final 1\n  taskwait\n  taskyield\n  barrier\n  critical 7 leaf\n  call leaf\n  only 63 leaf\n  repeat 1000 leaf\n  set_num_threads 64\n  set_dynamic 1\n  set_max_active_levels 255\n  set_schedule auto 65535\n  set_default_device 255\n  tool 18446744073709551615\n  work\nend\n",
+        "threads 16\nenv num_threads 4,2\nenv dynamic true\nenv max_active_levels 3\nenv schedule guided,7\n\
+         env device 1\nenv debug disabled\nenv procs 8\nfunc leaf\n  work\nend\nfunc main\n  parallel leaf\n  \
+         parallel leaf num 4\n  task leaf\n  task leaf if 0\n  task leaf final 1\n  task leaf if 0 final 1\n  \
+         taskwait\n  taskyield\n  barrier\n  critical 7 leaf\n  call leaf\n  only 63 leaf\n  repeat 1000 leaf\n  \
+         set_num_threads 64\n  set_dynamic 1\n  set_max_active_levels 255\n  set_schedule auto 65535\n  \
+         set_default_device 255\n  tool 18446744073709551615\n  work\n\
+         end\n",
+        "threads 16\nenv num_threads 4,2\nenv dynamic true\nenv max_active_levels 3\nenv schedule guided,7\n\
+         env device 1\nenv debug disabled\nenv procs 8\nfunc leaf\n  work\nend\nfunc main\n  parallel leaf\n  \
+         parallel leaf num 4\n  task leaf\n  task leaf if 0\n  task leaf final 1\n  task leaf if 0 final 1\n  \
+         taskwait\n  taskyield\n  barrier\n  critical 7 leaf\n  call leaf\n  only 63 leaf\n  repeat 1000 leaf\n  \
+         set_num_threads 64\n  set_dynamic 1\n  set_max_active_levels 255\n  set_schedule auto 65535\n  \
+         set_default_device 255\n  tool 18446744073709551615\n  work\n\
+         end\n",
     ),
     // clauses that are left out
     (
         "func f\nend\nfunc main\ntask f if 1\ntask f final 0\ntask f if 0 final 0\ntask f if 1 final 1\nend",
-        "threads 1\nenv num_threads 1\nenv dynamic false\nenv max_active_levels 8\nenv schedule static,0\nenv device 0\nenv debug enabled\nenv procs 4\nfunc f\nend\nfunc main\n  task f\n  task f\n  task f if 0\n  task f final 1\nend\n",
+        "threads 1\nenv num_threads 1\nenv dynamic false\nenv max_active_levels 8\nenv schedule static,0\n\
+         env device 0\nenv debug enabled\nenv procs 4\nfunc f\nend\nfunc main\n  task f\n  task f\n  task f if 0\n  task f final 1\n\
+         end\n",
     ),
     // nthreads-var is the number of threads
     (
         "threads 4\nfunc main\nend\n",
-        "threads 4\nenv num_threads 4\nenv dynamic false\nenv max_active_levels 8\nenv schedule static,0\nenv device 0\nenv debug enabled\nenv procs 4\nfunc main\nend\n",
+        "threads 4\nenv num_threads 4\nenv dynamic false\nenv max_active_levels 8\nenv schedule static,0\n\
+         env device 0\nenv debug enabled\nenv procs 4\nfunc main\nend\n",
     ),
     // head lines in any order
     (
-        "env procs 8\nenv debug disabled\n# one\nenv device 2\nenv schedule dynamic,1\nenv max_active_levels 0\nenv dynamic true\nenv num_threads 64,1\nthreads 2\nfunc main\nend\n",
-        "threads 2\nenv num_threads 64,1\nenv dynamic true\nenv max_active_levels 0\nenv schedule dynamic,1\nenv device 2\nenv debug disabled\nenv procs 8\nfunc main\nend\n",
+        "env procs 8\nenv debug disabled\n# one\nenv device 2\nenv schedule dynamic,1\nenv max_active_levels 0\n\
+         env dynamic true\nenv num_threads 64,1\nthreads 2\nfunc main\nend\n",
+        "threads 2\nenv num_threads 64,1\nenv dynamic true\nenv max_active_levels 0\nenv schedule dynamic,1\n\
+         env device 2\nenv debug disabled\nenv procs 8\nfunc main\nend\n",
     ),
     // a chain of ten tasks, as a user would write it
     (
-        "# a chain of ten tasks\nthreads 8\nenv num_threads 4,2\n\nfunc t0\n\twork\nend\nfunc t1\n task  t0\n taskwait\nend\nfunc t2\n task t1 if 1\n taskwait\nend\nfunc t3\n task t2\n taskwait\nend\nfunc t4\n task t3\n taskwait\nend\nfunc t5\n task t4\n taskwait\nend\nfunc t6\n task t5\n taskwait\nend\nfunc t7\n task t6\n taskwait\nend\nfunc t8\n task t7\n taskwait\nend\nfunc t9\n task t8\n taskwait\nend\n# four chains by each thread of an inner region\nfunc spawn\n task t9\nend\nfunc inner\n repeat 4 spawn\nend\nfunc outer\n parallel inner\nend\nfunc main\n parallel outer\nend",
-        "threads 8\nenv num_threads 4,2\nenv dynamic false\nenv max_active_levels 8\nenv schedule static,0\nenv device 0\nenv debug enabled\nenv procs 4\nfunc t0\n  work\nend\nfunc t1\n  task t0\n  taskwait\nend\nfunc t2\n  task t1\n  taskwait\nend\nfunc t3\n  task t2\n  taskwait\nend\nfunc t4\n  task t3\n  taskwait\nend\nfunc t5\n  task t4\n  taskwait\nend\nfunc t6\n  task t5\n  taskwait\nend\nfunc t7\n  task t6\n  taskwait\nend\nfunc t8\n  task t7\n  taskwait\nend\nfunc t9\n  task t8\n  taskwait\nend\nfunc spawn\n  task t9\nend\nfunc inner\n  repeat 4 spawn\nend\nfunc outer\n  parallel inner\nend\nfunc main\n  parallel outer\nend\n",
+        "# a chain of ten tasks\nthreads 8\nenv num_threads 4,2\n\nfunc t0\n\twork\nend\nfunc t1\n task  t0\n taskwait\n\
+         end\nfunc t2\n task t1 if 1\n taskwait\nend\nfunc t3\n task t2\n taskwait\nend\nfunc t4\n task t3\n taskwait\n\
+         end\nfunc t5\n task t4\n taskwait\nend\nfunc t6\n task t5\n taskwait\nend\nfunc t7\n task t6\n taskwait\n\
+         end\nfunc t8\n task t7\n taskwait\nend\nfunc t9\n task t8\n taskwait\nend\n\
+         # four chains by each thread of an inner region\nfunc spawn\n task t9\nend\nfunc inner\n repeat 4 spawn\n\
+         end\nfunc outer\n parallel inner\nend\nfunc main\n parallel outer\nend",
+        "threads 8\nenv num_threads 4,2\nenv dynamic false\nenv max_active_levels 8\nenv schedule static,0\n\
+         env device 0\nenv debug enabled\nenv procs 4\nfunc t0\n  work\nend\nfunc t1\n  task t0\n  taskwait\nend\n\
+         func t2\n  task t1\n  taskwait\nend\nfunc t3\n  task t2\n  taskwait\nend\nfunc t4\n  task t3\n  taskwait\n\
+         end\nfunc t5\n  task t4\n  taskwait\nend\nfunc t6\n  task t5\n  taskwait\nend\nfunc t7\n  task t6\n  taskwait\n\
+         end\nfunc t8\n  task t7\n  taskwait\nend\nfunc t9\n  task t8\n  taskwait\nend\nfunc spawn\n  task t9\nend\n\
+         func inner\n  repeat 4 spawn\nend\nfunc outer\n  parallel inner\nend\nfunc main\n  parallel outer\nend\n",
     ),
     // the workload that `make 10` writes
     (
-        "threads 4\nfunc leaf\n  work\nend\nfunc node\n  task leaf\n  task leaf\n  taskwait\nend\nfunc team\n  repeat 10 node\nend\nfunc main\n  parallel team num 4\nend\n",
-        "threads 4\nenv num_threads 4\nenv dynamic false\nenv max_active_levels 8\nenv schedule static,0\nenv device 0\nenv debug enabled\nenv procs 4\nfunc leaf\n  work\nend\nfunc node\n  task leaf\n  task leaf\n  taskwait\nend\nfunc team\n  repeat 10 node\nend\nfunc main\n  parallel team num 4\nend\n",
+        "threads 4\nfunc leaf\n  work\nend\nfunc node\n  task leaf\n  task leaf\n  taskwait\nend\nfunc team\n  \
+         repeat 10 node\nend\nfunc main\n  parallel team num 4\nend\n",
+        "threads 4\nenv num_threads 4\nenv dynamic false\nenv max_active_levels 8\nenv schedule static,0\n\
+         env device 0\nenv debug enabled\nenv procs 4\nfunc leaf\n  work\nend\nfunc node\n  task leaf\n  task leaf\n  taskwait\n\
+         end\nfunc team\n  repeat 10 node\nend\nfunc main\n  parallel team num 4\nend\n",
     ),
 ];
 

@@ -301,7 +301,8 @@ pub fn run_top<F: Files, W: Files, K: Sink>(
         → (put : List ℕ) × IsPromised text plan put
         × (K.told out.new ≡ put_on (K.told out.old) put) }
 
-    // It with all that other clauses say of this run; no other status is a refusal of CORE then.
+    // Where it reads back the core that it wrote, `run` puts the lines of a run whose words that core
+    // holds, and then the report of the state which those events reach; it never refuses that core.
     ensures run_shown { (plan : Plan) (script core text bytes : List ℕ)
         → command_in words.now ≡ Run plan script core
         → F.told files.old script ≡ Some (Some text) → F.told files.old core ≡ Some (Some bytes)

@@ -42,17 +42,27 @@ pub returns-in_err-has_id-clause-answer : goal.returns-in_err-has_id-clause-answ
 returns-in_err-has_id-clause-answer g c =
     let p = err_from_is_err_and c.from_residual.result c.from_residual.ensures.1 in
     rw (p.1, p.2) (c.loop-i.invariant.rest _ (Err c.in_err-has_id.field-0.0)
-    (more g.C.Callbacks.told g.C.Callbacks.asked c.loop-i.s _ c.args.s.now.layout c.args.native c.loop-i.i (thread_count c.args.s.now.layout) (Err c.in_err-has_id.field-0.0) (omega (arith, c.loop-i.invariant.bound, c.loop-i-test.true))
-    (asked_refused _ (subst (λ w. Answers g.C.Callbacks.told g.C.Callbacks.asked c.loop-i.s c.has_id.new.s (Err c.in_err-has_id.field-0.0) (has_id w c.args.native c.loop-i.i)) c.loop-i.invariant.same.layout c.in_err-has_id.ensures.answer))))
+    (more g.C.Callbacks.told g.C.Callbacks.asked c.loop-i.s _ c.args.s.now.layout c.args.native c.loop-i.i
+    (thread_count c.args.s.now.layout) (Err c.in_err-has_id.field-0.0) (omega (arith, c.loop-i.invariant.bound, c.loop-i-test.true))
+    (asked_refused _ (subst
+    (λ w. Answers g.C.Callbacks.told g.C.Callbacks.asked c.loop-i.s c.has_id.new.s (Err c.in_err-has_id.field-0.0)
+    (has_id w c.args.native c.loop-i.i))
+    c.loop-i.invariant.same.layout c.in_err-has_id.ensures.answer))))
 
 pub returns-then-branch-clause-answer : goal.returns-then-branch-clause-answer
 returns-then-branch-clause-answer g c =
     c.loop-i.invariant.rest _ (Ok c.begun.result)
-    (more g.C.Callbacks.told g.C.Callbacks.asked c.loop-i.s _ c.args.s.now.layout c.args.native c.loop-i.i (thread_count c.args.s.now.layout) (Ok c.begun.result) (omega (arith, c.loop-i.invariant.bound, c.loop-i-test.true))
+    (more g.C.Callbacks.told g.C.Callbacks.asked c.loop-i.s _ c.args.s.now.layout c.args.native c.loop-i.i
+    (thread_count c.args.s.now.layout) (Ok c.begun.result) (omega (arith, c.loop-i.invariant.bound, c.loop-i-test.true))
     (asked_then c.has_id.new.s _ c.in_ok-has_id.field-0 c.has_id.ensures.same.table.same
-    (subst (λ w. Answers g.C.Callbacks.told g.C.Callbacks.asked c.loop-i.s c.has_id.new.s (Ok c.in_ok-has_id.field-0) (has_id w c.args.native c.loop-i.i)) c.loop-i.invariant.same.layout c.in_ok-has_id.ensures.answer)
+    (subst
+    (λ w. Answers g.C.Callbacks.told g.C.Callbacks.asked c.loop-i.s c.has_id.new.s (Ok c.in_ok-has_id.field-0)
+    (has_id w c.args.native c.loop-i.i))
+    c.loop-i.invariant.same.layout c.in_ok-has_id.ensures.answer)
     (asked_true _ c.if-branch.true (asked_answer
-    (ap Ok (c.begun.ensures.value ∙ ap (λ w. begun w c.loop-i.i) (c.layout-then-branch.ensures ∙ c.has_id.ensures.same.layout ∙ c.loop-i.invariant.same.layout)))))))
+    (ap Ok (c.begun.ensures.value
+    ∙ ap (λ w. begun w c.loop-i.i)
+    (c.layout-then-branch.ensures ∙ c.has_id.ensures.same.layout ∙ c.loop-i.invariant.same.layout)))))))
 
 pub loop-i-preserved : goal.loop-i-preserved
 loop-i-preserved g c = record {
@@ -60,9 +70,13 @@ loop-i-preserved g c = record {
   later = omega (arith, c.loop-i.invariant.later, c.has_id.ensures.cause.later);
   bound = c.loop-i.invariant.bound;
   rest = λ last result h. c.loop-i.invariant.rest last result
-      (more g.C.Callbacks.told g.C.Callbacks.asked c.loop-i.s _ c.args.s.now.layout c.args.native c.loop-i.i (thread_count c.args.s.now.layout) result (omega (arith, c.loop-i.invariant.bound, c.loop-i-test.true))
+      (more g.C.Callbacks.told g.C.Callbacks.asked c.loop-i.s _ c.args.s.now.layout c.args.native c.loop-i.i
+      (thread_count c.args.s.now.layout) result (omega (arith, c.loop-i.invariant.bound, c.loop-i-test.true))
       (asked_then c.has_id.new.s _ c.in_ok-has_id.field-0 c.has_id.ensures.same.table.same
-      (subst (λ w. Answers g.C.Callbacks.told g.C.Callbacks.asked c.loop-i.s c.has_id.new.s (Ok c.in_ok-has_id.field-0) (has_id w c.args.native c.loop-i.i)) c.loop-i.invariant.same.layout c.in_ok-has_id.ensures.answer)
+      (subst
+      (λ w. Answers g.C.Callbacks.told g.C.Callbacks.asked c.loop-i.s c.has_id.new.s (Ok c.in_ok-has_id.field-0)
+      (has_id w c.args.native c.loop-i.i))
+      c.loop-i.invariant.same.layout c.in_ok-has_id.ensures.answer)
       (asked_false _ c.if-branch.false h)));
 }
 
@@ -72,4 +86,7 @@ returns-clause-answer g c =
     let none : thread_count c.args.s.now.layout - c.loop-i.i ≡ 0 =
     omega (arith, c.loop-i.invariant.bound, c.loop-i-test.false) in
     c.loop-i.invariant.rest _ (Err Unavailable)
-    (subst (λ n. Answers g.C.Callbacks.told g.C.Callbacks.asked c.loop-i.s c.loop-i.s (Err Unavailable) (first_with c.args.s.now.layout c.args.native (range_with_len c.loop-i.i n))) (sym none) (asked_answer refl))
+    (subst
+    (λ n. Answers g.C.Callbacks.told g.C.Callbacks.asked c.loop-i.s c.loop-i.s (Err Unavailable)
+    (first_with c.args.s.now.layout c.args.native (range_with_len c.loop-i.i n)))
+    (sym none) (asked_answer refl))

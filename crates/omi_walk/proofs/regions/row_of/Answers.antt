@@ -161,9 +161,15 @@ returns-in_err-members-clause-reads g c =
     let so5 =
     goes_on told asked s c.size_of.new.s c.related_of.new.s pair all
     (λ w k. ask_enclosing w k) _ so4 _ c.in_ok-enclosing.enclosing c.related_of.ensures.leaves c.in_ok-enclosing.ensures.reads in
-    let so5m = goes_told told asked s c.related_of.new.s all (then_reads (ask_each (ask_member s.layout (get s.handles.held pair)) (range_with_len 0 c.in_ok-size.size)) (row_with c.args.region c.in_ok-func.func c.in_ok-levels.levels c.in_ok-active.active c.in_ok-size.size c.in_ok-enclosing.enclosing))
-    (then_reads (ask_each (ask_member s.layout (get s.handles.held pair)) (range_with_len 0 c.bounded.result)) (row_with c.args.region c.in_ok-func.func c.in_ok-levels.levels c.in_ok-active.active c.in_ok-size.size c.in_ok-enclosing.enclosing))
-    (λ memory tells. ap (λ n. then_reads (ask_each (ask_member s.layout (get s.handles.held pair)) (range_with_len 0 n)) (row_with c.args.region c.in_ok-func.func c.in_ok-levels.levels c.in_ok-active.active c.in_ok-size.size c.in_ok-enclosing.enclosing))
+    let so5m =
+    goes_told told asked s c.related_of.new.s all
+    (then_reads (ask_each (ask_member s.layout (get s.handles.held pair)) (range_with_len 0 c.in_ok-size.size))
+    (row_with c.args.region c.in_ok-func.func c.in_ok-levels.levels c.in_ok-active.active c.in_ok-size.size c.in_ok-enclosing.enclosing))
+    (then_reads (ask_each (ask_member s.layout (get s.handles.held pair)) (range_with_len 0 c.bounded.result))
+    (row_with c.args.region c.in_ok-func.func c.in_ok-levels.levels c.in_ok-active.active c.in_ok-size.size c.in_ok-enclosing.enclosing))
+    (λ memory tells. ap
+    (λ n. then_reads (ask_each (ask_member s.layout (get s.handles.held pair)) (range_with_len 0 n))
+    (row_with c.args.region c.in_ok-func.func c.in_ok-levels.levels c.in_ok-active.active c.in_ok-size.size c.in_ok-enclosing.enclosing))
     (sym (c.bounded.ensures.same (
     let t = c.region_variable-2.new.s in
     let known = size_within t.layout memory (get t.handles.held pair) c.in_ok-size.size
@@ -201,9 +207,15 @@ returns-clause-reads g c =
     let so5 =
     goes_on told asked s c.size_of.new.s c.related_of.new.s pair all
     (λ w k. ask_enclosing w k) _ so4 _ c.in_ok-enclosing.enclosing c.related_of.ensures.leaves c.in_ok-enclosing.ensures.reads in
-    let so5m = goes_told told asked s c.related_of.new.s all (then_reads (ask_each (ask_member s.layout (get s.handles.held pair)) (range_with_len 0 c.in_ok-size.size)) (row_with c.args.region c.in_ok-func.func c.in_ok-levels.levels c.in_ok-active.active c.in_ok-size.size c.in_ok-enclosing.enclosing))
-    (then_reads (ask_each (ask_member s.layout (get s.handles.held pair)) (range_with_len 0 c.bounded.result)) (row_with c.args.region c.in_ok-func.func c.in_ok-levels.levels c.in_ok-active.active c.in_ok-size.size c.in_ok-enclosing.enclosing))
-    (λ memory tells. ap (λ n. then_reads (ask_each (ask_member s.layout (get s.handles.held pair)) (range_with_len 0 n)) (row_with c.args.region c.in_ok-func.func c.in_ok-levels.levels c.in_ok-active.active c.in_ok-size.size c.in_ok-enclosing.enclosing))
+    let so5m =
+    goes_told told asked s c.related_of.new.s all
+    (then_reads (ask_each (ask_member s.layout (get s.handles.held pair)) (range_with_len 0 c.in_ok-size.size))
+    (row_with c.args.region c.in_ok-func.func c.in_ok-levels.levels c.in_ok-active.active c.in_ok-size.size c.in_ok-enclosing.enclosing))
+    (then_reads (ask_each (ask_member s.layout (get s.handles.held pair)) (range_with_len 0 c.bounded.result))
+    (row_with c.args.region c.in_ok-func.func c.in_ok-levels.levels c.in_ok-active.active c.in_ok-size.size c.in_ok-enclosing.enclosing))
+    (λ memory tells. ap
+    (λ n. then_reads (ask_each (ask_member s.layout (get s.handles.held pair)) (range_with_len 0 n))
+    (row_with c.args.region c.in_ok-func.func c.in_ok-levels.levels c.in_ok-active.active c.in_ok-size.size c.in_ok-enclosing.enclosing))
     (sym (c.bounded.ensures.same (
     let t = c.region_variable-2.new.s in
     let known = size_within t.layout memory (get t.handles.held pair) c.in_ok-size.size
