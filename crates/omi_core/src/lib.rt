@@ -23,5 +23,5 @@ pub use recorded::{Recorded, run_recorded};
 pub use recorder::Recorder;
 pub use run::{Core, list_event, turn_of};
 pub use schedule::Schedule;
-pub use stop::{Break, End, Stop, end_at};
+pub use stop::{Break, End, Stop, compact_end_at, end_at};
 pub use thread_run::{RunList, ThreadRun, Until};

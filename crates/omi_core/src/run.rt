@@ -1,20 +1,23 @@
 //! A run: its words, its threads, and the steps and events so far.
 
-ghost use Rattle.std.specs.Prelude.{◌≡◌, ◌<◌, ◌≤◌, ◌+◌, ◌++◌, IfOk, OnOk, length, min};
+ghost use Rattle.std.specs.Prelude.{◌≡◌, ◌<◌, ◌≤◌, ◌+◌, ◌++◌, ℕ, List, IfOk, OnOk, length, min};
 ghost use Rattle.omi_core.specs.declared.limits.TheConstants.{MOST_STEPS};
 ghost use Rattle.omi_core.specs.Histories.{HasHistory};
 ghost use Rattle.omi_core.specs.Runs.{IsOpening, IsSameRun, spare_in};
+ghost use Rattle.omi_model.specs.declared.id.Tid.{Tid};
 ghost use Rattle.omi_rep.specs.Suits.{Suits};
+ghost use Rattle.omi_step_words.specs.Outcomes.{outcome_with};
 ghost use Rattle.omi_core.specs.RunSteps.{IsRight, IsStep, RuleHolds, ShowsState, event_of, seats_of};
 
 use crate::opening::{opening_actors, opening_image};
 use crate::{Entry, MOST_STEPS, OutOfMemory};
-use omi_actor::{next, resume};
+use omi_actor::{advance, next, outcome};
 use omi_layout::Layout;
+use omi_model::Team;
 use omi_pc::Actor;
-use omi_rep::Outcome;
 use omi_run_lists::{EventList, Made, MadeList, Turn};
 use omi_script::Program;
+use omi_step_words::CompactOutcome;
 use omi_word::Image;
 use std::alloc::Global;
 use std::marker::Model;
@@ -70,15 +73,16 @@ impl Model for Core {
     }) };
 }
 
-/// What is kept of an outcome.
-pub fn turn_of(outcome: &Outcome) -> Turn
-    ensures { result ≡ Rattle.omi_core.specs.RunSteps.turn_of outcome.now }
+/// What is kept of an outcome, whatever team is forked.
+pub fn turn_of(outcome: CompactOutcome) -> Turn
+    ensures { (team : List (Tid × ℕ))
+        → result ≡ Rattle.omi_core.specs.RunSteps.turn_of (outcome_with team outcome) }
 {
     match outcome {
-        Outcome::Quiet => Turn::Quiet,
-        Outcome::Event(_) => Turn::Event,
-        Outcome::NotReady { .. } => Turn::NotReady,
-        Outcome::Ended => Turn::Ended,
+        CompactOutcome::Quiet => Turn::Quiet,
+        CompactOutcome::Event(_) => Turn::Event,
+        CompactOutcome::NotReady { .. } => Turn::NotReady,
+        CompactOutcome::Ended => Turn::Ended,
     }
 }
 
@@ -89,16 +93,24 @@ fn least(a: usize, b: usize) -> usize
     if a <= b { a } else { b }
 }
 
-/// Lists the event of an outcome, if it has one. Takes no memory.
-pub fn list_event(events: &mut EventList, step: u64, thread: u8, outcome: &Outcome)
+/// Lists the event of an outcome, if it has one. A fork has this team. Takes no memory.
+pub fn list_event(
+    events: &mut EventList,
+    step: u64,
+    thread: u8,
+    outcome: CompactOutcome,
+    team: &Team,
+)
     requires spare { 1 ≤ events.old.spare }
-    requires seats { seats_of outcome.now ≤ events.old.seats }
-    ensures items { events.new.items ≡ events.old.items ++ event_of step thread outcome.now }
+    requires seats { seats_of (outcome_with team.now outcome) ≤ events.old.seats }
+    ensures items { events.new.items
+        ≡ events.old.items ++ event_of step thread (outcome_with team.now outcome) }
     ensures spare { events.old.spare ≤ events.new.spare + 1 }
-    ensures seats { events.old.seats ≤ events.new.seats + seats_of outcome.now }
+    ensures seats { events.old.seats
+        ≤ events.new.seats + seats_of (outcome_with team.now outcome) }
 {
-    if let Outcome::Event(e) = outcome {
-        events.push_reserved((step, thread, *e));
+    if let CompactOutcome::Event(event) = outcome {
+        events.push_compact(step, thread, event, team);
     }
 }
 
@@ -197,17 +209,20 @@ impl Core {
         ensures spare { spare_in self.old ≤ spare_in self.new + 1 }
     {
         let at = i as usize;
-        let op = next(&self.program, &self.layout, &self.actors[at]);
+        let actor = &self.actors[at];
+        let op = next(&self.program, &self.layout, actor);
         let found = self.image.apply(op);
-        let outcome = resume(&self.program, &self.layout, &mut self.actors[at], found);
+        let came = outcome(&self.program, &self.layout, actor, found);
         let step = self.made.len() as u64 + 1;
         self.made.push_reserved(Made {
             op,
             old: found.old,
             thread: i,
-            turn: turn_of(&outcome),
+            turn: turn_of(came),
         });
-        list_event(&mut self.events, step, i, &outcome);
+        list_event(&mut self.events, step, i, came, &actor.gathered.team);
+        let outcome = came.with_team(&actor.gathered.team);
+        advance(&self.program, &self.layout, &mut self.actors[at], found);
         Entry {
             op,
             old: found.old,

@@ -1,7 +1,9 @@
 //! A thread at work: its seat at the table, and what it made so far.
 
-ghost use Rattle.std.specs.Prelude.{◌≡◌, ◌+◌, ◌≤◌, ℕ, true, false, [], ◌∷◌};
+ghost use Rattle.std.specs.Prelude.{◌≡◌, ◌+◌, ◌≤◌, ℕ, true, false, List, [], ◌∷◌};
+ghost use Rattle.omi_model.specs.declared.id.Tid.{Tid};
 ghost use Rattle.omi_rep.specs.Suits.{Suits};
+ghost use Rattle.omi_step_words.specs.Outcomes.{outcome_of, outcome_with};
 ghost use Rattle.omi_layout.specs.Place.{image_words};
 ghost use Rattle.omi_live.specs.declared.known.Part.{Part};
 ghost use Rattle.omi_seat.specs.declared.limits.TheConstants.{MOST_BUDGET};
@@ -13,15 +15,15 @@ ghost use Rattle.omi_live.specs.Work.{HasFound, HasLooked, HasRoom, HasStepped, 
 use crate::known::Part;
 use crate::rule::{Given, Looks, Raises, Running, Steps};
 use atomic_table::{Seat, Shared};
-use omi_actor::{next, resume};
-use omi_core::{Break, Until, end_at, list_event, turn_of};
+use omi_actor::{advance, next, outcome};
+use omi_core::{Break, Until, compact_end_at, list_event, turn_of};
 use omi_layout::Layout;
 use omi_list::List;
 use omi_outside::Gate;
 use omi_pc::Actor;
-use omi_rep::Outcome;
 use omi_run_lists::{EventList, Made, MadeList};
 use omi_script::Program;
+use omi_step_words::CompactOutcome;
 use omi_word::{FIRST_ADDRESS, Op, Res};
 
 /// The table of words, as its threads see it: the image's words, and the stop word behind them.
@@ -66,20 +68,20 @@ fn apply(words: &Words, seat: &mut Seat<(), List<Part>>, op: Op) -> u64
     }
 }
 
-/// Whether a step commits `done`.
-fn ends_at(outcome: &Outcome) -> bool
-    ensures { result ≡ ends_at outcome.now }
+/// Whether a step commits `done`, whatever team is forked.
+fn ends_at(outcome: CompactOutcome) -> bool
+    ensures { (team : List (Tid × ℕ)) → result ≡ ends_at (outcome_with team outcome) }
 {
-    end_at(None, 0, outcome).is_some()
+    compact_end_at(None, 0, outcome).is_some()
 }
 
-/// Whether a step that does not commit `done` commits an event of the kind at which the run is to stop.
-fn stops_at(on: Option<Break>, outcome: &Outcome) -> bool
-    requires { ends_at outcome.now ≡ false }
-    ensures { result ≡ stops_at on outcome.now }
+/// Whether a step that does not commit `done` commits an event of the kind at which the run is to stop, whatever team is forked.
+fn stops_at(on: Option<Break>, outcome: CompactOutcome) -> bool
+    requires { (team : List (Tid × ℕ)) → ends_at (outcome_with team outcome) ≡ false }
+    ensures { (team : List (Tid × ℕ)) → result ≡ stops_at on (outcome_with team outcome) }
 {
     match on {
-        Some(kind) => end_at(Some((kind, 1)), 0, outcome).is_some(),
+        Some(kind) => compact_end_at(Some((kind, 1)), 0, outcome).is_some(),
         None => false,
     }
 }
@@ -102,27 +104,31 @@ impl Worker {
         (seat, made, events, actor)
     }
 
-    /// One step of the thread: one operation on one word. Takes no memory.
-    fn step(&mut self, p: &Program, l: &Layout, words: &Words) -> Outcome
+    /// One step of the thread: one operation on one word. The members of the team that it forks stood in the registers of its actor.
+    /// Takes no memory.
+    fn step(&mut self, p: &Program, l: &Layout, words: &Words) -> CompactOutcome
         requires suits { Suits p.now l.now.table }
         requires count { words.now.table_id.words ≡ image_words l.now.table + 1 }
         requires ready { (x : Part) × IsReady p.now l.now words.now.table_id x self.old }
         ensures thread { self.new.thread ≡ self.old.thread }
         ensures stepped { (x : Part) → IsAtWork p.now l.now words.now.table_id x self.old
-            → HasStepped p.now l.now words.now.table_id x self.old self.new result }
+            → HasStepped p.now l.now words.now.table_id x self.old self.new
+            (outcome_of self.old.actor result) }
     {
         let op = next(p, l, &self.actor);
         let old = apply(words, &mut self.seat, op);
-        let outcome = resume(p, l, &mut self.actor, Res { old });
+        let came = outcome(p, l, &self.actor, Res { old });
         let step = self.made.len() as u64 + 1;
         self.made.push_reserved(Made {
             op,
             old,
             thread: self.thread,
-            turn: turn_of(&outcome),
+            turn: turn_of(came),
         });
-        list_event(&mut self.events, step, self.thread, &outcome);
-        outcome
+        let team = &self.actor.gathered.team;
+        list_event(&mut self.events, step, self.thread, came, team);
+        advance(p, l, &mut self.actor, Res { old });
+        came
     }
 
     /// Looks at the stop word, and answers whether it is raised.
@@ -176,11 +182,11 @@ impl Worker {
             if self.is_told(l, words) {
                 return Until::Stopped;
             }
-            let outcome = self.step(p, l, words);
-            if ends_at(&outcome) {
+            let came = self.step(p, l, words);
+            if ends_at(came) {
                 return Until::Ended;
             }
-            if stops_at(on, &outcome) {
+            if stops_at(on, came) {
                 self.tell(l, words);
             }
         }

@@ -1,20 +1,30 @@
 -- Rows stand for the same events when members are put behind those that are there.
 use Rattle.std.proofs.Common.{◌≡◌, ℕ, zero, suc, ◌+◌, ◌≤◌, List, [], ◌∷◌, ◌++◌, length, map, take, drop, refl, ap, ap₂, ◌∙◌, arith}
 use Rattle.std.specs.List.{All}
+use Rattle.std.proofs.Math.Seq.{drop-append_seam, take-length}
 use Rattle.std.proofs.lemmas.List.{take-append-le, drop-append-le, length-drop, map-append}
 use Rattle.std.proofs.lemmas.List.Elements.{All-append, All-cons, All-nil}
 use Rattle.omi_model.specs.declared.id.Tid.{Tid}
 use Rattle.omi_model.specs.declared.event.Event.{Event}
-use Rattle.omi_model.specs.declared.event.Event.TheVariants as event
-use Rattle.omi_run_lists.specs.declared.kept.Kept.{Kept}
-use Rattle.omi_run_lists.specs.declared.kept.Kept.TheVariants as kept
-use Rattle.omi_run_lists.specs.declared.kept.EventRow.{EventRow}
-use Rattle.omi_run_lists.specs.Rows.{team_at, event_in, item_in, EndsWithin, IsSeated}
+use Rattle.omi_run_lists.specs.declared.compact.CompactEvent.{CompactEvent}
+use Rattle.omi_run_lists.specs.declared.compact.CompactEvent.TheVariants as compact
+use Rattle.omi_run_lists.specs.declared.row.EventRow.{EventRow}
+use Rattle.omi_run_lists.specs.Compact.{with_team}
+use Rattle.omi_run_lists.specs.Events.{team_in}
+use Rattle.omi_run_lists.specs.Rows.{team_at, item_in, IsSeated}
 
--- what ends within the members ends within more of them
-ends_within_more : (n m size : ℕ) (k : Kept) → n ≤ m → EndsWithin n size k → EndsWithin m size k
-ends_within_more n m size (kept.Fork region first) le within = omega arith
-ends_within_more n m size _ le within = tt
+-- a team that is put behind members stands there
+pub team_behind : (ms : List (Tid × ℕ)) (team : List (Tid × ℕ)) (e : CompactEvent)
+    → with_team (team_at (ms ++ team_in (with_team team e)) (length ms) (length (team_in (with_team team e)))) e ≡ with_team team e
+team_behind ms team e =
+    let own = team_in (with_team team e) in
+    ap (λ (members : List (Tid × ℕ)). with_team members e)
+    (ap (take (length own)) (drop-append_seam ms own) ∙ take-length own)
+    ∙ own_team team e
+  where
+    own_team : (t : List (Tid × ℕ)) (f : CompactEvent) → with_team (team_in (with_team t f)) f ≡ with_team t f
+    own_team t (compact.Fork region) = refl
+    own_team t _ = refl
 
 module _ (ms more : List (Tid × ℕ)) where
   team_at-append : (first size : ℕ) → first + size ≤ length ms
@@ -24,15 +34,10 @@ module _ (ms more : List (Tid × ℕ)) where
       ap (take size) (drop-append-le first ms more below)
       ∙ take-append-le size (drop first ms) more (omega (arith, length-drop first ms))
 
-  event_in-append : (size : ℕ) (k : Kept) → EndsWithin (length ms) size k
-      → event_in (ms ++ more) size k ≡ event_in ms size k
-  event_in-append size (kept.Fork region first) within =
-      ap (λ (team : List (Tid × ℕ)). event.Fork region team) (team_at-append first size within)
-  event_in-append size _ within = refl
-
   item_in-append : (row : EventRow) → IsSeated (length ms) row → item_in (ms ++ more) row ≡ item_in ms row
   item_in-append row seated =
-      ap (λ (e : Event). (row.step, row.thread, e)) (event_in-append row.size row.kept seated.within)
+      ap (λ (team : List (Tid × ℕ)). (row.step, row.thread, with_team team row.event))
+      (team_at-append row.first row.size seated.within)
 
   items_stay : (rows : List EventRow) → All (IsSeated (length ms)) rows
       → map (item_in (ms ++ more)) rows ≡ map (item_in ms) rows
@@ -58,6 +63,6 @@ seated_more n m rows row le seated new =
     All-append (IsSeated m) rows (row ∷ [])
     (λ k default within. let old = seated k default within in record {
       limit = old.limit;
-      within = ends_within_more n m _ _ le old.within;
+      within = omega (arith, le, old.within);
     })
     (All-cons (IsSeated m) row [] new (All-nil (IsSeated m)))

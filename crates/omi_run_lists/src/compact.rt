@@ -2,6 +2,7 @@
 
 ghost use Rattle.std.specs.Prelude.{◌≡◌};
 ghost use Rattle.omi_run_lists.specs.Compact.{with_team};
+ghost use Rattle.omi_run_lists.specs.Events.{team_in};
 
 use omi_model::{Event, Rid, Team, Tid};
 
@@ -44,6 +45,46 @@ pub enum CompactEvent {
 }
 
 impl CompactEvent {
+    /// An event without the members of its team.
+    pub fn of(event: &Event) -> CompactEvent
+        ensures { with_team (team_in event.now) result ≡ event.now }
+    {
+        match *event {
+            Event::Begin => CompactEvent::Begin,
+            Event::Offer => CompactEvent::Offer,
+            Event::Want { n } => CompactEvent::Want { n },
+            Event::Ask { w, got } => CompactEvent::Ask { w, got },
+            Event::Fork { region, team: _ } => CompactEvent::Fork { region },
+            Event::ImplicitBegin { task } => CompactEvent::ImplicitBegin { task },
+            Event::State { state, wait } => CompactEvent::State { state, wait },
+            Event::Enter => CompactEvent::Enter,
+            Event::Leave => CompactEvent::Leave,
+            Event::Arrive => CompactEvent::Arrive,
+            Event::Release => CompactEvent::Release,
+            Event::Pass => CompactEvent::Pass,
+            Event::ImplicitEnd { task } => CompactEvent::ImplicitEnd { task },
+            Event::Join { region } => CompactEvent::Join { region },
+            Event::FreeTask { task } => CompactEvent::FreeTask { task },
+            Event::FreeRegion { region } => CompactEvent::FreeRegion { region },
+            Event::Seen { j } => CompactEvent::Seen { j },
+            Event::Defer { task } => CompactEvent::Defer { task },
+            Event::StartNow { task } => CompactEvent::StartNow { task },
+            Event::Start { task } => CompactEvent::Start { task },
+            Event::Finish { task } => CompactEvent::Finish { task },
+            Event::WaitDone => CompactEvent::WaitDone,
+            Event::Yield => CompactEvent::Yield,
+            Event::Set { icv, value } => CompactEvent::Set { icv, value },
+            Event::SetTool { x } => CompactEvent::SetTool { x },
+            Event::Lock { k } => CompactEvent::Lock { k },
+            Event::Unlock { k } => CompactEvent::Unlock { k },
+            Event::Work => CompactEvent::Work,
+            Event::Call { f } => CompactEvent::Call { f },
+            Event::Skip => CompactEvent::Skip,
+            Event::Ret => CompactEvent::Ret,
+            Event::Done => CompactEvent::Done,
+        }
+    }
+
     /// The event with the members of a team, which a fork takes and every other event leaves.
     pub fn with_team(self, team: &Team) -> Event
         ensures { result ≡ with_team team.now self }

@@ -1,12 +1,14 @@
 //! The list of committed events, in little room.
 
 ghost use Rattle.std.specs.Prelude.{◌≡◌, ◌+◌, ◌<◌, ◌≤◌, ◌++◌, ◌∷◌, [], length, slice_get, Some, IsOk, IfOk, OnOk, OnErr};
+ghost use Rattle.omi_run_lists.specs.Compact.{with_team};
 ghost use Rattle.omi_run_lists.specs.Events.{team_in};
 
-use crate::kept::{EventRow, event_of, keep};
-use crate::teams::{seat, team_size};
+use crate::CompactEvent;
+use crate::row::{EventRow, put_team};
+use crate::teams::{seat, team_in};
 use omi_list::OutOfMemory;
-use omi_model::{Event, Tid};
+use omi_model::{Event, Team, Tid};
 use std::alloc::Global;
 use std::marker::Model;
 
@@ -64,9 +66,20 @@ impl EventList {
         requires { at < length self.now.items }
         ensures { slice_get self.now.items at ≡ Some result }
     {
+        let mut team = Team::new();
+        let (step, thread, event) = self.get_compact(at, &mut team);
+        (step, thread, event.with_team(&team))
+    }
+
+    /// The event at a place, counted from 0, without its team: step, thread, event. A fork's team is put in place of `team`.
+    pub fn get_compact(&self, at: usize, team: &mut Team) -> (u64, u8, CompactEvent)
+        requires { at < length self.now.items }
+        ensures { slice_get self.now.items at
+            ≡ Some (result.0, result.1, with_team team.new result.2) }
+    {
         let row = self.rows[at];
-        let event = event_of(row.kept, row.size, &self.members);
-        (row.step, row.thread, event)
+        put_team(row, &self.members, team);
+        (row.step, row.thread, row.event)
     }
 
     /// How many more events take no memory, where their teams have seats.
@@ -97,6 +110,28 @@ impl EventList {
         Ok(())
     }
 
+    /// Adds an event at the end, with the number of its step and its thread, in room that is there. A fork has this team. It takes no
+    /// memory.
+    pub fn push_compact(&mut self, step: u64, thread: u8, event: CompactEvent, team: &Team)
+        requires spare { 1 ≤ self.old.spare }
+        requires seats { length (team_in (with_team team.now event)) ≤ self.old.seats }
+        ensures added { self.new.items
+            ≡ self.old.items ++ (step, thread, with_team team.now event) ∷ [] }
+        ensures spare { self.new.spare + 1 ≡ self.old.spare }
+        ensures seats { self.new.seats + length (team_in (with_team team.now event))
+            ≡ self.old.seats }
+    {
+        let first = self.members.len();
+        let size = seat(&mut self.members, event, team);
+        self.rows.push_reserved(EventRow {
+            step,
+            thread,
+            size,
+            first,
+            event,
+        });
+    }
+
     /// Adds an event at the end, in room that is there. It takes no memory.
     pub fn push_reserved(&mut self, e: (u64, u8, Event))
         requires spare { 1 ≤ self.old.spare }
@@ -106,15 +141,8 @@ impl EventList {
         ensures seats { self.new.seats + length (team_in e.2) ≡ self.old.seats }
     {
         let (step, thread, event) = e;
-        let kept = keep(&event, self.members.len());
-        let size = team_size(&event);
-        seat(&mut self.members, &event);
-        self.rows.push_reserved(EventRow {
-            step,
-            thread,
-            size,
-            kept,
-        });
+        let compact = CompactEvent::of(&event);
+        self.push_compact(step, thread, compact, &team_in(&event));
     }
 
     /// Adds an event at the end. Where there is room for it, it takes no memory.
@@ -125,7 +153,7 @@ impl EventList {
         ensures spare { self.old.spare ≤ self.new.spare + 1 }
         ensures seats { self.old.seats ≤ self.new.seats + length (team_in e.2) }
     {
-        self.reserve(1, team_size(&e.2) as usize)?;
+        self.reserve(1, team_in(&e.2).len())?;
         self.push_reserved(e);
         Ok(())
     }

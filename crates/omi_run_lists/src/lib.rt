@@ -3,10 +3,10 @@
 
 mod compact;
 mod event_list;
-mod kept;
 mod laws;
 mod made;
 mod made_list;
+mod row;
 mod teams;
 
 pub use compact::CompactEvent;

@@ -1,29 +1,37 @@
 //! The members of all teams of a list, kept in one list.
 
 ghost use Rattle.std.specs.Prelude.{◌≡◌, ◌≤◌, ◌+◌, ◌++◌, length, vec_len, vec_capacity};
+ghost use Rattle.omi_run_lists.specs.Compact.{with_team};
 ghost use Rattle.omi_run_lists.specs.Events.{team_in};
 
+use crate::CompactEvent;
 use omi_model::{Event, MOST_MEMBERS, Team, Tid};
 
-/// The number of members of an event's team.
-pub fn team_size(event: &Event) -> u8
-    ensures size { result ≡ length (team_in event.now) }
-    ensures limit { result ≤ MOST_MEMBERS }
+/// The team that an event holds: a fork's, and none else.
+pub fn team_in(event: &Event) -> Team
+    ensures { result ≡ team_in event.now }
 {
     match event {
-        Event::Fork { region: _, team } => team.len() as u8,
-        _ => 0,
+        Event::Fork { region: _, team } => *team,
+        _ => Team::new(),
     }
 }
 
-/// Puts the members of an event's team behind the others, in room that is there.
-pub fn seat(members: &mut Vec<(Tid, u8)>, event: &Event)
-    requires { vec_len members.old + length (team_in event.now) ≤ vec_capacity members.old }
-    ensures items { members.new.items ≡ members.old.items ++ team_in event.now }
+/// Puts the members of an event with this team behind the others, in room that is there, and answers how many they are.
+pub fn seat(members: &mut Vec<(Tid, u8)>, event: CompactEvent, team: &Team) -> u8
+    requires { vec_len members.old + length (team_in (with_team team.now event))
+        ≤ vec_capacity members.old }
+    ensures items { members.new.items ≡ members.old.items ++ team_in (with_team team.now event) }
     ensures capacity { vec_capacity members.new ≡ vec_capacity members.old }
+    ensures size { result ≡ length (team_in (with_team team.now event)) }
+    ensures limit { result ≤ MOST_MEMBERS }
 {
-    if let Event::Fork { region: _, team } = event {
-        seat_team(members, team);
+    match event {
+        CompactEvent::Fork { region: _ } => {
+            seat_team(members, team);
+            team.len() as u8
+        }
+        _ => 0,
     }
 }
 

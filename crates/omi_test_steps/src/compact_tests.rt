@@ -32,3 +32,19 @@ fn a_fork_takes_the_team_and_others_leave_it(rt: HostRuntime) -> Result<(), Fail
     assert_eq!(rt; size_of::<CompactEvent>(), 16);
     Ok(())
 }
+
+#[test]
+fn an_event_leaves_its_team(rt: HostRuntime) -> Result<(), Fail> {
+    let mut team = Team::new();
+    team.push(Tid(NAME), 1);
+    let region = Rid(NAME);
+    let fork = Event::Fork { region, team };
+    assert_eq!(rt; CompactEvent::of(&fork), CompactEvent::Fork { region });
+    let task = Tid(NAME);
+    assert_eq!(rt;
+        CompactEvent::of(&Event::Start { task }),
+        CompactEvent::Start { task }
+    );
+    assert_eq!(rt; CompactEvent::of(&Event::Done), CompactEvent::Done);
+    Ok(())
+}

@@ -3,7 +3,7 @@
 ghost use Rattle.std.specs.Prelude.{◌<◌};
 
 use omi_model::{Event, Id, MOST_MEMBERS, Rid, Team, Tid};
-use omi_run_lists::{EventList, Made, MadeList, Turn};
+use omi_run_lists::{CompactEvent, EventList, Made, MadeList, Turn};
 use omi_word::Op;
 use std::test::Fail;
 
@@ -59,6 +59,28 @@ fn events_in_room_that_is_there(rt: HostRuntime) -> Result<(), Fail> {
     assert_eq!(rt; events.len(), 2);
     assert_eq!(rt; events.get(0), (1, 0, fork(0, 64)));
     assert_eq!(rt; events.get(1), (2, 0, Event::SetTool { x: 7 }));
+    Ok(())
+}
+
+#[test]
+fn events_without_their_teams(rt: HostRuntime) -> Result<(), Fail> {
+    let mut events = EventList::new(rt.alloc());
+    events.reserve(3, 2)?;
+    let mut team = Team::new();
+    team.push(Tid(id(3)), 0);
+    team.push(Tid(id(4)), 1);
+    let region = Rid(id(3));
+    events.push_compact(5, 1, CompactEvent::Enter, &team);
+    events.push_compact(6, 1, CompactEvent::Fork { region }, &team);
+    events.push_compact(7, 0, CompactEvent::Join { region }, &team);
+    assert_eq!(rt; events.len(), 3);
+    assert_eq!(rt; events.get(0), (5, 1, Event::Enter));
+    assert_eq!(rt; events.get(1), (6, 1, fork(3, 2)));
+    assert_eq!(rt; events.get(2), (7, 0, Event::Join { region }));
+    let mut told = Team::new();
+    let fork = (6, 1, CompactEvent::Fork { region });
+    assert_eq!(rt; events.get_compact(1, &mut told), fork);
+    assert_eq!(rt; told, team);
     Ok(())
 }
 

@@ -3,8 +3,9 @@
 ghost use Rattle.std.specs.Prelude.{◌≡◌, ◌++◌, IfOk, OnErr, OnOk, string_bytes};
 ghost use Rattle.omi_verbs.specs.EventLines.{event_lines};
 
+use omi_model::Team;
 use omi_run_lists::EventList;
-use omi_text::push_event_line;
+use omi_text::push_compact_line;
 use std::alloc::{AllocError, Global};
 
 /// The line of each event.
@@ -12,9 +13,10 @@ fn lines_of(alloc: Global, events: &EventList) -> Result<String, AllocError>
     ensures { IfOk result (λ lines. string_bytes lines ≡ event_lines events.now.items) }
 {
     let mut lines = String::new(alloc);
+    let mut team = Team::new();
     for at in 0..events.len() {
-        let (step, thread, event) = events.get(at);
-        push_event_line(&mut lines, step, thread, &event)?;
+        let (step, thread, event) = events.get_compact(at, &mut team);
+        push_compact_line(&mut lines, step, thread, event, &team)?;
     }
     Ok(lines)
 }

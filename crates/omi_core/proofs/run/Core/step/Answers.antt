@@ -1,15 +1,17 @@
-use Rattle.std.proofs.Common.{◌≡◌, ◌<◌, ◌≤◌, ◌+◌, ◌++◌, [], ◌∷◌, length, slice_set, refl, sym, ap, ◌∙◌, subst, arith}
+-- A step of a thread of a run: what its calls ask for, and that the run behind it keeps what a run keeps.
+use Rattle.std.proofs.Common.{◌≡◌, ◌<◌, ◌≤◌, ◌+◌, ◌++◌, [], ◌∷◌, ℕ, length, slice_index_or, slice_set, refl, sym, ap, ◌∙◌, subst, arith}
 use Rattle.omi_word.specs.declared.op.Op.{Op}
 use Rattle.omi_word.specs.Memory.{IsWordOf, address_of, word_at}
 use Rattle.omi_pc.specs.declared.actor.Actor.{Actor}
 use Rattle.omi_pc.specs.Fits.{Fits}
 use Rattle.omi_rep.specs.declared.outcome.Outcome.{Outcome}
+use Rattle.omi_step_words.specs.Outcomes.{outcome_of}
 use Rattle.omi_step_words.specs.Placed.{IsPlaced}
 use Rattle.omi_actor.specs.Steps.{next_of, resumed_at}
 use Rattle.omi_rule.specs.StepsKeep.{IsKept}
 use Rattle.omi_core.specs.Runs.{Run, actors_in, spare_in}
 use Rattle.omi_core.specs.declared.entry.Entry.{Entry}
-use Rattle.omi_core.specs.RunSteps.{IsRight, IsStep, event_of, seats_of}
+use Rattle.omi_core.specs.RunSteps.{IsRight, IsStep, event_of, seats_of, turn_of}
 use Rattle.omi_run_lists.specs.declared.made.Turn.{Turn}
 use Rattle.std.proofs.lemmas.List.{length-append}
 use Rattle.omi_core.specs.Kept.{KeepsRun}
@@ -17,58 +19,57 @@ use Rattle.omi_core.proofs.KeptCounters.{step_kept}
 use Rattle.omi_core.proofs.Stepping.{actor_is, few_seats, inside, own, right, run_after, seats_for, spare_after}
 use Rattle.omi_core.proofs.run.Core.step.Goals as goal
 
+-- the actor of a thread, as it is read from the list
+module _ (a : Run) (keeps : KeepsRun a) (i : ℕ) (thread : i < a.program.threads) (b : Actor)
+    (read : b ≡ slice_index_or a.actors i b) where
+  read_is : b ≡ actors_in a.actors i
+  read_is = read ∙ actor_is a.actors i b (subst (λ n. i < n) (sym keeps.actors) thread)
+
+  fits_read : Fits a.program b
+  fits_read = subst (λ (x : Actor). Fits a.program x) (sym read_is) (own a keeps i thread).fits
+
+  placed_read : IsPlaced a.table b
+  placed_read = subst (λ (x : Actor). IsPlaced a.table x) (sym read_is) (own a keeps i thread).placed
+
 pub next-op-requires-clause-fits : goal.next-op-requires-clause-fits
 next-op-requires-clause-fits c =
     let thread = subst (λ (z : Run). c.args.i < z.program.threads) (sym c.self.view_is) c.requires.thread in
-    let here =
-    c.index.ensures
-    ∙ actor_is c.self.inside.actors.items c.args.i c.index.result.now
-    (subst (λ n. c.args.i < n) (sym c.self.invariant.run.actors) thread) in
-    subst (λ (b : Actor). Fits c.self.inside.program b) (sym here)
-    (own _ c.self.invariant.run c.args.i thread).fits
+    fits_read _ c.self.invariant.run c.args.i thread c.index-actor.result.now c.index-actor.ensures
 
 pub next-op-requires-clause-placed : goal.next-op-requires-clause-placed
 next-op-requires-clause-placed c =
     let thread = subst (λ (z : Run). c.args.i < z.program.threads) (sym c.self.view_is) c.requires.thread in
-    let here =
-    c.index.ensures
-    ∙ actor_is c.self.inside.actors.items c.args.i c.index.result.now
-    (subst (λ n. c.args.i < n) (sym c.self.invariant.run.actors) thread) in
-    subst (λ (b : Actor). IsPlaced c.self.inside.layout.table b) (sym here)
-    (own _ c.self.invariant.run c.args.i thread).placed
+    placed_read _ c.self.invariant.run c.args.i thread c.index-actor.result.now c.index-actor.ensures
 
 pub apply-found-requires : goal.apply-found-requires
 apply-found-requires c =
     let thread = subst (λ (z : Run). c.args.i < z.program.threads) (sym c.self.view_is) c.requires.thread in
     let spare = subst (λ (z : Run). 1 ≤ spare_in z) (sym c.self.view_is) c.requires.spare in
     let kept = c.self.invariant.goes_on c.args.i thread in
-    let here =
-    c.index.ensures
-    ∙ actor_is c.self.inside.actors.items c.args.i c.index.result.now
-    (subst (λ n. c.args.i < n) (sym c.self.invariant.run.actors) thread) in
+    let here = read_is _ c.self.invariant.run c.args.i thread c.index-actor.result.now c.index-actor.ensures in
     subst (λ (o : Op). IsWordOf c.self.inside.image (address_of o))
     (sym (c.next-op.ensures ∙ ap (λ (b : Actor). next_of c.self.inside.program c.self.inside.layout.table b) here))
     (inside _ c.self.invariant.run c.args.i thread spare kept)
 
-pub resume-outcome-requires-clause-fits : goal.resume-outcome-requires-clause-fits
-resume-outcome-requires-clause-fits c =
+pub outcome-came-requires-clause-fits : goal.outcome-came-requires-clause-fits
+outcome-came-requires-clause-fits c =
     let thread = subst (λ (z : Run). c.args.i < z.program.threads) (sym c.self.view_is) c.requires.thread in
-    let here =
-    c.index_mut.ensures.value
-    ∙ actor_is c.self.inside.actors.items c.args.i c.index_mut.result.now
-    (subst (λ n. c.args.i < n) (sym c.self.invariant.run.actors) thread) in
-    subst (λ (b : Actor). Fits c.self.inside.program b) (sym here)
-    (own _ c.self.invariant.run c.args.i thread).fits
+    fits_read _ c.self.invariant.run c.args.i thread c.index-actor.result.now c.index-actor.ensures
 
-pub resume-outcome-requires-clause-placed : goal.resume-outcome-requires-clause-placed
-resume-outcome-requires-clause-placed c =
+pub outcome-came-requires-clause-placed : goal.outcome-came-requires-clause-placed
+outcome-came-requires-clause-placed c =
     let thread = subst (λ (z : Run). c.args.i < z.program.threads) (sym c.self.view_is) c.requires.thread in
-    let here =
-    c.index_mut.ensures.value
-    ∙ actor_is c.self.inside.actors.items c.args.i c.index_mut.result.now
-    (subst (λ n. c.args.i < n) (sym c.self.invariant.run.actors) thread) in
-    subst (λ (b : Actor). IsPlaced c.self.inside.layout.table b) (sym here)
-    (own _ c.self.invariant.run c.args.i thread).placed
+    placed_read _ c.self.invariant.run c.args.i thread c.index-actor.result.now c.index-actor.ensures
+
+pub advance-requires-clause-fits : goal.advance-requires-clause-fits
+advance-requires-clause-fits c =
+    let thread = subst (λ (z : Run). c.args.i < z.program.threads) (sym c.self.view_is) c.requires.thread in
+    fits_read _ c.self.invariant.run c.args.i thread c.index_mut.result.now c.index_mut.ensures.value
+
+pub advance-requires-clause-placed : goal.advance-requires-clause-placed
+advance-requires-clause-placed c =
+    let thread = subst (λ (z : Run). c.args.i < z.program.threads) (sym c.self.view_is) c.requires.thread in
+    placed_read _ c.self.invariant.run c.args.i thread c.index_mut.result.now c.index_mut.ensures.value
 
 pub list_event-requires-clause-seats : goal.list_event-requires-clause-seats
 list_event-requires-clause-seats c =
@@ -79,96 +80,105 @@ list_event-requires-clause-seats c =
     let found =
     c.apply-found.ensures.old
     ∙ ap (λ (o : Op). word_at c.self.inside.image (address_of o))
-    (c.next-op.ensures ∙ ap (λ (b : Actor). next_of c.self.inside.program c.self.inside.layout.table b) (c.index.ensures ∙ actor_is c.self.inside.actors.items c.args.i c.index.result.now within)) in
-    seats_for _ c.self.invariant.run c.args.i thread spare kept c.resume-outcome.result
-    (c.resume-outcome.ensures.outcome
+    (c.next-op.ensures
+    ∙ ap (λ (b : Actor). next_of c.self.inside.program c.self.inside.layout.table b)
+    (c.index-actor.ensures ∙ actor_is c.self.inside.actors.items c.args.i c.index-actor.result.now within)) in
+    seats_for _ c.self.invariant.run c.args.i thread spare kept (outcome_of c.index-actor.result.now c.outcome-came.result)
+    (c.outcome-came.ensures
     ∙ ap
     (λ (b : Actor). (resumed_at c.self.inside.program c.self.inside.layout.table b b.counter c.apply-found.result.old).1)
-    (c.index_mut.ensures.value ∙ actor_is c.self.inside.actors.items c.args.i c.index_mut.result.now within)
+    (c.index-actor.ensures ∙ actor_is c.self.inside.actors.items c.args.i c.index-actor.result.now within)
     ∙ ap (λ n. (resumed_at c.self.inside.program c.self.inside.layout.table (actors_in c.self.inside.actors.items c.args.i) (actors_in c.self.inside.actors.items c.args.i).counter n).1) found)
 
 -- ---- behind the step
 
-threads_known : (c : goal.After-list_event) → c.args.i < c.self.inside.program.threads
+threads_known : (c : goal.After-self-1) → c.args.i < c.self.inside.program.threads
 threads_known c = subst (λ (z : Run). c.args.i < z.program.threads) (sym c.self.view_is) c.requires.thread
 
-some_spare : (c : goal.After-list_event)
+some_spare : (c : goal.After-self-1)
     → 1 ≤ spare_in (record { program = c.self.inside.program; table = c.self.inside.layout.table; words = c.self.inside.image; actors = c.self.inside.actors.items; events = c.self.inside.events; made = c.self.inside.made })
 some_spare c = subst (λ (z : Run). 1 ≤ spare_in z) (sym c.self.view_is) c.requires.spare
 
-is_kept : (c : goal.After-list_event) → IsKept (actors_in c.self.inside.actors.items c.args.i).counter
+is_kept : (c : goal.After-self-1) → IsKept (actors_in c.self.inside.actors.items c.args.i).counter
 is_kept c = c.self.invariant.goes_on c.args.i (threads_known c)
 
-in_list : (c : goal.After-list_event) → c.args.i < length c.self.inside.actors.items
+in_list : (c : goal.After-self-1) → c.args.i < length c.self.inside.actors.items
 in_list c = subst (λ n. c.args.i < n) (sym c.self.invariant.run.actors) (threads_known c)
 
 -- the operation, and the word that it found
-op_is : (c : goal.After-list_event)
+op_is : (c : goal.After-self-1)
     → c.next-op.result ≡ next_of c.self.inside.program c.self.inside.layout.table (actors_in c.self.inside.actors.items c.args.i)
 op_is c =
     c.next-op.ensures
     ∙ ap (λ (b : Actor). next_of c.self.inside.program c.self.inside.layout.table b)
-    (c.index.ensures ∙ actor_is c.self.inside.actors.items c.args.i c.index.result.now (in_list c))
+    (c.index-actor.ensures ∙ actor_is c.self.inside.actors.items c.args.i c.index-actor.result.now (in_list c))
 
-found_is : (c : goal.After-list_event)
+found_is : (c : goal.After-self-1)
     → c.apply-found.result.old ≡ word_at c.self.inside.image (address_of (next_of c.self.inside.program c.self.inside.layout.table (actors_in c.self.inside.actors.items c.args.i)))
 found_is c = c.apply-found.ensures.old ∙ ap (λ (o : Op). word_at c.self.inside.image (address_of o)) (op_is c)
 
 -- the actor behind it, and the outcome
-actor_now : (c : goal.After-list_event)
+actor_now : (c : goal.After-self-1)
     → c.index_mut.result.now ≡ actors_in c.self.inside.actors.items c.args.i
 actor_now c =
     c.index_mut.ensures.value
     ∙ actor_is c.self.inside.actors.items c.args.i c.index_mut.result.now (in_list c)
 
-moved_is : (c : goal.After-list_event)
-    → c.resume-outcome.new.a ≡ (resumed_at c.self.inside.program c.self.inside.layout.table (actors_in c.self.inside.actors.items c.args.i) (actors_in c.self.inside.actors.items c.args.i).counter c.apply-found.result.old).0
+moved_is : (c : goal.After-self-1)
+    → c.advance.new.a ≡ (resumed_at c.self.inside.program c.self.inside.layout.table (actors_in c.self.inside.actors.items c.args.i) (actors_in c.self.inside.actors.items c.args.i).counter c.apply-found.result.old).0
 moved_is c =
-    c.resume-outcome.ensures.moved
+    c.advance.ensures
     ∙ ap
     (λ (b : Actor). (resumed_at c.self.inside.program c.self.inside.layout.table b b.counter c.apply-found.result.old).0)
     (actor_now c)
 
-outcome_is : (c : goal.After-list_event)
-    → c.resume-outcome.result ≡ (resumed_at c.self.inside.program c.self.inside.layout.table (actors_in c.self.inside.actors.items c.args.i) (actors_in c.self.inside.actors.items c.args.i).counter c.apply-found.result.old).1
+outcome_is : (c : goal.After-self-1)
+    → c.with_team-outcome.result ≡ (resumed_at c.self.inside.program c.self.inside.layout.table (actors_in c.self.inside.actors.items c.args.i) (actors_in c.self.inside.actors.items c.args.i).counter c.apply-found.result.old).1
 outcome_is c =
-    c.resume-outcome.ensures.outcome
+    c.with_team-outcome.ensures
+    ∙ c.outcome-came.ensures
     ∙ ap
     (λ (b : Actor). (resumed_at c.self.inside.program c.self.inside.layout.table b b.counter c.apply-found.result.old).1)
-    (actor_now c)
+    (c.index-actor.ensures ∙ actor_is c.self.inside.actors.items c.args.i c.index-actor.result.now (in_list c))
 
 -- the run before and behind the step, and what it answers
-abbrev run_before : goal.After-list_event → Run
+abbrev run_before : goal.After-self-1 → Run
 run_before c = record { program = c.self.inside.program; table = c.self.inside.layout.table; words = c.self.inside.image; actors = c.self.inside.actors.items; events = c.self.inside.events; made = c.self.inside.made }
 
-abbrev run_now : goal.After-list_event → Run
+abbrev run_now : goal.After-self-1 → Run
 run_now c = record {
   program = c.self.inside.program;
   table = c.self.inside.layout.table;
   words = c.apply-found.new.self;
-  actors = slice_set c.self.inside.actors.items c.args.i c.resume-outcome.new.a;
+  actors = slice_set c.self.inside.actors.items c.args.i c.advance.new.a;
   events = c.list_event.new.events;
   made = c.push_reserved.new.self;
 }
 
-abbrev entry_of : goal.After-list_event → Entry
-entry_of c = record { op = c.next-op.result; old = c.apply-found.result.old; outcome = c.resume-outcome.result }
+abbrev entry_of : goal.After-self-1 → Entry
+entry_of c = record { op = c.next-op.result; old = c.apply-found.result.old; outcome = c.with_team-outcome.result }
 
-is_step : (c : goal.After-list_event) → IsStep (run_before c) c.args.i (entry_of c) (run_now c)
+is_step : (c : goal.After-self-1) → IsStep (run_before c) c.args.i (entry_of c) (run_now c)
 is_step c = record {
   op = op_is c;
   found = c.apply-found.ensures.old;
   outcome = outcome_is c;
   actors = ap (λ (b : Actor). slice_set c.self.inside.actors.items c.args.i b) (moved_is c);
   words = c.apply-found.ensures.after;
-  made = c.push_reserved.ensures.added ∙ ap (λ (x : Turn). c.self.inside.made.items ++ record { op = c.next-op.result; old = c.apply-found.result.old; thread = c.args.i; turn = x } ∷ []) c.turn_of.ensures;
-  events = c.list_event.ensures.items ∙ ap (λ n. c.self.inside.events.items ++ event_of (n + 1) c.args.i c.resume-outcome.result) c.len.ensures;
+  made =
+      c.push_reserved.ensures.added
+      ∙ ap
+      (λ (x : Turn). c.self.inside.made.items ++ record { op = c.next-op.result; old = c.apply-found.result.old; thread = c.args.i; turn = x } ∷ [])
+      (c.turn_of.ensures c.index-actor.result.now.gathered.team ∙ ap turn_of (sym c.with_team-outcome.ensures));
+  events =
+      c.list_event.ensures.items
+      ∙ (λ k. c.self.inside.events.items ++ event_of (c.len.ensures k + 1) c.args.i (sym c.with_team-outcome.ensures k));
   program = refl;
   table = refl;
 }
 
-outcome_found : (c : goal.After-list_event)
-    → c.resume-outcome.result ≡ (resumed_at c.self.inside.program c.self.inside.layout.table (actors_in c.self.inside.actors.items c.args.i) (actors_in c.self.inside.actors.items c.args.i).counter
+outcome_found : (c : goal.After-self-1)
+    → c.with_team-outcome.result ≡ (resumed_at c.self.inside.program c.self.inside.layout.table (actors_in c.self.inside.actors.items c.args.i) (actors_in c.self.inside.actors.items c.args.i).counter
     (word_at c.self.inside.image (address_of (next_of c.self.inside.program c.self.inside.layout.table (actors_in c.self.inside.actors.items c.args.i))))).1
 outcome_found c =
     outcome_is c
@@ -177,7 +187,7 @@ outcome_found c =
     (found_is c)
 
 -- the actors behind the step, by the word that it found
-actors_are : (c : goal.After-list_event)
+actors_are : (c : goal.After-self-1)
     → (run_now c).actors ≡ slice_set (run_before c).actors c.args.i (resumed_at c.self.inside.program c.self.inside.layout.table (actors_in c.self.inside.actors.items c.args.i) (actors_in c.self.inside.actors.items c.args.i).counter
     (word_at c.self.inside.image (address_of (next_of c.self.inside.program c.self.inside.layout.table (actors_in c.self.inside.actors.items c.args.i))))).0
 actors_are c =
@@ -186,7 +196,7 @@ actors_are c =
     (λ n. slice_set c.self.inside.actors.items c.args.i (resumed_at c.self.inside.program c.self.inside.layout.table (actors_in c.self.inside.actors.items c.args.i) (actors_in c.self.inside.actors.items c.args.i).counter n).0)
     (found_is c)
 
-keeps_run : (c : goal.After-list_event) → KeepsRun (run_now c)
+keeps_run : (c : goal.After-self-1) → KeepsRun (run_now c)
 keeps_run c =
     let step = is_step c in
     run_after (run_before c) c.self.invariant.run c.args.i (threads_known c) (some_spare c) (is_kept c) _
@@ -206,7 +216,7 @@ returns-clause-entry c =
 pub returns-clause-right : goal.returns-clause-right
 returns-clause-right c =
     subst
-    (λ (z : Run). IsRight z c.args.i (record { op = c.next-op.result; old = c.apply-found.result.old; outcome = c.resume-outcome.result })) c.self.view_is
+    (λ (z : Run). IsRight z c.args.i (record { op = c.next-op.result; old = c.apply-found.result.old; outcome = c.with_team-outcome.result })) c.self.view_is
     (right (record { program = c.self.inside.program; table = c.self.inside.layout.table; words = c.self.inside.image; actors = c.self.inside.actors.items; events = c.self.inside.events; made = c.self.inside.made })
     c.self.invariant.run c.args.i (threads_known c) (some_spare c) (is_kept c) _ (op_is c) (found_is c) (outcome_found c))
 
@@ -215,9 +225,9 @@ returns-clause-rule c = let run = keeps_run c in (run.state, run.rule)
 
 pub returns-clause-spare : goal.returns-clause-spare
 returns-clause-spare c =
-    let teams : seats_of c.resume-outcome.result ≤ c.self.inside.program.threads =
+    let teams : seats_of (outcome_of c.index-actor.result.now c.outcome-came.result) ≤ c.self.inside.program.threads =
     subst (λ (o : Outcome). seats_of o ≤ c.self.inside.program.threads)
-    (sym (outcome_found c))
+    (sym (sym c.with_team-outcome.ensures ∙ outcome_found c))
     (few_seats (run_before c) c.self.invariant.run c.args.i (threads_known c) (some_spare c) (is_kept c)) in
     let room = c.list_event.ensures.seats in
     subst (λ (z : Run). spare_in z ≤ spare_in (run_now c) + 1) c.self.view_is

@@ -10,6 +10,7 @@ use Rattle.omi_live.specs.Plays.{looks}
 use Rattle.omi_live.specs.Work.{HasRoom}
 use Rattle.omi_live.specs.declared.known.Part.{Part}
 use Rattle.omi_seat.specs.Known.{steps_known}
+use Rattle.omi_step_words.specs.Outcomes.{outcome_of}
 use Rattle.omi_live.specs.Stops.{ends_at, some_stop, stops_at}
 use Rattle.omi_live.specs.declared.worker.Worker.{Worker}
 use Rattle.omi_live.proofs.Going.{behind_done, behind_goes, behind_stops, behind_told, less_room, stepped_on, IsWorking, looked_work, may_not_ended, may_went, not_begun, same_room}
@@ -49,8 +50,8 @@ returns-then-is_told-clause-worked g c =
     was true = refl
     was false = refl
 
-pub step-outcome-requires-clause-ready : goal.step-outcome-requires-clause-ready
-step-outcome-requires-clause-ready g c =
+pub step-came-requires-clause-ready : goal.step-came-requires-clause-ready
+step-came-requires-clause-ready g c =
     let now = c.loop-step.invariant in
     let then : Part = looks c.is_told.result now.part in
     let looked = c.is_told.ensures.looked now.part now.work.knows in
@@ -75,17 +76,18 @@ returns-then-ends_at-clause-worked g c =
     let now = c.loop-step.invariant in
     let looked = c.is_told.ensures.looked now.part now.work.knows in
     let below = c.loop-step-test.true in
-    let stepped = c.step-outcome.ensures in
+    let stepped = c.step-came.ensures in
     let b = stepped_on now looked c.is_told.ensures.same c.if-is_told.false below stepped.stepped
     stepped.thread in
-    let done : ends_at c.step-outcome.result ≡ true = sym c.ends_at.ensures ∙ c.if-ends_at.true in
+    let done : ends_at (outcome_of c.is_told.new.self.actor c.step-came.result) ≡ true =
+    sym (c.ends_at.ensures c.is_told.new.self.actor.gathered.team) ∙ c.if-ends_at.true in
     (b.part, b.work, behind_done below done b)
 
 pub tell-requires-clause-seated : goal.tell-requires-clause-seated
 tell-requires-clause-seated g c =
     let now = c.loop-step.invariant in
     let looked = c.is_told.ensures.looked now.part now.work.knows in
-    let stepped = c.step-outcome.ensures in
+    let stepped = c.step-came.ensures in
     let b = stepped_on now looked c.is_told.ensures.same c.if-is_told.false c.loop-step-test.true
     stepped.stepped stepped.thread in
     b.work.table
@@ -94,11 +96,11 @@ pub tell-requires-clause-stops : goal.tell-requires-clause-stops
 tell-requires-clause-stops g c =
     let now = c.loop-step.invariant in
     let looked = c.is_told.ensures.looked now.part now.work.knows in
-    let stepped = c.step-outcome.ensures in
+    let stepped = c.step-came.ensures in
     let b = stepped_on now looked c.is_told.ensures.same c.if-is_told.false c.loop-step-test.true
     stepped.stepped stepped.thread in
-    let stops : stops_at c.args.on c.step-outcome.result ≡ true =
-    sym c.stops_at.ensures ∙ c.if-stops_at.true in (
+    let stops : stops_at c.args.on (outcome_of c.is_told.new.self.actor c.step-came.result) ≡ true =
+    sym (c.stops_at.ensures c.is_told.new.self.actor.gathered.team) ∙ c.if-stops_at.true in (
       b.part,
       b.work.knows,
       ap (λ (on : Option Break). some_stop on (steps_known b.part.known)) c.requires.table.stops
@@ -109,23 +111,23 @@ pub loop-step-preserved : goal.loop-step-preserved
 loop-step-preserved g c =
     let now = c.loop-step.invariant in
     let looked = c.is_told.ensures.looked now.part now.work.knows in
-    let stepped = c.step-outcome.ensures in
+    let stepped = c.step-came.ensures in
     let b = stepped_on now looked c.is_told.ensures.same c.if-is_told.false c.loop-step-test.true
     stepped.stepped stepped.thread in
-    let not_done : ends_at c.step-outcome.result ≡ false =
-    sym c.ends_at.ensures ∙ c.if-ends_at.false in
+    let not_done : ends_at (outcome_of c.is_told.new.self.actor c.step-came.result) ≡ false =
+    sym (c.ends_at.ensures c.is_told.new.self.actor.gathered.team) ∙ c.if-ends_at.false in
     let Works : Worker → Type 0 =
     IsWorking c.args.p.now c.args.l.now c.args.words.now.table_id c.args.on c.args.budget
     (c.loop-step.step + 1) c.args.self.now.thread in
     elim c.if-stops_at.branch [
       | then-stops_at w ↦
-          let stops : stops_at c.args.on c.step-outcome.result ≡ true =
-          sym c.stops_at.ensures ∙ w.if-stops_at.true in
+          let stops : stops_at c.args.on (outcome_of c.is_told.new.self.actor c.step-came.result) ≡ true =
+          sym (c.stops_at.ensures c.is_told.new.self.actor.gathered.team) ∙ w.if-stops_at.true in
           subst Works (sym w.self-is)
           (behind_told not_done stops b (w.tell.ensures.told b.part b.work.knows) w.tell.ensures.same)
       | else-stops_at w ↦
-          let goes : stops_at c.args.on c.step-outcome.result ≡ false =
-          sym c.stops_at.ensures ∙ w.if-stops_at.false in
+          let goes : stops_at c.args.on (outcome_of c.is_told.new.self.actor c.step-came.result) ≡ false =
+          sym (c.stops_at.ensures c.is_told.new.self.actor.gathered.team) ∙ w.if-stops_at.false in
           subst Works (sym w.self-is) (behind_goes not_done goes b)
     ]
 
