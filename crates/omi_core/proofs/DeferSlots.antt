@@ -13,7 +13,7 @@ use Rattle.omi_model.specs.declared.id.Tid.{Tid}
 use Rattle.omi_model.specs.declared.item.Item.{Item}
 use Rattle.omi_model.specs.declared.item.Item.TheVariants as item
 use Rattle.omi_model.specs.declared.task.Task.{Task}
-use Rattle.omi_model.specs.Changes.{OfCurrent, encounter, list_of}
+use Rattle.omi_model.specs.Changes.{OfCurrent, encounter}
 use Rattle.omi_model.specs.Lists.{take_item}
 use Rattle.omi_model.specs.Reached.{Step}
 use Rattle.omi_model.specs.State.{State, current_task, task_of}
@@ -29,6 +29,8 @@ use Rattle.omi_rule.specs.Steps.{LeadsOn, committed}
 use Rattle.omi_core.specs.declared.entry.Entry.{Entry}
 use Rattle.omi_core.specs.DeferLaws.{DefersBehindSlots, NoRunDefersBehindSlots}
 use Rattle.omi_core.specs.Steps.{IsStepFrom, Steps, Watches}
+use Rattle.omi_model.proofs.EachObject.{ahead_of_current}
+use Rattle.omi_model.proofs.ListLaws.{passes_front}
 
 -- ---- the slot of a deferred task
 
@@ -42,15 +44,6 @@ few_seen p at task (item.Defer seen f final ∷ xs) found j is taken = go (nat_l
     go true few e = grind (arith, nat_tests)
     go false few e = absurd (cc)
 few_seen p at task xs found j is taken = absurd is
-
--- the list of a thread is that of its current task
-list_is : (s : State) (i : ℕ) (j : ℕ) → OfCurrent s i (λ k t. defers_next j t.list)
-    → defers_next j (list_of s i)
-list_is s i j (k, t, current, next) =
-    let live : current_task s i ≡ Some t =
-    ap (λ (o : Option Tid). option_and_then (task_of s) o) current.name ∙ current.live in
-    subst (defers_next j)
-    (sym (ap (λ (o : Option Task). option_map_or (λ (u : Task). u.list) o (s.threads i).list) live)) next
 
 -- ---- the words of a record
 
@@ -96,8 +89,14 @@ defers_in_slot p w words past s i e next task from is =
     subst (λ (o : Outcome). ComesOf w s i e.op e.old o) is from.comes in
     let leads : Step p s i (event.Defer task) next =
     subst (λ (o : Outcome). LeadsOn p w past s i o next) is from.leads in
-    let (j, here, (k, t, r, current, found, (x, member, (word, stores)))) = comes.0 in
-    (x, j, few_seen p (encounter s i) task (list_of s i) (leads.legal.item, leads.legal.behind) j (list_is s i j here) leads.legal.taken, ap address_of stores)
+    let (j, here, (k, t, r, current, found, (x, member, (word, stores)))) = comes.0 in (
+      x,
+      j,
+      few_seen p (encounter s i) task here.1.list (leads.legal.item, leads.legal.behind) j here.3
+          (sym (passes_front p (encounter s i) (event.Defer task) here.1.frees here.1.list refl)
+          ∙ (ap (take_item p (encounter s i) (event.Defer task)) (sym (ahead_of_current s i here.0 here.1 here.2)) ∙ leads.legal.taken)),
+      ap address_of stores,
+    )
 
 step_not_behind : (p : Program) (w words : List ℕ) (past : List (ℕ × Event)) (s : State) (i : ℕ) (e : Entry) (next : State)
     → IsValid w → IsStepFrom p w words past s i e next → DefersBehindSlots w e → ⊥

@@ -11,10 +11,11 @@ use Rattle.omi_model.specs.declared.event.Event.TheVariants as event
 use Rattle.omi_model.specs.declared.id.Id.{Id}
 use Rattle.omi_model.specs.declared.id.Tid.{Tid}
 use Rattle.omi_model.specs.declared.item.Item.{Item}
+use Rattle.omi_model.specs.declared.item.Item.TheVariants as item
 use Rattle.omi_model.specs.declared.region.Region.{Region}
 use Rattle.omi_model.specs.declared.slot.Slot.{Slot}
 use Rattle.omi_model.specs.declared.task.Task.{Task}
-use Rattle.omi_model.specs.Changes.{IsCurrent, OfCurrent, OfCurrentRegion, encounter, list_of, on_task, on_thread, with_list}
+use Rattle.omi_model.specs.Changes.{IsCurrent, OfCurrent, OfCurrentRegion, ahead_of, encounter, on_task, on_thread, with_list}
 use Rattle.omi_model.specs.Lists.{fits, may_drop, opened, stays, take_item}
 use Rattle.omi_model.specs.Put.{Slots, changed, found, named, on, put}
 use Rattle.omi_model.specs.Rules.{Legal, Rule, after, effect}
@@ -46,7 +47,7 @@ module _ (p : Program) (at : Encounter) (e : Event) (t : Item × List Item) wher
 
 module _ (p : Program) (s : State) (i : ℕ) (e : Event) (legal : Legal p s i e) (at : Encounter)
     (list : List Item) (m : Option (Item × List Item))
-    (at_is : at ≡ encounter s i) (list_is : list ≡ list_of s i)
+    (at_is : at ≡ encounter s i) (list_is : list ≡ ahead_of s i)
     (moves : m ≡ moved at e (take_item p at e list)) where
   moved_is : m ≡ Some (legal.item, stays (encounter s i) e legal.item legal.behind)
   moved_is =
@@ -72,7 +73,7 @@ module _ (p : Program) (s : State) (i : ℕ) (e : Event) (legal : Legal p s i e)
     pub fits_is : fits e x ≡ true
     fits_is =
         ap (fits e) item_is
-        ∙ fits_taken p (encounter s i) e (legal.item, legal.behind) (list_of s i) legal.taken
+        ∙ fits_taken p (encounter s i) e (legal.item, legal.behind) (ahead_of s i) legal.taken
 
     -- the state after the event is that of its effect
     pub after_is : (after_list : State) → after_list ≡ with_list s i next
@@ -139,41 +140,41 @@ module _ (s : State) (i : ℕ) (list : List Item) where
   count_same = go (s.threads i).current
     where
       go : (o : Option Tid)
-          → (option_map_or (λ (k : Tid). on_task s k (λ t. record t { list = list })) o (on_thread s i (λ h. record h { list = list }))).count ≡ s.count
+          → (option_map_or (λ (k : Tid). on_task s k (λ t. record t { frees = None; list = list })) o (on_thread s i (λ h. record h { list = list }))).count ≡ s.count
       go None = refl
       go (Some k) = refl
 
   in_task : (k : Tid) → (s.threads i).current ≡ Some k
-      → with_list s i list ≡ on_task s k (λ t. record t { list = list })
+      → with_list s i list ≡ on_task s k (λ t. record t { frees = None; list = list })
   in_task k name =
       ap
-      (λ (o : Option Tid). option_map_or (λ (k : Tid). on_task s k (λ t. record t { list = list })) o (on_thread s i (λ h. record h { list = list }))) name
+      (λ (o : Option Tid). option_map_or (λ (k : Tid). on_task s k (λ t. record t { frees = None; list = list })) o (on_thread s i (λ h. record h { list = list }))) name
 
   in_thread : (s.threads i).current ≡ None
       → with_list s i list ≡ on_thread s i (λ h. record h { list = list })
   in_thread none =
       ap
-      (λ (o : Option Tid). option_map_or (λ (k : Tid). on_task s k (λ t. record t { list = list })) o (on_thread s i (λ h. record h { list = list }))) none
+      (λ (o : Option Tid). option_map_or (λ (k : Tid). on_task s k (λ t. record t { frees = None; list = list })) o (on_thread s i (λ h. record h { list = list }))) none
 
   current_now : (k : Tid) (t : Task) → IsCurrent s i k t
-      → IsCurrent (on_task s k (λ t. record t { list = list })) i k (record t { list = list })
-  current_now k t is = record { name = is.name; live = named_on s.tasks k.0 (λ t. record t { list = list }) t is.live }
+      → IsCurrent (on_task s k (λ t. record t { frees = None; list = list })) i k (record t { frees = None; list = list })
+  current_now k t is = record { name = is.name; live = named_on s.tasks k.0 (λ t. record t { frees = None; list = list }) t is.live }
 
   has_current : (P : Tid → Task → Type 0) → OfCurrent s i P → HasCurrent (with_list s i list) i
   has_current P (k, t, is, holds) =
       subst (λ (x : State). HasCurrent x i) (sym (in_task k is.name))
-      (k, record t { list = list }, current_now k t is, tt)
+      (k, record t { frees = None; list = list }, current_now k t is, tt)
 
   has_region : (P : Tid → Task → Region → Type 0) → OfCurrentRegion s i P → HasRegion (with_list s i list) i
   has_region P (k, t, r, is, region, holds) =
       subst (λ (x : State). HasRegion x i) (sym (in_task k is.name))
-      (k, record t { list = list }, r, current_now k t is, region, tt)
+      (k, record t { frees = None; list = list }, r, current_now k t is, region, tt)
 
   has_task : (P : Tid → Task → Type 0) (task : Tid) → OfCurrent s i P → IsSome (task_of s task)
       → IsSome (task_of (with_list s i list) task)
   has_task P task (k, t, is, holds) some =
       subst (λ (x : State). IsSome (task_of x task)) (sym (in_task k is.name))
-      (same_some (task_of s task) (task_of (on_task s k (λ t. record t { list = list })) task) (sym (still_named s.tasks k.0 task.0 (λ t. record t { list = list }))) some)
+      (same_some (task_of s task) (task_of (on_task s k (λ t. record t { frees = None; list = list })) task) (sym (still_named s.tasks k.0 task.0 (λ t. record t { frees = None; list = list }))) some)
 
   -- what an event's rule asks of the state gives what its change needs once the list has moved on
   pub needs_moved : (e : Event) (x : Item) → Rule s i e x → Needs (with_list s i list) i e
@@ -193,6 +194,9 @@ module _ (s : State) (i : ℕ) (list : List Item) where
   needs_moved (event.Start task) x rule =
       (has_current _ rule, has_task _ task rule (some_task (task_of s task) rule.3.new rule.3.live))
   needs_moved (event.Finish task) x rule = has_current _ rule
+  needs_moved (event.FreeTask task) (item.Frees n) rule =
+      (has_current _ rule, has_task _ task rule (some_task (task_of s task) rule.3.old rule.3.live))
+  needs_moved (event.FreeTask task) x rule = absurd rule
   needs_moved (event.Set icv value) x rule = has_current _ rule
   needs_moved (event.SetTool y) x rule = has_current _ rule
   needs_moved e x rule = tt

@@ -8,8 +8,8 @@ use Rattle.omi_model.specs.declared.id.Tid.{Tid}
 use Rattle.omi_model.specs.declared.item.Item.{Item}
 use Rattle.omi_model.specs.declared.slot.Slot.{Slot}
 use Rattle.omi_model.specs.declared.thread.Thread.{Thread}
-use Rattle.omi_model.specs.Changes.{on_task, on_thread, with_list}
-use Rattle.omi_model.specs.Put.{Slots, changed, found, named, on, put}
+use Rattle.omi_model.specs.Changes.{on_task, on_thread, with_ahead}
+use Rattle.omi_model.specs.Put.{Slots, changed, found, named, on, put, emptied, gone}
 use Rattle.omi_model.specs.State.{State}
 use Rattle.omi_machine.proofs.KeptSlotLemmas.{changed_found}
 
@@ -56,6 +56,22 @@ none_changed {A} slot g f = go (slot.generations == g + 1)
         let live : option_map f slot.live ≡ slot.live = ap (option_map f) none ∙ sym none in
         λ j. record { generations = slot.generations; live = live j }
     go false none = refl
+
+-- where no object is found none is gone
+none_emptied : {A : Type 0} (slot : Slot A) (g : ℕ) → found g slot ≡ None → emptied g slot ≡ slot
+none_emptied {A} slot g = go (slot.generations == g + 1)
+  where
+    go : (b : Bool) → (if b then slot.live else None) ≡ None
+        → (if b then record { generations = slot.generations; live = None } else slot) ≡ slot
+    go true none = λ j. record { generations = slot.generations; live = sym none j }
+    go false none = refl
+
+pub gone_none : {A : Type 0} (slots : Slots A) (n : Id) → named slots n ≡ None → gone slots n ≡ slots
+gone_none {A} slots n none =
+    ap (λ (v : Slot A). put slots n.creator (put (slots n.creator) n.slot v))
+    (none_emptied (slots n.creator n.slot) n.generation none)
+    ∙ ap (put slots n.creator) (put_same (slots n.creator) n.slot)
+    ∙ put_same slots n.creator
 
 module _ {A : Type 0} (slots : Slots A) (n : Id) (f : A → A) where
   pub on_none : named slots n ≡ None → on slots n f ≡ slots
@@ -122,14 +138,14 @@ thread_back s i f g back =
     ∙ put_same s.threads i)
 
 -- the list of a thread without a task, exchanged and exchanged back
-pub list_back : (s next : State) (i : ℕ) (list old : List Item) → (s.threads i).current ≡ None
+pub list_back : (s next : State) (i : ℕ) (frees : Option Tid) (list old : List Item) → (s.threads i).current ≡ None
     → next ≡ on_thread s i (λ h. record h { list = list })
-    → on_thread next i (λ h. record h { list = old }) ≡ s → with_list next i old ≡ s
-list_back s next i list old none after back =
+    → on_thread next i (λ h. record h { list = old }) ≡ s → with_ahead next i frees old ≡ s
+list_back s next i frees list old none after back =
     let current : (next.threads i).current ≡ None =
     ap (λ (x : State). (x.threads i).current) after
     ∙ ap (λ (h : Thread). h.current) (put_at s.threads i (record (s.threads i) { list = list }))
     ∙ none in
     ap
-    (λ (o : Option Tid). option_map_or (λ (k : Tid). on_task next k (λ t. record t { list = old })) o (on_thread next i (λ h. record h { list = old }))) current
+    (λ (o : Option Tid). option_map_or (λ (k : Tid). on_task next k (λ t. record t { frees = frees; list = old })) o (on_thread next i (λ h. record h { list = old }))) current
     ∙ back

@@ -10,7 +10,7 @@ use Rattle.omi_model.specs.declared.id.Id.{Id}
 use Rattle.omi_model.specs.declared.slot.Slot.{Slot}
 use Rattle.omi_machine.specs.Kept.{slots_of}
 use Rattle.omi_machine.specs.KeptSlots.{IsKept, row_at, slot_at, with_slot}
-use Rattle.omi_model.specs.Put.{put, on, made, named, found, changed, unused}
+use Rattle.omi_model.specs.Put.{put, on, made, named, found, changed, unused, emptied, gone}
 
 -- the element at a place of a list of which one is exchanged
 pub got : {A : Type 0} (xs : List A) (i j : ℕ) (x : A) → i < length xs
@@ -105,6 +105,25 @@ object_changed {A} slots n f t kept live =
     slots_put slots n kept _
     ∙ ap (λ (v : Slot A). put (slots_of slots) n.creator (put (slots_of slots n.creator) n.slot v))
     (sym (changed_found (slots_of slots n.creator n.slot) n.generation f t live))
+
+-- a slot that is emptied
+emptied_found : {A : Type 0} (slot : Slot A) (g : ℕ) (t : A) → found g slot ≡ Some t
+    → emptied g slot ≡ record { generations = g + 1; live = None }
+emptied_found {A} slot g t = go (slot.generations == g + 1) refl
+  where
+    go : (b : Bool) → slot.generations == g + 1 ≡ b → (if b then slot.live else None) ≡ Some t
+        → (if b then record { generations = slot.generations; live = None } else slot) ≡ record { generations = g + 1; live = None }
+    go true is live = let generations = eqb-true slot.generations (g + 1) is in λ j. record { generations = generations j; live = None }
+    go false is live = absurd (cc)
+
+-- the object of a name is gone
+pub object_gone : {A : Type 0} (slots : List (List (Slot A))) (n : Id) (t : A) → IsKept slots n
+    → named (slots_of slots) n ≡ Some t
+    → slots_of (with_slot slots n (record { generations = n.generation + 1; live = None })) ≡ gone (slots_of slots) n
+object_gone {A} slots n t kept live =
+    slots_put slots n kept _
+    ∙ ap (λ (v : Slot A). put (slots_of slots) n.creator (put (slots_of slots n.creator) n.slot v))
+    (sym (emptied_found (slots_of slots n.creator n.slot) n.generation t live))
 
 -- an object begins
 pub object_made : {A : Type 0} (slots : List (List (Slot A))) (n : Id) (x : A) → IsKept slots n

@@ -27,6 +27,7 @@ Needs s i (event.Defer task) = HasCurrent s i
 Needs s i (event.StartNow task) = HasCurrent s i
 Needs s i (event.Start task) = HasCurrent s i × IsSome (task_of s task)
 Needs s i (event.Finish task) = HasCurrent s i
+Needs s i (event.FreeTask task) = HasCurrent s i × IsSome (task_of s task)
 Needs s i (event.Set icv value) = HasCurrent s i
 Needs s i (event.SetTool x) = HasCurrent s i
 Needs s i e = ⊤

@@ -6,8 +6,8 @@ ghost use Rattle.omi_model.specs.Rules.{Legal, after};
 
 use crate::State;
 use crate::effects::take_effect;
-use crate::list_changes::exchange_list;
-use crate::moved_list::moved_list;
+use crate::list_changes::exchange_ahead;
+use crate::moved_list::moved_ahead;
 use omi_model::Event;
 use omi_script::Program;
 use omi_word::OutOfMemory;
@@ -28,15 +28,16 @@ pub fn after(
     ensures refused { OnErr result (state_of s.new ≡ state_of s.old) }
 {
     let i = thread as usize;
-    let moved = moved_list(alloc, p, s.encounter(i), e, s.list_of(i))?;
+    let (frees, list) = s.ahead_of(i);
+    let moved = moved_ahead(alloc, p, s.encounter(i), e, frees, list)?;
     let Some((x, list)) = moved else {
         unreachable!();
     };
-    let old = exchange_list(alloc, s, i, list);
+    let (old_frees, old) = exchange_ahead(alloc, s, i, None, list);
     match take_effect(alloc, p, s, thread, e, x) {
         Ok(()) => Ok(()),
         Err(refused) => {
-            exchange_list(alloc, s, i, old);
+            exchange_ahead(alloc, s, i, old_frees, old);
             Err(refused)
         }
     }

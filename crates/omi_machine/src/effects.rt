@@ -15,7 +15,7 @@ use crate::lock_changes::set_lock;
 use crate::new_tasks::{defer, start_now};
 use crate::new_teams::fork;
 use crate::setting_changes::{enter, leave, set_tool};
-use crate::task_changes::{begin_task, finish, start, start_alone};
+use crate::task_changes::{begin_task, finish, free, start, start_alone};
 use crate::team_changes::{end_task, join};
 use crate::thread_changes::{ask, begin, offer, show_state, want};
 use crate::variable_changes::set_variable;
@@ -144,7 +144,7 @@ pub(crate) fn take_effect(
         Event::Set { icv, value } => return set_variable(alloc, s, i, *icv, *value),
         Event::Lock { k } => return set_lock(s, *k, Some(thread)),
         Event::Unlock { k } => return set_lock(s, *k, None),
-        Event::FreeTask { .. } | Event::FreeRegion { .. } => unreachable!(),
+        Event::FreeRegion { .. } => unreachable!(),
         Event::Begin => begin(alloc, s, i),
         Event::Offer => offer(alloc, s, i),
         Event::Want { n } => want(alloc, s, i, *n),
@@ -155,6 +155,7 @@ pub(crate) fn take_effect(
         Event::ImplicitEnd { .. } => end_task(alloc, s, i),
         Event::Join { .. } => join(alloc, s, i),
         Event::Finish { .. } => finish(alloc, s, i),
+        Event::FreeTask { task } => free(alloc, s, i, *task),
         Event::SetTool { x } => set_tool(alloc, s, i, *x),
         Event::Pass
         | Event::Seen { .. }

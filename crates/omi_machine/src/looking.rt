@@ -53,7 +53,10 @@ pub fn head_item(at: Encounter, x: Item) -> Item
 pub fn may_pass_over(x: Item) -> bool
     ensures { result ≡ may_drop x }
 {
-    matches!(x, Item::Asks | Item::Tasks { .. } | Item::OneTask)
+    matches!(
+        x,
+        Item::Asks | Item::Tasks { .. } | Item::OneTask | Item::Frees { .. }
+    )
 }
 
 /// Whether the event is this item's.
@@ -82,6 +85,7 @@ pub fn is_events_item(e: &Event, x: Item) -> bool
         (Event::StartNow { .. }, Item::StartNow { .. }) => true,
         (Event::Start { .. }, Item::Tasks { .. } | Item::OneTask) => true,
         (Event::Finish { .. }, Item::Finish) => true,
+        (Event::FreeTask { .. }, Item::Frees { .. }) => true,
         (Event::WaitDone, Item::WaitDone) => true,
         (Event::Yield, Item::Yield) => true,
         (Event::Set { icv, value }, Item::Set { icv: v, value: x }) => *icv == v && *value == x,

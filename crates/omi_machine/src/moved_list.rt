@@ -3,12 +3,13 @@
 ghost use Rattle.std.specs.Prelude.{◌≡◌, ◌<◌, ◌+◌, ◌∷◌, IfOk, OnOk, true};
 ghost use Rattle.std.specs.Option.{option_map};
 ghost use Rattle.omi_numbers.specs.declared.limits.TheConstants.{OWN_SLOTS};
+ghost use Rattle.omi_model.specs.Changes.{in_front};
 ghost use Rattle.omi_model.specs.Lists.{fits, opened, stays, take_item};
 
 use crate::first_lists::push_shown;
 use crate::looking::{head_item, is_events_item, may_pass_over};
 use crate::statement_rows::push_behind;
-use omi_model::{Encounter, Event, Item, ItemList};
+use omi_model::{Encounter, Event, Item, ItemList, Tid};
 use omi_numbers::IDLE;
 use omi_script::Program;
 use omi_word::OutOfMemory;
@@ -57,7 +58,7 @@ fn push_opened(list: &mut ItemList, p: &Program, at: Encounter, x: Item) -> Resu
 }
 
 /// The item that an event takes off a list, with the list afterwards. None where the list doesn't allow the event.
-pub(crate) fn moved_list(
+fn moved_list(
     alloc: Global,
     p: &Program,
     at: Encounter,
@@ -81,4 +82,22 @@ pub(crate) fn moved_list(
         }
     }
     Ok(None)
+}
+
+/// The same of a list in front of which a finished task may be given back.
+pub(crate) fn moved_ahead(
+    alloc: Global,
+    p: &Program,
+    at: Encounter,
+    e: &Event,
+    frees: Option<Tid>,
+    list: &ItemList,
+) -> Result<Option<(Item, ItemList)>, OutOfMemory>
+    ensures { IfOk result (λ moved. moved ≡ option_map (λ x. (x.0, stays at e.now x.0 x.1))
+        (take_item p.now at e.now (in_front frees list.now))) }
+{
+    if let (Some(task), Event::FreeTask { .. }) = (frees, e) {
+        return Ok(Some((Item::Frees { task }, list.from_place(alloc, 0)?)));
+    }
+    moved_list(alloc, p, at, e, list)
 }

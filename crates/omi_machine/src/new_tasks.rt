@@ -65,6 +65,7 @@ fn new_deferred(
         tool: 0,
         progress: Progress::Deferred,
         place,
+        frees: None,
         list: task_list(alloc, p, f)?,
     })
 }

@@ -178,6 +178,7 @@ fn new_member(
             Progress::NotBegun
         },
         place: 0,
+        frees: None,
         list: member_list(alloc, p, at, f)?,
     })
 }

@@ -175,6 +175,7 @@ fn initial_task(alloc: Global, p: &Program) -> Result<Task, OutOfMemory>
         tool: 0,
         progress: Progress::Begun,
         place: 0,
+        frees: None,
         list: main_list(alloc, p)?,
     })
 }

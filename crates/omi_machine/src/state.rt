@@ -2,7 +2,7 @@
 
 ghost use Rattle.std.specs.Prelude.{◌≡◌, ◌<◌, IfSome, None, Some, slice_index, unwrap_or};
 ghost use Rattle.std.specs.Option.{option_map};
-ghost use Rattle.omi_model.specs.Changes.{IsCurrent, encounter, level_of, list_of};
+ghost use Rattle.omi_model.specs.Changes.{IsCurrent, ahead_of, encounter, in_front, level_of};
 ghost use Rattle.omi_machine.specs.Kept.{slots_of, state_of};
 ghost use Rattle.omi_model.specs.declared.id.Tid.{Tid};
 ghost use Rattle.omi_model.specs.declared.region.Region.{Region};
@@ -206,14 +206,14 @@ impl State {
         }
     }
 
-    /// The list that allows a thread's events.
-    pub fn list_of(&self, i: usize) -> &ItemList
+    /// What a thread may go on with: the task that may be given back next, and the list behind it.
+    pub fn ahead_of(&self, i: usize) -> (Option<Tid>, &ItemList)
         requires { i < (state_of self.now).count }
-        ensures { result.now ≡ list_of (state_of self.now) i }
+        ensures { in_front result.0 result.1.now ≡ ahead_of (state_of self.now) i }
     {
         match self.current_task(i) {
-            Some(t) => &t.list,
-            None => &self.thread(i).list,
+            Some(t) => (t.frees, &t.list),
+            None => (None, &self.thread(i).list),
         }
     }
 }

@@ -7,18 +7,19 @@ ghost use Rattle.omi_machine.specs.Kept.{state_of};
 ghost use Rattle.omi_model.specs.Rules.{Legal, taken_by};
 
 use crate::rule::rule_holds;
-use crate::taken::taken_item;
+use crate::taken::taken_ahead;
 use omi_machine::State;
 use omi_model::{Event, Item};
 use omi_script::Program;
 
-/// The item that an event of a thread takes off the list that allows the thread's events.
+/// The item that an event of a thread takes off what the thread may go on with.
 fn events_item(s: &State, i: usize, e: &Event) -> Option<Item>
     requires { i < (state_of s.now).count }
     ensures { (p : Program)
         → option_map (λ t. t.0) (taken_by p (state_of s.now) i e.now) ≡ result }
 {
-    taken_item(s.encounter(i), e, s.list_of(i))
+    let (frees, list) = s.ahead_of(i);
+    taken_ahead(s.encounter(i), e, frees, list)
 }
 
 /// Whether an event of a thread is legal in a state of a program: the thread is one of the program's, its to-do list allows

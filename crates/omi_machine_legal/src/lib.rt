@@ -4,6 +4,7 @@
 
 mod ask_rules;
 mod barrier_rules;
+mod childless;
 mod fork_rules;
 mod fresh;
 mod legality;

@@ -10,10 +10,10 @@ use crate::ask_rules::{may_ask, may_want};
 use crate::barrier_rules::{may_arrive, may_pass, may_release};
 use crate::fork_rules::may_fork;
 use crate::lock_rules::{may_lock, may_unlock};
-use crate::task_rules::{may_end_wait, may_finish, may_make, may_see, may_start};
+use crate::task_rules::{may_end_wait, may_finish, may_free, may_make, may_see, may_start};
 use crate::team_rules::{may_begin, may_begin_task, may_end, may_join, may_offer};
 use omi_machine::State;
-use omi_model::{Event, Item};
+use omi_model::{Event, Item, Tid};
 
 /// Whether a thread has a current task that is live.
 fn has_current(s: &State, i: usize) -> bool
@@ -30,6 +30,17 @@ fn may_want_by(s: &State, i: usize, n: u8, x: Item) -> bool
 {
     match x {
         Item::Want { num } => may_want(s, i, n, num),
+        _ => false,
+    }
+}
+
+/// Whether a task is given back, by an item.
+fn may_free_by(s: &State, i: usize, task: Tid, x: Item) -> bool
+    requires { i < (state_of s.now).count }
+    ensures { (result ≡ true) ↔ Rule (state_of s.now) i (event.FreeTask task) x }
+{
+    match x {
+        Item::Frees { task: next } => may_free(s, i, task, next),
         _ => false,
     }
 }
@@ -61,7 +72,8 @@ pub fn rule_holds(s: &State, i: usize, e: &Event, x: Item) -> bool
         Event::Lock { k } => may_lock(s, *k),
         Event::Unlock { k } => may_unlock(s, i, *k),
         Event::Done => i == 0,
-        Event::FreeTask { .. } | Event::FreeRegion { .. } => false,
+        Event::FreeTask { task } => may_free_by(s, i, *task, x),
+        Event::FreeRegion { .. } => false,
         Event::State { .. }
         | Event::Yield
         | Event::Work

@@ -3,13 +3,14 @@
 ghost use Rattle.std.specs.Prelude.{◌≡◌};
 ghost use Rattle.std.specs.Option.{option_map};
 ghost use Rattle.omi_script.specs.declared.program.Program.{Program};
+ghost use Rattle.omi_model.specs.Changes.{in_front};
 ghost use Rattle.omi_model.specs.Lists.{take_item};
 
 use omi_machine::{head_item, is_events_item, may_pass_over};
-use omi_model::{Encounter, Event, Item, ItemList};
+use omi_model::{Encounter, Event, Item, ItemList, Tid};
 
 /// The item that an event takes off a list, where the list allows the event.
-pub fn taken_item(at: Encounter, e: &Event, list: &ItemList) -> Option<Item>
+fn taken_item(at: Encounter, e: &Event, list: &ItemList) -> Option<Item>
     ensures { (p : Program) → option_map (λ t. t.0) (take_item p at e.now list.now) ≡ result }
 {
     for k in 0..list.len() {
@@ -23,4 +24,15 @@ pub fn taken_item(at: Encounter, e: &Event, list: &ItemList) -> Option<Item>
         }
     }
     None
+}
+
+/// The same of a list in front of which a finished task may be given back.
+pub fn taken_ahead(at: Encounter, e: &Event, frees: Option<Tid>, list: &ItemList) -> Option<Item>
+    ensures { (p : Program)
+        → option_map (λ t. t.0) (take_item p at e.now (in_front frees list.now)) ≡ result }
+{
+    if let (Some(task), Event::FreeTask { .. }) = (frees, e) {
+        return Some(Item::Frees { task });
+    }
+    taken_item(at, e, list)
 }

@@ -16,7 +16,7 @@ use Rattle.omi_model.specs.declared.item.Item.TheVariants as item
 use Rattle.omi_model.specs.declared.region.Region.{Region}
 use Rattle.omi_model.specs.declared.task.Task.{Task}
 use Rattle.omi_model.specs.Barriers.{HaveArrived}
-use Rattle.omi_model.specs.Changes.{IsCurrent, encounter, encounter_by}
+use Rattle.omi_model.specs.Changes.{IsCurrent, encounter, encounter_by, in_front}
 use Rattle.omi_model.specs.LawMembers.{AreMembersKnown}
 use Rattle.omi_model.specs.Lists.{fits, stays, take_item}
 use Rattle.omi_model.specs.Opening.{opening, opening_region}
@@ -27,12 +27,12 @@ use Rattle.omi_model.specs.State.{State, region_of, task_of}
 use Rattle.omi_model.proofs.BarrierCounts.{barriers_of, counted}
 use Rattle.omi_model.proofs.BarrierOrder.{IsCounted, IsReady, Outside, Phase, Released, Waiting, Wrong, and_left, any_number, arrive_ready, fair, fair_item, main_ready, member_ready, order, pass_ready, release_ready, shown_ready, stays_ready, take_ready, task_ready, wrong}
 use Rattle.omi_model.proofs.BarrierSteps.{Changes, region_changed}
-use Rattle.omi_model.proofs.EachObject.{EachTask, IsTaskLaw, list_of_current, over_events, start_list, task_step_from}
-use Rattle.omi_model.proofs.ListLaws.{take_fits}
+use Rattle.omi_model.proofs.EachObject.{EachTask, IsTaskLaw, ahead_of_current, over_events, start_list, task_step_from}
+use Rattle.omi_model.proofs.ListLaws.{take_fits, by_taken}
 use Rattle.omi_model.proofs.MembersKnown.{members_known, members_step}
 use Rattle.omi_model.proofs.OpeningObjects.{each_first_task}
 use Rattle.omi_model.proofs.Slots.{false_true, same_or_not, some_same}
-use Rattle.omi_model.proofs.StaysKept.{stays_step}
+use Rattle.omi_model.proofs.StaysKept.{needed_region, stays_step}
 use Rattle.omi_model.proofs.Steps.{IsMove, IsRelisted, is_relisted, move_of, moved_on, relisted}
 
 -- a member's arrivals, where so many barriers are released
@@ -110,12 +110,17 @@ module _ (p : Program) (b : ℕ → ℕ) (ok : IsCounted p b) (s : State) (i : �
 
   -- what the event takes off the current task's list
   taken_ready : (k : Tid) (t : Task) → IsCurrent s i k t
-      → take_item p (encounter s i) e t.list ≡ Some (the_move.item, the_move.behind) → (ph : Phase) (w : ℕ)
+      → take_item p (encounter s i) e (in_front t.frees t.list) ≡ Some (the_move.item, the_move.behind) → (ph : Phase) (w : ℕ)
       → IsReady b t.number ph w t.list → IsReady b t.number ph w (the_move.item ∷ the_move.behind)
   taken_ready k t is taken ph w r =
       let same = number_met s i k t is in
       subst (λ n. IsReady b n ph w (the_move.item ∷ the_move.behind)) same
-      (take_ready p b ok (encounter s i) e ph w t.list the_move.item the_move.behind taken (subst (λ n. IsReady b n ph w t.list) (sym same) r))
+      (by_taken p (encounter s i) e t.frees t.list the_move.item the_move.behind
+      (λ f y ys. IsReady b (encounter s i).number ph w (y ∷ ys)) taken
+      (λ from. take_ready p b ok (encounter s i) e ph w t.list the_move.item the_move.behind from here) (λ task n. record { in_order = here.in_order; barriers = omega (arith, here.barriers); is_fair = here.is_fair }))
+    where
+      here : IsReady b (encounter s i).number ph w t.list
+      here = subst (λ n. IsReady b n ph w t.list) (sym (number_met s i k t is)) r
 
   -- two members of one region have two numbers
   apart : (k : Tid) (t : Task) (k0 : Tid) (t0 : Task) → task_of s k ≡ Some t → task_of s k0 ≡ Some t0
@@ -264,7 +269,7 @@ module _ (p : Program) (b : ℕ → ℕ) (ok : IsCounted p b) (s : State) (i : �
 
   -- a release is by an implicit task
   releases_implicit : (k0 : Tid) (t0 : Task) → e ≡ event.Release → IsCurrent s i k0 t0
-      → take_item p (encounter s i) e t0.list ≡ Some (the_move.item, the_move.behind) → t0.implicit ≡ true
+      → take_item p (encounter s i) e (in_front t0.frees t0.list) ≡ Some (the_move.item, the_move.behind) → t0.implicit ≡ true
   releases_implicit k0 t0 is_release is taken = go t0.implicit refl
     where
       go : (kind : Bool) → t0.implicit ≡ kind → t0.implicit ≡ true
@@ -272,7 +277,7 @@ module _ (p : Program) (b : ℕ → ℕ) (ok : IsCounted p b) (s : State) (i : �
       go false ex =
           let ready = taken_ready k0 t0 is taken Outside 0 ((all k0 t0 is.live).1 ex) in
           absurd
-          (item_wrong the_move.item (subst (λ (x : Event). fits x the_move.item ≡ true) is_release (take_fits p (encounter s i) e t0.list the_move.item the_move.behind taken)) ready.in_order)
+          (item_wrong the_move.item (subst (λ (x : Event). fits x the_move.item ≡ true) is_release (take_fits p (encounter s i) e (in_front t0.frees t0.list) the_move.item the_move.behind taken)) ready.in_order)
         where
           item_wrong : (y : Item) → fits event.Release y ≡ true
               → order t0.number Outside (y ∷ the_move.behind) ≡ true → ⊥
@@ -280,9 +285,9 @@ module _ (p : Program) (b : ℕ → ℕ) (ok : IsCounted p b) (s : State) (i : �
           item_wrong y fit o = false_true fit
 
   taken_by_current : (k : Tid) (t : Task) → IsCurrent s i k t
-      → take_item p (encounter s i) e t.list ≡ Some (the_move.item, the_move.behind)
+      → take_item p (encounter s i) e (in_front t.frees t.list) ≡ Some (the_move.item, the_move.behind)
   taken_by_current k t is =
-      ap (take_item p (encounter s i) e) (sym (list_of_current s i k t is)) ∙ the_move.taken
+      ap (take_item p (encounter s i) e) (sym (ahead_of_current s i k t is)) ∙ the_move.taken
 
   -- a task over which one of the events is made names a function with no barrier
   item_fair : (k : Tid) (t : Task) → IsCurrent s i k t → fair_item b the_move.item ≡ true
@@ -297,20 +302,19 @@ module _ (p : Program) (b : ℕ → ℕ) (ok : IsCounted p b) (s : State) (i : �
           and_left (fair_item b the_move.item) (fair b the_move.behind)
           (taken_ready k t is (taken_by_current k t is) Outside 0 ((all k t is.live).1 ex)).is_fair
 
-  -- the same function of a region
-  region_after : (n : Rid) (r : Region) → region_of s n ≡ Some r
-      → (q : Region) × (region_of next n ≡ Some q) × Changes s i e n r q × (q.function ≡ r.function)
-  region_after n r found =
-      let (q, found_q, change) = region_changed p s i e next the_move n r found in
-      let (q', found_q', same) = (stays_step p s i e next step).regions n r found in
-      let one : q' ≡ q = some_same found_q' found_q in
-      (q, found_q, change, ap (λ (x : Region). x.function) (sym one) ∙ same.function)
+  -- the region of a live task, and its function
+  region_after : (k : Tid) (t : Task) → task_of s k ≡ Some t → (r : Region) → region_of s t.region ≡ Some r
+      → (q : Region) × (region_of next t.region ≡ Some q) × Changes s i e t.region r q × (q.function ≡ r.function)
+  region_after k t live r found =
+      let (q, found_q, same) = (stays_step p s i e next step).regions t.region r found (needed_region s k t live r) in
+      (q, found_q, region_changed p s i e next the_move t.region r q found found_q, same.function)
 
   abbrev middle : State
   middle = moved_on s i e the_move.item the_move.behind
 
   law : EachTask (HasPlace b next) middle → IsTaskLaw p middle i e the_move.item next (HasPlace b next)
   law of_tasks = record {
+    frees = λ k t free how q. q;
     shows = λ k t x q. q;
     tools = λ k t x q. q;
     sets = λ k t icv value v f at_set q. q;
@@ -353,13 +357,13 @@ module _ (p : Program) (b : ℕ → ℕ) (ok : IsCounted p b) (s : State) (i : �
   places_step = task_step_from p (HasPlace b s) (HasPlace b next) s i e next the_move own others law all
     where
       own : (k : Tid) (t : Task) → IsCurrent s i k t
-          → take_item p (encounter s i) e t.list ≡ Some (the_move.item, the_move.behind) → HasPlace b s k t
+          → take_item p (encounter s i) e (in_front t.frees t.list) ≡ Some (the_move.item, the_move.behind) → HasPlace b s k t
           → HasPlace b next k (relisted (stays (encounter s i) e the_move.item the_move.behind) t)
       own k t is taken place =
-          let fit = take_fits p (encounter s i) e t.list the_move.item the_move.behind taken in (
+          let fit = take_fits p (encounter s i) e (in_front t.frees t.list) the_move.item the_move.behind taken in (
             λ im.
                 let (r, found, m) = place.0 im in
-                let (q, found_q, change, f) = region_after t.region r found in
+                let (q, found_q, change, f) = region_after k t is.live r found in
                 (q, found_q, own_member e the_move.item the_move.behind fit the_move.rule k t r q is im found change f (taken_ready k t is taken) m),
             λ ex. own_explicit e the_move.item the_move.behind fit the_move.rule k t is ex (taken_ready k t is taken) (place.1 ex),
           )
@@ -369,7 +373,7 @@ module _ (p : Program) (b : ℕ → ℕ) (ok : IsCounted p b) (s : State) (i : �
       others k t ne live place = (
         λ im.
             let (r, found, m) = place.0 im in
-            let (q, found_q, change, f) = region_after t.region r found in
+            let (q, found_q, change, f) = region_after k t live r found in
             (q, found_q, other_member e the_move.item the_move.rule k t r q ne live im found change f (λ k0 t0 is_release is first. releases_implicit k0 t0 is_release is (taken_by_current k0 t0 is)) m),
         place.1,
       )

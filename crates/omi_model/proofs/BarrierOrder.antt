@@ -264,6 +264,7 @@ module _ (p : Program) (b : ℕ → ℕ) (ok : IsCounted p b) where
     drop_quiet item.Asks e = refl
     drop_quiet (item.Tasks state) e = refl
     drop_quiet item.OneTask e = refl
+    drop_quiet (item.Frees n) e = refl
     drop_quiet x e = absurd (false_true e)
 
     -- what an event takes off a ready list is as ready

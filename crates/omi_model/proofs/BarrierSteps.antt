@@ -16,7 +16,7 @@ use Rattle.omi_model.specs.Put.{Slots, named}
 use Rattle.omi_model.specs.Rules.{Rule, effect}
 use Rattle.omi_model.specs.State.{State, region_of}
 use Rattle.omi_model.specs.Teams.{new_region}
-use Rattle.omi_model.proofs.SlotEffects.{changed, changes_regions, regions_effect, same_current}
+use Rattle.omi_model.proofs.SlotEffects.{changed_now, changes_regions, regions_effect, same_current}
 use Rattle.omi_model.proofs.Slots.{false_true, made_stays, none_some, some_same}
 use Rattle.omi_model.proofs.StaysKept.{fresh_empty}
 use Rattle.omi_model.proofs.Steps.{IsMove, current_moved, from_some, is_relisted, list_moves, relisted}
@@ -41,15 +41,15 @@ Changes s i e n r q = IsUntouched r q
 
 abbrev AreChanged : State → ℕ → Event → Slots Region → Type 0
 AreChanged s i e slots =
-    (n : Rid) (r : Region) → region_of s n ≡ Some r → (q : Region) × (named slots n.0 ≡ Some q) × Changes s i e n r q
+    (n : Rid) (r : Region) → region_of s n ≡ Some r → (q : Region) → named slots n.0 ≡ Some q → Changes s i e n r q
 
 module _ (p : Program) (s : State) (i : ℕ) where
   arrive_touches : (k : Tid) (t : Task) → IsCurrent s i k t
       → AreChanged s i event.Arrive (arrived s t).regions
-  arrive_touches k t is n r e =
-      changed s.regions t.region
+  arrive_touches k t is n r e q found_q =
+      changed_now s.regions t.region
       (λ q. record q { arrivals = slice_set q.arrivals t.number (slice_index q.arrivals t.number + 1) })
-      (Changes s i event.Arrive n) n r e
+      (Changes s i event.Arrive n) n r e q found_q
       (λ same k' t' is'.
       let one = same_current s i k k' t t' is is' in (
         λ h. ap (λ (x : Task). slice_set r.arrivals x.number (slice_index r.arrivals x.number + 1)) one,
@@ -62,9 +62,9 @@ module _ (p : Program) (s : State) (i : ℕ) where
 
   release_touches : (k : Tid) (t : Task) (r0 : Region) → IsCurrent s i k t → region_of s t.region ≡ Some r0
       → MayRelease s t r0 → AreChanged s i event.Release (released s t).regions
-  release_touches k t r0 is found may n r e =
-      changed s.regions t.region (λ q. record q { released = q.released + 1 })
-      (Changes s i event.Release n) n r e
+  release_touches k t r0 is found may n r e q found_q =
+      changed_now s.regions t.region (λ q. record q { released = q.released + 1 })
+      (Changes s i event.Release n) n r e q found_q
       (λ same k' t' is'.
       let one = same_current s i k k' t t' is is' in
       let known : r0 ≡ r = some_same found (ap (region_of s) (sym same) ∙ e) in (
@@ -79,17 +79,23 @@ module _ (p : Program) (s : State) (i : ℕ) where
   untouched : (e : Event) → changes_regions e ≡ false → AreChanged s i e s.regions
   untouched event.Arrive is = absurd (false_true (sym is))
   untouched event.Release is = absurd (false_true (sym is))
-  untouched e is = λ n r found. (r, found, (refl, refl))
+  untouched e is = λ n r found q here. subst (IsUntouched r) (some_same found here) (refl, refl)
 
   changed_effect : (e : Event) (y : Item) → Rule s i e y
       → IfSome (effect p s i e y) (λ u. AreChanged s i e u.regions)
   changed_effect = regions_effect p s i (AreChanged s i) (record {
     stays = untouched;
-    forks = λ region team f k t r may n q e. (q, made_stays s.regions region.0 (new_region k t r team f) n.0 q (fresh_empty s.regions i region.0 may.region_new) e, (refl, refl));
+    forks = λ region team f k t r may n q e w found_w.
+        let there = made_stays s.regions region.0 (new_region k t r team f) n.0 q (fresh_empty s.regions i region.0 may.region_new) e in
+        subst (IsUntouched q) (some_same there found_w) (refl, refl);
     arrives = arrive_touches;
     releases = release_touches;
-    ends = λ task k t is n r e. changed s.regions t.region (λ q. record q { ended = slice_set q.ended t.number true }) IsUntouched n r e (λ same. (refl, refl)) (λ apart. (refl, refl));
-    joins = λ region k t r0 is n r e. changed s.regions t.region (λ q. record q { joined = true }) IsUntouched n r e (λ same. (refl, refl)) (λ apart. (refl, refl));
+    ends = λ task k t is n r e q found_q.
+        changed_now s.regions t.region (λ q. record q { ended = slice_set q.ended t.number true }) IsUntouched n r e q found_q
+        (λ same. (refl, refl)) (λ apart. (refl, refl));
+    joins = λ region k t r0 is n r e q found_q.
+        changed_now s.regions t.region (λ q. record q { joined = true }) IsUntouched n r e q found_q
+        (λ same. (refl, refl)) (λ apart. (refl, refl));
   })
 
 -- the current task, once the list has moved on
@@ -100,18 +106,17 @@ current_after s i zs k t is =
     (λ none. absurd (none_some none is.name))
 
 -- what a step makes of a region's barriers
-pub region_changed : (p : Program) (s : State) (i : ℕ) (e : Event) (next : State) (m : IsMove p s i e next) (n : Rid) (r : Region)
-    → region_of s n ≡ Some r → (q : Region) × (region_of next n ≡ Some q) × Changes s i e n r q
-region_changed p s i e after_step m n r found =
+pub region_changed : (p : Program) (s : State) (i : ℕ) (e : Event) (next : State) (m : IsMove p s i e next) (n : Rid) (r q : Region)
+    → region_of s n ≡ Some r → region_of next n ≡ Some q → Changes s i e n r q
+region_changed p s i e after_step m n r q found found_q =
     let zs : List Item = stays (encounter s i) e m.item m.behind in
-    let (q, found_q, h) =
-    from_some (λ (u : State). AreChanged (with_list s i zs) i e u.regions)
+    back zs e
+    (from_some (λ (u : State). AreChanged (with_list s i zs) i e u.regions)
     (effect p (with_list s i zs) i e m.item) after_step m.effect_is
-    (changed_effect p (with_list s i zs) i e m.item m.rule_moved) n r ((is_relisted s i zs).regions n ∙ found) in
-    (q, found_q, back zs q e h)
+    (changed_effect p (with_list s i zs) i e m.item m.rule_moved) n r ((is_relisted s i zs).regions n ∙ found) q found_q)
   where
-    back : (zs : List Item) (q : Region) (e' : Event) → Changes (with_list s i zs) i e' n r q
+    back : (zs : List Item) (e' : Event) → Changes (with_list s i zs) i e' n r q
         → Changes s i e' n r q
-    back zs q event.Arrive h = λ k t is. h k (relisted zs t) (current_after s i zs k t is)
-    back zs q event.Release h = λ k t is. h k (relisted zs t) (current_after s i zs k t is)
-    back zs q e' h = h
+    back zs event.Arrive h = λ k t is. h k (relisted zs t) (current_after s i zs k t is)
+    back zs event.Release h = λ k t is. h k (relisted zs t) (current_after s i zs k t is)
+    back zs e' h = h

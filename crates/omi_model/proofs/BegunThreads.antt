@@ -13,7 +13,7 @@ use Rattle.omi_model.specs.declared.item.Item.{Item}
 use Rattle.omi_model.specs.declared.item.Item.TheVariants as item
 use Rattle.omi_model.specs.declared.task.Task.{Task}
 use Rattle.omi_model.specs.declared.thread.Thread.{Thread}
-use Rattle.omi_model.specs.Changes.{encounter, list_of}
+use Rattle.omi_model.specs.Changes.{encounter, ahead_of, in_front}
 use Rattle.omi_model.specs.LawStays.{Stays}
 use Rattle.omi_model.specs.Lists.{fits, take_item}
 use Rattle.omi_model.specs.Opening.{opening}
@@ -62,9 +62,9 @@ module _ (p : Program) (s : State) (i : ℕ) (e : Event) (next : State) (step : 
   -- a thread that has not begun begins
   unbegun_begins : IsUnbegun (s.threads i).list (s.threads i).current (s.threads i).claim → e ≡ event.Begin
   unbegun_begins un =
-      let list : list_of s i ≡ worker_items =
+      let list : ahead_of s i ≡ worker_items =
       ap
-      (λ (o : Option Tid). option_map_or (λ (u : Task). u.list) (option_and_then (task_of s) o) (s.threads i).list) un.idle
+      (λ (o : Option Tid). option_map_or (λ (u : Task). in_front u.frees u.list) (option_and_then (task_of s) o) (s.threads i).list) un.idle
       ∙ un.list in
       first_begin p (encounter s i) e m.item m.behind
       (ap (take_item p (encounter s i) e) (sym list) ∙ m.taken)

@@ -26,7 +26,7 @@ use Rattle.omi_model.specs.Rows.{working}
 use Rattle.omi_model.specs.Rules.{Rule, effect}
 use Rattle.omi_model.specs.Settings.{entered, left, with_tool}
 use Rattle.omi_model.specs.State.{State, region_of, task_of}
-use Rattle.omi_model.specs.Tasking.{MayFinish, MayStart, deferred, deferred_task, finished, scheduled, started, started_alone, started_now}
+use Rattle.omi_model.specs.Tasking.{MayFinish, MayStart, deferred, deferred_task, finished, freed, scheduled, started, started_alone, started_now}
 use Rattle.omi_model.specs.Teams.{MayFork, MayJoin, forked, joined, member_task, task_ended}
 use Rattle.omi_model.proofs.EachObject.{EachTask, IsTaskLaw, is_end, members_found, task_step}
 use Rattle.omi_model.proofs.Slots.{each_put, false_true, found_live, made_same, none_some, on_same, put_same, some_same}
@@ -56,6 +56,7 @@ finished_step p s i e next step =
     law : (middle : State) (y : Item) → IsRelisted s middle → Stays middle next
         → EachTask (FinishedBy s i e) middle → IsTaskLaw p middle i e y next (FinishedBy s i e)
     law middle y before later all = record {
+      frees = λ k t free how q. q;
       shows = λ k t x q. q;
       tools = λ k t x q. q;
       sets = λ k t icv value v f at_set q. q;
@@ -274,7 +275,10 @@ module _ (p : Program) (s : State) (i : ℕ) (chain : HasChain s i (s.threads i)
       of_region s i (joined s i) (Chained (event.Join region)) (λ k t r. MayJoin region t r) rule
       (λ k t r is found may. pop s i (event.Join region) chain (joined s i k t r) k t is
       (ap (λ (x : Thread). x.current) (put_same s.threads i (record (s.threads i) { current = r.encountering })) ∙ sym (first k t r is.live may.implicit may.first found)))
-  own_effect (event.FreeTask task) y rule = tt
+  own_effect (event.FreeTask task) (item.Frees n) rule =
+      of_current s i (freed s task) (Chained (event.FreeTask task)) _ rule
+      (λ k t is h. same_chain (event.FreeTask task) (freed s task k t) refl refl)
+  own_effect (event.FreeTask task) y rule = absurd rule
   own_effect (event.FreeRegion region) y rule = tt
   own_effect (event.Defer task) (item.Defer seen f final) rule =
       of_current s i (deferred p s task f final seen) (Chained (event.Defer task)) _ rule

@@ -8,7 +8,7 @@ use Rattle.omi_model.specs.declared.event.Event.TheVariants as event
 use Rattle.omi_model.specs.declared.item.Item.{Item}
 use Rattle.omi_model.specs.declared.item.Item.TheVariants as item
 use Rattle.omi_model.specs.Lists.{stays, take_item}
-use Rattle.omi_numbers.specs.declared.states.TheConstants.{WAIT_TASKWAIT, WAIT_BARRIER_IMPLICIT_PARALLEL}
+use Rattle.omi_numbers.specs.declared.states.TheConstants.{WAIT_BARRIER_IMPLICIT_PARALLEL}
 use Rattle.omi_model.specs.Rows.{end_of_member, main_items, member_items, shown}
 use Rattle.omi_model.specs.LawBarriersLeft.{left}
 use Rattle.omi_model.specs.Shapes.{shape_of}

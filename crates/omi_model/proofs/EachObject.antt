@@ -1,5 +1,5 @@
 -- A law of each task, and a law of each region: what has to be shown of it, once for all events.
-use Rattle.std.proofs.Common.{◌≡◌, ◌≢◌, ◌+◌, ◌-◌, ℕ, zero, suc, ◌⊎◌, inl, inr, Bool, true, false, List, [], ◌∷◌, slice_get, slice_index, slice_set, drop, Option, Some, refl, sym, ap, ◌∙◌, subst, arith}
+use Rattle.std.proofs.Common.{◌≡◌, ◌≢◌, ◌+◌, ◌-◌, ℕ, zero, suc, ◌⊎◌, inl, inr, Bool, true, false, List, [], ◌∷◌, slice_get, slice_index, slice_set, drop, Option, Some, refl, sym, ap, ◌∙◌, subst, arith, None}
 use Rattle.std.specs.Prelude.{IfSome, ⊤}
 use Rattle.std.specs.List.{All}
 use Rattle.std.specs.Option.{option_and_then, option_map_or}
@@ -17,19 +17,19 @@ use Rattle.omi_model.specs.declared.region.Region.{Region}
 use Rattle.omi_model.specs.declared.task.Task.{Task}
 use Rattle.omi_model.specs.declared.task.Variables.{Variables}
 use Rattle.omi_model.specs.Barriers.{MayRelease, arrived, released}
-use Rattle.omi_model.specs.Changes.{IsCurrent, encounter, list_of, on_region, on_task, with_list}
+use Rattle.omi_model.specs.Changes.{IsCurrent, ahead_of, encounter, in_front, list_of, on_region, on_task, with_list}
 use Rattle.omi_model.specs.Fresh.{IsFresh}
 use Rattle.omi_model.specs.Lists.{stays, take_item}
-use Rattle.omi_model.specs.Put.{Slots, made, named}
+use Rattle.omi_model.specs.Put.{Slots, gone, made, named}
 use Rattle.omi_model.specs.Reached.{Leads, Step}
 use Rattle.omi_model.specs.Rows.{working}
 use Rattle.omi_model.specs.Rules.{Rule, effect}
 use Rattle.omi_model.specs.Settings.{entered, left, with_tool, with_variable}
 use Rattle.omi_model.specs.State.{State, region_of, task_of}
-use Rattle.omi_model.specs.Tasking.{MayStart, MayStartAt, deferred, deferred_task, finished, scheduled, started, started_alone, started_now}
+use Rattle.omi_model.specs.Tasking.{MayStart, MayStartAt, deferred, deferred_task, finished, freed, freeing, scheduled, started, started_alone, started_now}
 use Rattle.omi_model.specs.Teams.{MayEnd, MayFork, MayJoin, forked, joined, member_task, new_region, task_ended, with_members}
 use Rattle.omi_model.specs.LawStays.{Stays}
-use Rattle.omi_model.proofs.Slots.{Each, each_made, each_on, each_on_to, made_same, made_stays, none_some, some_same}
+use Rattle.omi_model.proofs.Slots.{Each, each_gone, each_made, each_on, each_on_to, made_same, made_stays, none_some, some_same}
 use Rattle.omi_model.proofs.StaysKept.{AreNew, fresh_empty, new_team, stays_effect}
 use Rattle.omi_model.proofs.Steps.{IsMove, IsRelisted, from_some, is_relisted, list_moves, move_of, moved_on, of_current, of_current_region, of_region, of_set, relisted}
 
@@ -53,8 +53,17 @@ is_end (event.Join region) = true
 is_end (event.Finish task) = true
 is_end e = false
 
+-- where another task may be given back next: in front of what the task has ahead from which one was scheduled that finishes, and in
+-- front of what the current task has ahead once one is given back
+abbrev pub IsFreeing : State → ℕ → Event → Item → Tid → Type 0
+IsFreeing s i e y k =
+    ((j : Tid) × (t : Task) × IsCurrent s i j t × (is_end e ≡ true) × (t.scheduling ≡ Some k))
+    ⊎ ((n : Tid) × (y ≡ item.Frees n) × ((s.threads i).current ≡ Some k))
+
 -- a law of each task over the effect of an event of thread i that takes an item, from a state to the next one
 pub record IsTaskLaw (p : Program) (s : State) (i : ℕ) (e : Event) (y : Item) (next : State) (P : Tid → Task → Type 0) : Type 0 where
+  pub frees : (k : Tid) (t : Task) (free : Option Tid) → IsFreeing s i e y k → P k t
+      → P k (record t { frees = free })
   pub shows : (k : Tid) (t : Task) (enter : ℕ) → P k t → P k (record t { enter = enter })
   pub tools : (k : Tid) (t : Task) (x : ℕ) → P k t → P k (record t { tool = x })
   pub sets : (k : Tid) (t : Task) (icv value : ℕ) (v : Variables)
@@ -142,6 +151,18 @@ module _ (p : Program) (P : Tid → Task → Type 0) where
       each_made (λ m u. P (record { 0 = m }) u) s.tasks k.0 x
       (λ m u h. all (record { 0 = m }) u h) here n.0 t e
 
+  each_gone_task : (s : State) (k : Tid) → EachTask P s → EachTask P (record s { tasks = gone s.tasks k.0 })
+  each_gone_task s k all n t e =
+      each_gone (λ m u. P (record { 0 = m }) u) s.tasks k.0 (λ m u h. all (record { 0 = m }) u h) n.0 t e
+
+  -- another task may be given back next
+  each_freeing : (next : Option Tid) (s : State) → EachTask P s → (k : Option Tid)
+      → ((n : Tid) (t : Task) → k ≡ Some n → P n t → P n (record t { frees = next }))
+      → EachTask P (record s { tasks = freeing next k s.tasks })
+  each_freeing next s all None keeps = all
+  each_freeing next s all (Some k) keeps =
+      each_changed s k (λ u. record u { frees = next }) all (λ u e q. keeps k u refl q)
+
   the_current : (s : State) (i : ℕ) (k : Tid) (t u : Task) → IsCurrent s i k t → task_of s k ≡ Some u
       → IsCurrent s i k u
   the_current s i k t u is e = record { name = is.name; live = e }
@@ -181,7 +202,11 @@ module _ (p : Program) (P : Tid → Task → Type 0) where
   task_effect s i (event.Join region) y rule all =
       of_region s i (joined s i) (of_law s i (event.Join region) y) _ rule
       (λ k t r is found h law. each_changed s k (λ u. record u { progress = Finished }) all (λ u e q. law.finishes k u (the_current s i k t u is e) refl q))
-  task_effect s i (event.FreeTask task) y rule all = tt
+  task_effect s i (event.FreeTask task) (item.Frees next) rule all =
+      of_current s i (freed s task) (of_law s i (event.FreeTask task) (item.Frees next)) _ rule
+      (λ k t is h law. each_changed (record s { tasks = gone s.tasks task.0 }) k (λ u. record u { frees = option_and_then (λ (v : Task). v.generating) (task_of s task) }) (each_gone_task s task all)
+      (λ u e q. law.frees k u _ (inr (next, refl, is.name)) q))
+  task_effect s i (event.FreeTask task) y rule all = absurd rule
   task_effect s i (event.FreeRegion region) y rule all = tt
   task_effect s i (event.Defer task) (item.Defer seen f final) rule all =
       of_current s i (deferred p s task f final seen)
@@ -212,7 +237,9 @@ module _ (p : Program) (P : Tid → Task → Type 0) where
   task_effect s i (event.Start task) y rule all = tt
   task_effect s i (event.Finish task) y rule all =
       of_current s i (finished s i) (of_law s i (event.Finish task) y) _ rule
-      (λ k t is h law. each_changed s k (λ u. record u { progress = Finished }) all (λ u e q. law.finishes k u (the_current s i k t u is e) refl q))
+      (λ k t is h law. each_freeing (Some k) (on_task s k (λ u. record u { progress = Finished }))
+      (each_changed s k (λ u. record u { progress = Finished }) all (λ u e q. law.finishes k u (the_current s i k t u is e) refl q)) t.scheduling
+      (λ n u from q. law.frees n u (Some k) (inl (k, t, is, refl, from)) q))
   task_effect s i (event.Set icv value) y rule all =
       of_set s i icv value (of_law s i (event.Set icv value) y) rule (λ law. all)
       (λ k t v is e law. each_changed s k (λ u. record u { variables = v }) all
@@ -227,7 +254,14 @@ module _ (p : Program) (P : Tid → Task → Type 0) where
   -- the move of the current task's list
   abbrev pub Moves : State → ℕ → Event → Type 0
   Moves s i e =
-      (k : Tid) (t : Task) (y : Item) (ys : List Item) → IsCurrent s i k t → take_item p (encounter s i) e t.list ≡ Some (y, ys) → P k t → P k (relisted (stays (encounter s i) e y ys) t)
+      (k : Tid) (t : Task) (y : Item) (ys : List Item) → IsCurrent s i k t → take_item p (encounter s i) e (in_front t.frees t.list) ≡ Some (y, ys) → P k t → P k (relisted (stays (encounter s i) e y ys) t)
+
+pub ahead_of_current : (s : State) (i : ℕ) (k : Tid) (t : Task) → IsCurrent s i k t
+    → ahead_of s i ≡ in_front t.frees t.list
+ahead_of_current s i k t is =
+    ap
+    (λ (o : Option Tid). option_map_or (λ u. in_front u.frees u.list) (option_and_then (task_of s) o) (s.threads i).list) is.name
+    ∙ ap (λ (o : Option Task). option_map_or (λ u. in_front u.frees u.list) o (s.threads i).list) is.live
 
 pub list_of_current : (s : State) (i : ℕ) (k : Tid) (t : Task) → IsCurrent s i k t → list_of s i ≡ t.list
 list_of_current s i k t is =
@@ -239,7 +273,7 @@ list_of_current s i k t is =
 pub task_step_from : (p : Program) (P Q : Tid → Task → Type 0) (s : State) (i : ℕ) (e : Event) (next : State)
     → (m : IsMove p s i e next)
     →
-    ((k : Tid) (t : Task) → IsCurrent s i k t → take_item p (encounter s i) e t.list ≡ Some (m.item, m.behind) → P k t → Q k (relisted (stays (encounter s i) e m.item m.behind) t))
+    ((k : Tid) (t : Task) → IsCurrent s i k t → take_item p (encounter s i) e (in_front t.frees t.list) ≡ Some (m.item, m.behind) → P k t → Q k (relisted (stays (encounter s i) e m.item m.behind) t))
     → ((k : Tid) (t : Task) → ((s.threads i).current ≡ Some k → ⊥) → task_of s k ≡ Some t → P k t → Q k t)
     → (EachTask Q (moved_on s i e m.item m.behind) → IsTaskLaw p (moved_on s i e m.item m.behind) i e m.item next Q) → EachTask P s → EachTask Q next
 task_step_from p P Q s i e after_step m moves others law all =
@@ -247,7 +281,7 @@ task_step_from p P Q s i e after_step m moves others law all =
     let middle : EachTask Q (with_list s i zs) = list_moves s i zs (EachTask Q)
     (λ k is n t e'. each_on_to (λ h u. P (record { 0 = h }) u) (λ h u. Q (record { 0 = h }) u) s.tasks k.0 (relisted zs) (λ h u g. all (record { 0 = h }) u g)
     (λ u live h. let current : IsCurrent s i k u = record { name = is; live = live } in
-    moves k u current (ap (take_item p (encounter s i) e) (sym (list_of_current s i k u current)) ∙ m.taken) h)
+    moves k u current (ap (take_item p (encounter s i) e) (sym (ahead_of_current s i k u current)) ∙ m.taken) h)
     (λ h u ne live q. others (record { 0 = h }) u (λ g. ne (ap (λ (a : Tid). a.0) (some_same g is))) live q) n.0 t e')
     (λ none k t live. others k t (λ g. none_some none g) live (all k t live)) in
     from_some (of_law p Q (with_list s i zs) i e m.item)
@@ -323,7 +357,9 @@ module _ (p : Program) (Q : Rid → Region → Type 0) where
       of_region s i (joined s i) (of_region_law s i) (λ k t r. MayJoin region t r) rule
       (λ k t r is found h law. each_region_changed (on_task s k (λ u. record u { progress = Finished })) t.region (λ q. record q { joined = true }) all
       (λ q e g. let same : r ≡ q = some_same found e in law.joins k t q is e (record { mine = refl; implicit = h.implicit; first = h.first; ended = subst (λ (x : Region). All (λ b. b ≡ true) (drop 1 x.ended)) same h.ended }) g))
-  region_effect s i (event.FreeTask task) y rule all = tt
+  region_effect s i (event.FreeTask task) (item.Frees next) rule all =
+      of_current s i (freed s task) (of_region_law s i) _ rule (λ k t is h law. all)
+  region_effect s i (event.FreeTask task) y rule all = absurd rule
   region_effect s i (event.FreeRegion region) y rule all = tt
   region_effect s i (event.Defer task) (item.Defer seen f final) rule all =
       of_current s i (deferred p s task f final seen) (of_region_law s i) _ rule (λ k t is fresh law. all)
@@ -339,7 +375,8 @@ module _ (p : Program) (Q : Rid → Region → Type 0) where
       of_current s i (started_alone s i task) (of_region_law s i) _ rule (λ k t is may law. all)
   region_effect s i (event.Start task) y rule all = tt
   region_effect s i (event.Finish task) y rule all =
-      of_current s i (finished s i) (of_region_law s i) _ rule (λ k t is h law. all)
+      of_current s i (finished s i) (of_region_law s i) _ rule
+      (λ k t is h law. all)
   region_effect s i (event.Set icv value) y rule all =
       of_set s i icv value (of_region_law s i) rule (λ law. all) (λ k t v is e law. all)
   region_effect s i (event.SetTool x) y rule all =

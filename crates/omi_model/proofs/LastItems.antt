@@ -8,7 +8,6 @@ use Rattle.omi_model.specs.declared.event.Event.TheVariants as event
 use Rattle.omi_model.specs.declared.item.Item.{Item}
 use Rattle.omi_model.specs.declared.item.Item.TheVariants as item
 use Rattle.omi_model.specs.Lists.{stays, take_item}
-use Rattle.omi_numbers.specs.declared.states.TheConstants.{WAIT_TASKWAIT}
 use Rattle.omi_model.specs.Rows.{last_of_member, main_items, member_items, task_items}
 use Rattle.omi_model.specs.Shapes.{shape_of}
 use Rattle.omi_model.proofs.EachObject.{start_list}
@@ -47,7 +46,7 @@ module _ (May : Item → Type 0) where
     pub take_closes : (at : Encounter) (e : Event) (xs : List Item) (y : Item) (ys : List Item)
         → take_item p at e xs ≡ Some (y, ys) → Closes May xs → Closes May (y ∷ ys)
     take_closes at =
-        take_keeps p at (Closes May) (drop_keeps (Closes May) (λ xs h. h) (λ state xs h. h) (λ xs h. h))
+        take_keeps p at (Closes May) (drop_keeps (Closes May) (λ xs h. h) (λ state xs h. h) (λ xs h. h) (λ n xs h. h))
         (λ s xs h. row_keeps p at (Closes May) (closes at) (shape_of s) xs h)
 
     pub task_closes : May item.Finish → (f : ℕ) → Closes May (task_items p f)

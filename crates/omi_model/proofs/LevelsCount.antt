@@ -14,22 +14,23 @@ use Rattle.omi_model.specs.State.{State, enclosing_of, region_of}
 use Rattle.omi_model.specs.WellFormed.{along}
 use Rattle.omi_model.proofs.EachObject.{EachRegion, IsRegionLaw, over_events, region_step}
 use Rattle.omi_model.proofs.OpeningObjects.{each_first_region}
-use Rattle.omi_model.proofs.StaysKept.{stays_step}
+use Rattle.omi_model.proofs.StaysKept.{needed_enclosing, needed_region, stays_step}
 use Rattle.omi_model.proofs.Steps.{IsRelisted}
 
 abbrev Levels : State → Type 0
 Levels s = EachRegion (λ n r. AreLevelsRight s r) s
 
-levels_stay : (s u : State) → Stays s u → (r : Region) → AreLevelsRight s r → AreLevelsRight u r
-levels_stay s u stay r h = go r.enclosing h
+levels_stay : (s u : State) → Stays s u → (n : Rid) (r : Region) → region_of s n ≡ Some r → AreLevelsRight s r
+    → AreLevelsRight u r
+levels_stay s u stay n r live h = go r.enclosing refl h
   where
-    go : (o : Option Rid)
+    go : (o : Option Rid) → r.enclosing ≡ o
         → MatchOption o ((r.levels ≡ 0) × (r.active ≡ 0)) (λ n. (q : Region) × (region_of s n ≡ Some q) × IsEnclosedIn r q)
         → MatchOption o ((r.levels ≡ 0) × (r.active ≡ 0))
         (λ n. (q : Region) × (region_of u n ≡ Some q) × IsEnclosedIn r q)
-    go None is = is
-    go (Some n) (q, e, is) =
-        let (q', e', same) = stay.regions n q e in
+    go None met is = is
+    go (Some o) met (q, e, is) =
+        let (q', e', same) = stay.regions o q e (needed_enclosing s n o r q live met) in
         (q', e', record { levels = is.levels ∙ ap (λ m. m + 1) (sym same.levels); active = is.active ∙ ap (λ m. m + (if nat_lt 1 (length r.team) then 1 else 0)) (sym same.active) })
 
 -- a region that differs in nothing that the law reads
@@ -52,7 +53,7 @@ levels_step : (p : Program) (s : State) (i : ℕ) (e : Event) (next : State) →
     → Levels next
 levels_step p s i e next step all =
     region_step p (λ n r. AreLevelsRight next r) s i e next step law
-    (λ n r live. levels_stay s next (stays_step p s i e next step) r (all n r live))
+    (λ n r live. levels_stay s next (stays_step p s i e next step) n r live (all n r live))
   where
     law : (middle : State) → IsRelisted s middle → Stays middle next
         → IsRegionLaw p middle i next (λ n r. AreLevelsRight next r)
@@ -62,7 +63,7 @@ levels_step p s i e next step all =
       ends = λ k t r is found im other q. levels_same next r _ refl refl refl refl q;
       joins = λ k t r is found may q. levels_same next r _ refl refl refl refl q;
       forks = λ region team f k t r is found may new.
-          let (q, live, same) = later.regions t.region r found in
+          let (q, live, same) = later.regions t.region r found (needed_region middle k t is.live r) in
           (q, live, record { levels = ap (λ m. m + 1) (sym same.levels); active = ap (λ m. m + (if nat_lt 1 (length team) then 1 else 0)) (sym same.active) });
     }
 

@@ -5,12 +5,16 @@ pub mod OpeningViews
 pub mod Slots
 pub mod Steps
 pub mod StaysKept
+pub mod StaysLater
 pub mod EachObject
 pub mod EachThread
 pub mod OpeningObjects
 pub mod ReachedStates
 pub mod ScheduledFrom
 pub mod NeededTasks
+pub mod FreesLists
+pub mod NamesKept
+pub mod TeamsMade
 pub mod NamesLive
 pub mod MembersKnown
 pub mod LevelsCount

@@ -1,14 +1,18 @@
 -- Laws of to-do lists: what holds of a list holds of an event's item and what stands behind it.
-use Rattle.std.proofs.Common.{◌≡◌, Bool, true, false, List, [], ◌∷◌, Some, None, if◌then◌else◌, refl, subst}
+use Rattle.std.proofs.Common.{◌≡◌, Bool, true, false, List, [], ◌∷◌, Some, None, if◌then◌else◌, refl, subst, Option, sym}
 use Rattle.omi_script.specs.declared.program.Program.{Program}
 use Rattle.omi_script.specs.declared.statement.Stmt.{Stmt}
 use Rattle.omi_model.specs.declared.encounter.Encounter.{Encounter}
 use Rattle.omi_model.specs.declared.event.Event.{Event}
+use Rattle.omi_model.specs.declared.event.Event.TheVariants as event
 use Rattle.omi_model.specs.declared.item.Item.{Item}
 use Rattle.omi_model.specs.declared.item.Item.TheVariants as item
 use Rattle.omi_model.specs.Lists.{fits, may_drop, opened, take_item}
 use Rattle.omi_model.specs.Rows.{behind, first_of}
-use Rattle.omi_model.proofs.Slots.{none_some, some_same}
+use Rattle.omi_model.proofs.Slots.{none_some, some_same, false_true}
+use Rattle.omi_model.specs.Changes.{in_front}
+use Rattle.omi_model.specs.declared.id.Tid.{Tid}
+use Rattle.omi_model.specs.LawStays.{is_free}
 
 -- a law of lists is kept where an item is passed over and where a statement is replaced by its row
 module _ (p : Program) (at : Encounter) (P : List Item → Type 0)
@@ -53,3 +57,37 @@ take_fits p at e (x ∷ xs) y ys is = fit (take_fits p at e xs y ys) (fits e (op
     fit more true f t =
         let same : opened p at x xs ≡ (y, ys) = some_same refl t in subst (λ (o : Item × List Item). fits e o.0 ≡ true) same f
     fit more false f t = dropped more (may_drop x) t
+
+-- ---- in front of a list
+
+-- an event takes its item of the list, or a task is given back in front of it
+pub by_taken : (p : Program) (at : Encounter) (e : Event) (f : Option Tid) (xs : List Item) (y : Item) (ys : List Item)
+    (Z : Event → Item → List Item → Type 0) → take_item p at e (in_front f xs) ≡ Some (y, ys)
+    → (take_item p at e xs ≡ Some (y, ys) → Z e y ys)
+    → ((task n : Tid) → Z (event.FreeTask task) (item.Frees n) xs) → Z e y ys
+by_taken p at e None xs y ys Z is from free = from is
+by_taken p at (event.FreeTask task) (Some n) xs y ys Z is from free =
+    let same : front n ≡ (y, ys) = some_same refl is in
+    subst (λ (o : Item × List Item). Z (event.FreeTask task) o.0 o.1) same (free task n)
+  where
+    front : Tid → Item × List Item
+    front n = (item.Frees n, xs)
+by_taken p at e (Some n) xs y ys Z is from free = from is
+
+-- any other event passes it over
+pub passes_front : (p : Program) (at : Encounter) (e : Event) (f : Option Tid) (xs : List Item) → is_free e ≡ false
+    → take_item p at e (in_front f xs) ≡ take_item p at e xs
+passes_front p at e None xs other = refl
+passes_front p at (event.FreeTask task) (Some n) xs other = absurd (false_true (sym other))
+passes_front p at e (Some n) xs other = refl
+
+-- an item that stands for a task to be given back
+abbrev pub is_frees : Item → Bool
+is_frees (item.Frees n) = true
+is_frees y = false
+
+pub taken_plain : (p : Program) (at : Encounter) (e : Event) (f : Option Tid) (xs : List Item) (y : Item) (ys : List Item)
+    → is_frees y ≡ false → take_item p at e (in_front f xs) ≡ Some (y, ys) → take_item p at e xs ≡ Some (y, ys)
+taken_plain p at e f xs y ys plain is =
+    by_taken p at e f xs y ys (λ g z zs. is_frees z ≡ false → take_item p at g xs ≡ Some (z, zs)) is (λ from h. from)
+    (λ task n h. absurd (false_true (sym h))) plain

@@ -9,7 +9,6 @@ use Rattle.omi_model.specs.declared.item.Item.{Item}
 use Rattle.omi_model.specs.declared.item.Item.TheVariants as item
 use Rattle.omi_model.specs.LawLocks.{gives_back}
 use Rattle.omi_model.specs.Lists.{fits, stays, take_item}
-use Rattle.omi_numbers.specs.declared.states.TheConstants.{WAIT_TASKWAIT}
 use Rattle.omi_model.specs.Rows.{call_items, main_items, member_items, task_items, working}
 use Rattle.omi_model.specs.Shapes.{shape_of}
 use Rattle.omi_model.proofs.EachObject.{start_list}
@@ -59,7 +58,7 @@ module _ (k w : ℕ) (p : Program) where
   pub take_back : (at : Encounter) (e : Event) (xs : List Item) (y : Item) (ys : List Item)
       → take_item p at e xs ≡ Some (y, ys) → Gives k w xs → Gives k w (y ∷ ys)
   take_back at =
-      take_keeps p at (Gives k w) (drop_keeps (Gives k w) (λ xs h. h) (λ state xs h. h) (λ xs h. h))
+      take_keeps p at (Gives k w) (drop_keeps (Gives k w) (λ xs h. h) (λ state xs h. h) (λ xs h. h) (λ n xs h. h))
       (λ s xs h. row_keeps p at (Gives k w) (gives at) (shape_of s) xs h)
 
 module _ (k : ℕ) (p : Program) where

@@ -15,7 +15,7 @@ use Rattle.omi_model.specs.declared.progress.Progress.TheVariants.{Begun, Deferr
 use Rattle.omi_model.specs.declared.task.Task.{Task}
 use Rattle.omi_model.specs.declared.thread.Thread.{Thread}
 use Rattle.omi_model.specs.Barriers.{arrived, released}
-use Rattle.omi_model.specs.Changes.{IsCurrent, encounter, list_of}
+use Rattle.omi_model.specs.Changes.{IsCurrent, ahead_of, encounter, in_front}
 use Rattle.omi_model.specs.Fresh.{IsFresh}
 use Rattle.omi_model.specs.LawLocks.{IsHeldBy, gives_back}
 use Rattle.omi_model.specs.LawNames.{IsLiveTask}
@@ -28,12 +28,12 @@ use Rattle.omi_model.specs.Rows.{shown}
 use Rattle.omi_model.specs.Rules.{Rule, effect}
 use Rattle.omi_model.specs.Settings.{entered, left, with_lock, with_tool}
 use Rattle.omi_model.specs.State.{State, task_of}
-use Rattle.omi_model.specs.Tasking.{deferred, finished, started, started_alone, started_now}
+use Rattle.omi_model.specs.Tasking.{deferred, finished, freed, started, started_alone, started_now}
 use Rattle.omi_model.specs.Teams.{forked, joined, task_ended}
 use Rattle.omi_model.proofs.ChainsKept.{current_begun}
-use Rattle.omi_model.proofs.EachObject.{EachTask, IsTaskLaw, list_of_current, start_list, task_step_from}
+use Rattle.omi_model.proofs.EachObject.{EachTask, IsTaskLaw, ahead_of_current, start_list, task_step_from}
 use Rattle.omi_model.proofs.EachThread.{EachThread, of_lists, thread_step}
-use Rattle.omi_model.proofs.ListLaws.{take_fits, take_keeps}
+use Rattle.omi_model.proofs.ListLaws.{take_fits, take_keeps, by_taken}
 use Rattle.omi_model.proofs.LockLists.{Gives, is_lock_event, main_back, member_back, start_back, stays_back, take_back, task_back}
 use Rattle.omi_model.proofs.members.ClosingItems.{lists_right}
 use Rattle.omi_model.proofs.NamesLive.{names_live}
@@ -57,6 +57,7 @@ no_drop : (x : Item) (xs : List Item) → may_drop x ≡ true → NoLocks (x ∷
 no_drop item.Asks xs may h = h
 no_drop (item.Tasks state) xs may h = h
 no_drop item.OneTask xs may h = h
+no_drop (item.Frees n) xs may h = h
 no_drop x xs may h = absurd (false_true may)
 
 no_shown : (at : Encounter) (state wait : ℕ) (xs : List Item) → NoLocks xs → NoLocks (shown at state wait xs)
@@ -111,7 +112,9 @@ locks_effect p s i (event.ImplicitEnd task) y rule other =
     of_current_region s i (task_ended s i) (λ u. u.locks ≡ s.locks) _ rule (λ k t r is found h. refl)
 locks_effect p s i (event.Join region) y rule other =
     of_region s i (joined s i) (λ u. u.locks ≡ s.locks) _ rule (λ k t r is found h. refl)
-locks_effect p s i (event.FreeTask task) y rule other = tt
+locks_effect p s i (event.FreeTask task) (item.Frees n) rule other =
+    of_current s i (freed s task) (λ u. u.locks ≡ s.locks) _ rule (λ k t is h. refl)
+locks_effect p s i (event.FreeTask task) y rule other = absurd rule
 locks_effect p s i (event.FreeRegion region) y rule other = tt
 locks_effect p s i (event.Defer task) (item.Defer seen f final) rule other =
     of_current s i (deferred p s task f final seen) (λ u. u.locks ≡ s.locks) _ rule (λ k t is h. refl)
@@ -163,12 +166,19 @@ module _ (k : ℕ) (p : Program) (events : List (ℕ × Event)) (s : State) (rea
       (λ none. refl)
 
   item_fits : fits e m.item ≡ true
-  item_fits = take_fits p (encounter s i) e (list_of s i) m.item m.behind m.taken
+  item_fits = take_fits p (encounter s i) e (ahead_of s i) m.item m.behind m.taken
+
+  -- what is given back behind an item
+  given : (w : ℕ) (t : Task) → take_item p (encounter s i) e (in_front t.frees t.list) ≡ Some (m.item, m.behind)
+      → Gives k w t.list → Gives k w (m.item ∷ m.behind)
+  given w t taken gives =
+      by_taken p (encounter s i) e t.frees t.list m.item m.behind (λ f y ys. Gives k w (y ∷ ys)) taken
+      (λ from. take_back k w p (encounter s i) e t.list m.item m.behind from gives) (λ task n. gives)
 
   -- the tasks' lists, from one holder to the next one
   tasks_next : (holder after_holder : Option Tid)
       →
-      ((n : Tid) (t : Task) → IsCurrent s i n t → take_item p (encounter s i) e t.list ≡ Some (m.item, m.behind) → Owns k holder n t → Owns k after_holder n (relisted (stays (encounter s i) e m.item m.behind) t))
+      ((n : Tid) (t : Task) → IsCurrent s i n t → take_item p (encounter s i) e (in_front t.frees t.list) ≡ Some (m.item, m.behind) → Owns k holder n t → Owns k after_holder n (relisted (stays (encounter s i) e m.item m.behind) t))
       →
       ((n : Tid) (t : Task) → ((s.threads i).current ≡ Some n → ⊥) → task_of s n ≡ Some t → Owns k holder n t → Owns k after_holder n t)
       → ((n : Tid) → after_holder ≡ Some n → IsLiveTask s n) → EachTask (Owns k holder) s → EachTask (Owns k after_holder) next
@@ -199,6 +209,7 @@ module _ (k : ℕ) (p : Program) (events : List (ℕ × Event)) (s : State) (rea
 
       law : EachTask (Owns k after_holder) middle → IsTaskLaw p middle i e m.item next (Owns k after_holder)
       law of_tasks = record {
+        frees = λ n t free how q. q;
         shows = λ n t x q. q;
         tools = λ n t x q. q;
         sets = λ n t icv value v f at_set q. q;
@@ -239,11 +250,11 @@ module _ (k : ℕ) (p : Program) (events : List (ℕ × Event)) (s : State) (rea
   -- what is taken off a list leaves as much to give back
   kept_own : (holder : Option Tid)
       → ((w : ℕ) → Gives k w (m.item ∷ m.behind) → Gives k w (stays (encounter s i) e m.item m.behind))
-      → (n : Tid) (t : Task) → take_item p (encounter s i) e t.list ≡ Some (m.item, m.behind) → Owns k holder n t → Owns k holder n (relisted (stays (encounter s i) e m.item m.behind) t)
+      → (n : Tid) (t : Task) → take_item p (encounter s i) e (in_front t.frees t.list) ≡ Some (m.item, m.behind) → Owns k holder n t → Owns k holder n (relisted (stays (encounter s i) e m.item m.behind) t)
   kept_own holder keeps n t taken (inl (is, gives)) =
-      inl (is, keeps 1 (take_back k 1 p (encounter s i) e t.list m.item m.behind taken gives))
+      inl (is, keeps 1 (given 1 t taken gives))
   kept_own holder keeps n t taken (inr (apart, gives)) =
-      inr (apart, keeps 0 (take_back k 0 p (encounter s i) e t.list m.item m.behind taken gives))
+      inr (apart, keeps 0 (given 0 t taken gives))
 
   same_holder : (holder : Option Tid) → next.locks k ≡ s.locks k
       → ((w : ℕ) → Gives k w (m.item ∷ m.behind) → Gives k w (stays (encounter s i) e m.item m.behind))
@@ -267,9 +278,9 @@ module _ (k : ℕ) (p : Program) (events : List (ℕ × Event)) (s : State) (rea
     where
       go : (o : Option Tid) → (s.threads i).current ≡ o → (n : Tid) × (t : Task) × IsCurrent s i n t
       go None none =
-          let list : list_of s i ≡ (s.threads i).list =
+          let list : ahead_of s i ≡ (s.threads i).list =
           ap
-          (λ (o : Option Tid). option_map_or (λ (u : Task). u.list) (option_and_then (task_of s) o) (s.threads i).list) none in
+          (λ (o : Option Tid). option_map_or (λ (u : Task). in_front u.frees u.list) (option_and_then (task_of s) o) (s.threads i).list) none in
           absurd
           (locked (no_take p (encounter s i) e (s.threads i).list m.item m.behind (ap (take_item p (encounter s i) e) (sym list) ∙ m.taken) (idle i)))
       go (Some n) name =
@@ -343,7 +354,7 @@ module _ (k : ℕ) (p : Program) (events : List (ℕ × Event)) (s : State) (rea
           not_begun h = cc
 
           own : (n : Tid) → (s.threads i).current ≡ Some n → (a : Tid) (t : Task) → IsCurrent s i a t
-              → take_item p (encounter s i) e t.list ≡ Some (m.item, m.behind) → Owns k holder a t
+              → take_item p (encounter s i) e (in_front t.frees t.list) ≡ Some (m.item, m.behind) → Owns k holder a t
               → Owns k (Some n) a (relisted (stays (encounter s i) e m.item m.behind) t)
           own n current a t is' taken (inl (h, gives)) = absurd (none_some (nobody same) h)
           own n current a t is' taken (inr (apart, gives)) =
@@ -352,7 +363,7 @@ module _ (k : ℕ) (p : Program) (events : List (ℕ × Event)) (s : State) (rea
                 subst
                     (λ b. gives_back k (stays (encounter s i) e m.item m.behind) (if b then 1 else 0) ≡ true)
                     (eq-eqb l k same)
-                    (gone_lock l 0 of (take_back k 0 p (encounter s i) e t.list m.item m.behind taken gives)),
+                    (gone_lock l 0 of (given 0 t taken gives)),
               )
 
           others : (n : Tid) → (s.threads i).current ≡ Some n → (a : Tid) (t : Task)
@@ -389,7 +400,7 @@ module _ (k : ℕ) (p : Program) (events : List (ℕ × Event)) (s : State) (rea
       is_holder same n t current (inl (h, gives)) = h
       is_holder same n t current (inr (apart, gives)) =
           absurd (false_true (subst (λ b. (if b then false else gives_back k (stays (encounter s i) e m.item m.behind) 0) ≡ true) (eq-eqb l k same)
-          (none_unlock l of (take_back k 0 p (encounter s i) e t.list m.item m.behind (ap (take_item p (encounter s i) e) (sym (list_of_current s i n t current)) ∙ m.taken) gives))))
+          (none_unlock l of (given 0 t (ap (take_item p (encounter s i) e) (sym (ahead_of_current s i n t current)) ∙ m.taken) gives))))
 
       go : (l ≡ k) ⊎ (l ≡ k → ⊥) → Next
       go (inr ne) =
@@ -405,7 +416,7 @@ module _ (k : ℕ) (p : Program) (events : List (ℕ × Event)) (s : State) (rea
           )
         where
           own : (a : Tid) (t : Task) → IsCurrent s i a t
-              → take_item p (encounter s i) e t.list ≡ Some (m.item, m.behind) → Owns k holder a t
+              → take_item p (encounter s i) e (in_front t.frees t.list) ≡ Some (m.item, m.behind) → Owns k holder a t
               → Owns k None a (relisted (stays (encounter s i) e m.item m.behind) t)
           own a t is' taken (inl (h, gives)) =
               inr (
@@ -413,7 +424,7 @@ module _ (k : ℕ) (p : Program) (events : List (ℕ × Event)) (s : State) (rea
                 subst
                     (λ b. gives_back k (stays (encounter s i) e m.item m.behind) (if b then 0 else 1) ≡ true)
                     (eq-eqb l k same)
-                    (gone_unlock l 0 of (take_back k 1 p (encounter s i) e t.list m.item m.behind taken gives)),
+                    (gone_unlock l 0 of (given 1 t taken gives)),
               )
           own a t is' taken (inr (apart, gives)) =
               absurd (apart (is_holder same a t is' (inr (apart, gives))))

@@ -16,7 +16,7 @@ use Rattle.omi_model.specs.State.{State, region_of, task_of}
 use Rattle.omi_model.proofs.EachObject.{EachTask, IsRegionLaw, IsTaskLaw, over_events, region_step, task_step}
 use Rattle.omi_model.proofs.OpeningObjects.{each_first_region, each_first_task}
 use Rattle.omi_model.proofs.Slots.{false_true, some_same}
-use Rattle.omi_model.proofs.StaysKept.{stays_step}
+use Rattle.omi_model.proofs.StaysKept.{needed_region, stays_step}
 use Rattle.omi_model.proofs.Steps.{IsRelisted}
 
 -- the first of a team
@@ -44,7 +44,7 @@ members_step p s i e next step known = record {
   tasks = task_step p (IsMemberByNumber next) s i e next step (λ k t y ys is taken q. q) task_law
       (λ k t live implicit.
       let (r, found, at) = known.tasks k t live implicit in
-      let (q, found_q, same) = (stays_step p s i e next step).regions t.region r found in
+      let (q, found_q, same) = (stays_step p s i e next step).regions t.region r found (needed_region s k t live r) in
       (q, found_q, ap (λ (team : List (Tid × ℕ)). slice_get team t.number) same.team ∙ at));
   encountered =
       task_step p (λ k t. IsEncountered next t) s i e next step
@@ -64,7 +64,7 @@ members_step p s i e next step known = record {
         → (r : Region) × (region_of s t.region ≡ Some r) × (q.encountering ≡ r.encountering)
     was_met k t live im q found_q =
         let (r, found, at) = known.tasks k t live im in
-        let (q', found_q', same) = (stays_step p s i e next step).regions t.region r found in
+        let (q', found_q', same) = (stays_step p s i e next step).regions t.region r found (needed_region s k t live r) in
         let one : q' ≡ q = some_same found_q' found_q in
         (r, found, ap (λ (x : Region). x.encountering) (sym one) ∙ same.encountering)
 
@@ -72,6 +72,7 @@ members_step p s i e next step known = record {
         → EachTask (λ k t. IsEncountered next t) middle
         → IsTaskLaw p middle i e y next (λ k t. IsEncountered next t)
     met_law middle y relists later all = record {
+      frees = λ k t free how q. record { generating = q.generating; scheduling = q.scheduling; waiting = q.waiting };
       shows = λ k t x q. record { generating = q.generating; scheduling = q.scheduling; waiting = q.waiting };
       tools = λ k t x q. record { generating = q.generating; scheduling = q.scheduling; waiting = q.waiting };
       sets = λ k t icv value v f at_set q. record { generating = q.generating; scheduling = q.scheduling; waiting = q.waiting };
@@ -105,6 +106,7 @@ members_step p s i e next step known = record {
     task_law : (middle : State) (y : Item) → IsRelisted s middle → Stays middle next
         → EachTask (IsMemberByNumber next) middle → IsTaskLaw p middle i e y next (IsMemberByNumber next)
     task_law middle y before later all = record {
+      frees = λ k t free how q. q;
       shows = λ k t x q. q;
       tools = λ k t x q. q;
       sets = λ k t icv value v f at_set q. q;

@@ -1,5 +1,5 @@
 -- Each name that an object or a thread holds stays the name of a live object.
-use Rattle.std.proofs.Common.{◌≡◌, ◌==◌, inl, ℕ, zero, suc, Bool, true, false, List, [], ◌∷◌, slice_get, Some, None, if◌then◌else◌, refl, sym, ap, ◌∙◌, subst}
+use Rattle.std.proofs.Common.{◌≡◌, ◌==◌, ℕ, zero, suc, Bool, true, false, List, [], ◌∷◌, slice_get, Some, None, if◌then◌else◌, refl, sym, ap, ◌∙◌, subst, eq-eqb}
 use Rattle.omi_script.specs.declared.program.Program.{Program}
 use Rattle.omi_model.specs.declared.event.Event.{Event}
 use Rattle.omi_model.specs.declared.id.Id.{Id}
@@ -12,19 +12,22 @@ use Rattle.omi_model.specs.declared.task.Task.{Task}
 use Rattle.omi_model.specs.declared.thread.Thread.{Thread}
 use Rattle.omi_model.specs.Changes.{IsCurrent}
 use Rattle.omi_model.specs.LawNames.{AreNamesLive, IsLiveRegion, IsLiveTask, IsMemberTask, NamesOfRegion, NamesOfTask}
-use Rattle.omi_model.specs.LawStays.{IsNeeded, Stays}
+use Rattle.omi_model.specs.LawStays.{IsNeeded, IsNeededRegion, Stays}
 use Rattle.omi_model.specs.Opening.{initial_task, opening, opening_region, opening_task}
 use Rattle.omi_model.specs.Reached.{Reached, Step}
 use Rattle.omi_model.specs.State.{State, region_of, task_of}
-use Rattle.omi_model.specs.Teams.{master_of}
+use Rattle.omi_model.specs.Teams.{master_of, member_task}
 use Rattle.omi_model.proofs.EachObject.{EachRegion, EachTask, IsRegionLaw, IsTaskLaw, region_step, task_step}
 use Rattle.omi_model.proofs.EachThread.{EachThread, IsThreadLaw, thread_step}
+use Rattle.omi_model.proofs.MembersKnown.{members_known}
+use Rattle.omi_model.proofs.NamesKept.{names_kept}
 use Rattle.omi_model.proofs.NeededTasks.{needed_current, needed_encountering, needed_scheduling}
 use Rattle.omi_model.proofs.OpeningObjects.{each_first_thread, first_alone_named}
 use Rattle.omi_model.proofs.ReachedStates.{over_reached}
-use Rattle.omi_model.proofs.Slots.{none_some, some_same}
+use Rattle.omi_model.proofs.Slots.{false_true, none_some, some_same}
 use Rattle.omi_model.proofs.Steps.{IsRelisted}
-use Rattle.omi_model.proofs.StaysKept.{needed_generating, needed_waiting, stays_step}
+use Rattle.omi_model.proofs.StaysKept.{needed_enclosing, needed_generating, needed_member, needed_region, needed_waiting, stays_step}
+use Rattle.omi_model.proofs.TeamsMade.{names_made}
 
 -- ---- later states
 
@@ -32,13 +35,15 @@ live_task : (s u : State) → Stays s u → (k : Tid) → IsLiveTask s k
     → ((t : Task) → task_of s k ≡ Some t → IsNeeded s k t) → IsLiveTask u k
 live_task s u stay k (t, e, un) need = let (v, f, same) = stay.tasks k t e (need t e) in (v, f, same.started un)
 
-pub live_region : (s u : State) → Stays s u → (n : Rid) → IsLiveRegion s n → IsLiveRegion u n
-live_region s u stay n (r, e) = let (q, f, same) = stay.regions n r e in (q, f)
+pub live_region : (s u : State) → Stays s u → (n : Rid) → IsLiveRegion s n
+    → ((r : Region) → IsNeededRegion s n r) → IsLiveRegion u n
+live_region s u stay n (r, e) need = let (q, f, same) = stay.regions n r e (need r) in (q, f)
 
-pub member_stays : (s u : State) → Stays s u → (n : Rid) (j : ℕ) (m : Tid × ℕ) → IsMemberTask s n j m
-    → IsMemberTask u n j m
-member_stays s u stay n j m is =
-    let (v, found, same) = stay.tasks m.0 is.task is.live (inl is.implicit) in
+-- a member whose task lives later is the same one
+pub member_alike : (s u : State) → Stays s u → (n : Rid) (j : ℕ) (m : Tid × ℕ) → IsMemberTask s n j m → (v : Task)
+    → task_of u m.0 ≡ Some v → IsMemberTask u n j m
+member_alike s u stay n j m is v found =
+    let same = stay.alike m.0 is.task v is.live found in
     record {
       task = v;
       live = found;
@@ -48,6 +53,12 @@ member_stays s u stay n j m is =
       number = same.number is.undeferred ∙ is.number;
       thread = same.thread is.undeferred ∙ is.thread;
     }
+
+pub member_stays : (s u : State) → Stays s u → (n : Rid) (j : ℕ) (m : Tid × ℕ) (r : Region) → region_of s n ≡ Some r
+    → r.joined ≡ false → IsMemberTask s n j m → IsMemberTask u n j m
+member_stays s u stay n j m r here unjoined is =
+    let need = needed_member s m.0 is.task is.implicit r (ap (region_of s) is.region ∙ here) unjoined in
+    let (v, found, same) = stay.tasks m.0 is.task is.live need in member_alike s u stay n j m is v found
 
 not_waiting : (t : Task) → t.progress ≡ NotBegun → t.progress ≡ Deferred → ⊥
 not_waiting t e f = cc
@@ -87,7 +98,7 @@ module _ (p : Program) (events : List (ℕ × Event)) (s : State) (reached : Rea
 
   names_of_task : (k : Tid) (t : Task) → task_of s k ≡ Some t → NamesOfTask next t
   names_of_task k t live = record {
-    region = live_region s next stay t.region (names.tasks k t live).region;
+    region = live_region s next stay t.region (names.tasks k t live).region (λ r. needed_region s k t live r);
     generating = λ n is. live_task s next stay n ((names.tasks k t live).generating n is) (λ v found. needed_generating s k t live n v is);
     scheduling = scheduling_stays k t live;
   }
@@ -96,15 +107,22 @@ module _ (p : Program) (events : List (ℕ × Event)) (s : State) (reached : Rea
   names_of_region n r live =
       let of = names.regions n r live in
       record {
-        enclosing = λ o is. live_region s next stay o (of.enclosing o is);
-        encountering = λ k is. live_task s next stay k (of.encountering k is) (λ t found. needed_encountering p events s reached n r live of k t is);
-        team = λ j m at. member_stays s next stay n j m (of.team j m at);
+        enclosing = λ o is. live_region s next stay o (of.enclosing o is) (λ q. needed_enclosing s n o r q live is);
+        encountering = λ unjoined k is.
+            live_task s next stay k (of.encountering unjoined k is)
+            (λ t found. needed_encountering p events s reached n r live unjoined of k t is);
+        team = λ unjoined j m at. member_stays s next stay n j m r live unjoined (of.team unjoined j m at);
+        members = λ j m at t found.
+            let made = (names_made p events s reached n r live).team j m at in
+            let (v, was) = (names_kept p s i e next step).1.back m.0.0 t made found in
+            member_alike s next stay n j m (of.members j m at v was) t found;
       }
 
   task_law : (middle : State) (y : Item) → IsRelisted s middle → Stays middle next
       → EachTask (λ k t. NamesOfTask next t) middle
       → IsTaskLaw p middle i e y next (λ k t. NamesOfTask next t)
   task_law middle y before later all = record {
+    frees = λ k t free how q. record { region = q.region; generating = q.generating; scheduling = q.scheduling };
     shows = λ k t x q. record { region = q.region; generating = q.generating; scheduling = q.scheduling };
     tools = λ k t x q. record { region = q.region; generating = q.generating; scheduling = q.scheduling };
     sets = λ k t icv value v f at_set q. record { region = q.region; generating = q.generating; scheduling = q.scheduling };
@@ -134,16 +152,37 @@ module _ (p : Program) (events : List (ℕ × Event)) (s : State) (reached : Rea
   region_law : (middle : State) → IsRelisted s middle → Stays middle next
       → IsRegionLaw p middle i next (λ n r. NamesOfRegion next n r)
   region_law middle before later = record {
-    arrives = λ k t r is found q. record { enclosing = q.enclosing; encountering = q.encountering; team = q.team };
-    releases = λ k t r is found may q. record { enclosing = q.enclosing; encountering = q.encountering; team = q.team };
-    ends = λ k t r is found im other q. record { enclosing = q.enclosing; encountering = q.encountering; team = q.team };
-    joins = λ k t r is found may q. record { enclosing = q.enclosing; encountering = q.encountering; team = q.team };
+    arrives = λ k t r is found q. record { enclosing = q.enclosing; encountering = q.encountering; team = q.team; members = q.members };
+    releases = λ k t r is found may q. record { enclosing = q.enclosing; encountering = q.encountering; team = q.team; members = q.members };
+    ends = λ k t r is found im other q. record { enclosing = q.enclosing; encountering = q.encountering; team = q.team; members = q.members };
+    joins = λ k t r is found may q. record {
+      enclosing = q.enclosing;
+      encountering = λ unjoined. absurd (false_true (sym unjoined));
+      team = λ unjoined. absurd (false_true (sym unjoined));
+      members = q.members;
+    };
     forks = λ region team f k t r is found may new. record {
-      enclosing = λ o g. subst (IsLiveRegion next) (some_same refl g) (live_region middle next later t.region (r, found));
-      encountering = λ n g. subst (IsLiveTask next) (some_same refl g) (current_stays i k (sym (before.currents i) ∙ is.name));
-      team = λ j m at. record { task = _; live = new j m at; implicit = refl; undeferred = not_deferred (j == 0); region = refl; number = refl; thread = refl };
+      enclosing = λ o g.
+          let here = live_region middle next later t.region (r, found) (λ q. needed_region middle k t is.live q) in
+          subst (IsLiveRegion next) (some_same refl g) here;
+      encountering = λ unjoined n g. subst (IsLiveTask next) (some_same refl g) (current_stays i k (sym (before.currents i) ∙ is.name));
+      team = λ unjoined. member region team f k t r new;
+      members = λ j m at u live. member region team f k t r new j m at;
     };
   }
+    where
+      member : (region : Rid) (team : List (Tid × ℕ)) (f : ℕ) (k : Tid) (t : Task) (r : Region)
+          → ((j : ℕ) (m : Tid × ℕ) → slice_get team j ≡ Some m → task_of next m.0 ≡ Some (member_task p region k t r f j m.1))
+          → (j : ℕ) (m : Tid × ℕ) → slice_get team j ≡ Some m → IsMemberTask next region j m
+      member region team f k t r new j m at = record {
+        task = member_task p region k t r f j m.1;
+        live = new j m at;
+        implicit = refl;
+        undeferred = not_deferred (j == 0);
+        region = refl;
+        number = refl;
+        thread = refl;
+      }
 
   abbrev Current : ℕ → Thread → Type 0
   Current j h = (k : Tid) → h.current ≡ Some k → IsLiveTask next k
@@ -171,14 +210,25 @@ module _ (p : Program) (events : List (ℕ × Event)) (s : State) (reached : Rea
     forks = λ region team f k t r is found may new q n g. first_name next team n (λ j m at. (_, new j m at, not_deferred (j == 0))) g;
     joins_team = λ task may of q n g. subst (IsLiveTask next) (some_same refl g) (live_task middle next later task (may.member, may.live, λ d. not_waiting may.member may.waiting d) (λ t live. needed_waiting middle task t (ap (λ (x : Task). x.progress) (some_same live may.live) ∙ may.waiting)));
     ends = λ k t r is found im other over q n g. absurd (none_some refl g);
-    joins = λ k t r is found may of q n g.
-        let (v, live, same) = later.regions t.region r found in
-        (next_regions t.region v live).encountering n (same.encountering ∙ g);
+    joins = λ k t r is found may of q n g. from_scheduling k t is n (first k t r is found may.implicit may.first ∙ g);
     makes = λ task f final k t is new q n g. subst (IsLiveTask next) (some_same refl g) (_, new, λ d. not_deferred true d);
     starts = λ task x k t is may (u, found, begun, from) q n g. subst (IsLiveTask next) (some_same refl g) (u, found, λ d. not_deferred true (sym begun ∙ d));
     finishes = λ k t is ex over q n g. from_scheduling k t is n g;
   }
     where
+      -- member 0 was scheduled from the task that encountered the region
+      first : (k : Tid) (t : Task) (r : Region) → IsCurrent middle i k t → region_of middle t.region ≡ Some r
+          → t.implicit ≡ true → t.number ≡ 0 → t.scheduling ≡ r.encountering
+      first k t r is found im zero_number =
+          let (v, xs, live, same) = before.tasks k t is.live in
+          let here : region_of s v.region ≡ Some r =
+          ap (λ (x : Task). region_of s x.region) (sym same) ∙ (sym (before.regions t.region) ∙ found) in
+          let met = ((members_known p events s reached).encountered k v live).scheduling
+          (ap (λ (x : Task). x.implicit) (sym same) ∙ im) r here in
+          let number : v.number ≡ 0 = ap (λ (x : Task). x.number) (sym same) ∙ zero_number in
+          ap (λ (x : Task). x.scheduling) same
+          ∙ (met ∙ ap (λ b. if b then r.encountering else None) (eq-eqb v.number 0 number))
+
       from_scheduling : (k : Tid) (t : Task) → IsCurrent middle i k t → (n : Tid) → t.scheduling ≡ Some n
           → IsLiveTask next n
       from_scheduling k t is n g =
@@ -203,8 +253,9 @@ names_opening p = record {
       let (name, is) = first_alone_named (opening_region p) n.0 r e in
       subst (NamesOfRegion (opening p) n) (sym is) (record {
         enclosing = λ o g. absurd (none_some refl g);
-        encountering = λ k g. absurd (none_some refl g);
-        team = λ j m g. member n name j m g;
+        encountering = λ unjoined k g. absurd (none_some refl g);
+        team = λ unjoined j m g. member n name j m g;
+        members = λ j m g t live. member n name j m g;
       });
 }
   where

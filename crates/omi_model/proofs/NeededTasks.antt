@@ -1,5 +1,5 @@
--- Tasks that no event takes away: the current tasks, and those that a live task or region names.
-use Rattle.std.proofs.Common.{◌≡◌, ◌⊎◌, inl, inr, ℕ, List, Some, ap, ◌∙◌}
+-- Tasks that no event takes away: the current tasks, those that a live task names, and those that encountered a region that is not joined.
+use Rattle.std.proofs.Common.{◌≡◌, ◌⊎◌, inl, inr, ℕ, false, List, Some, sym, ap, ◌∙◌}
 use Rattle.omi_script.specs.declared.program.Program.{Program}
 use Rattle.omi_model.specs.declared.event.Event.{Event}
 use Rattle.omi_model.specs.declared.id.Rid.{Rid}
@@ -25,17 +25,20 @@ module _ (p : Program) (events : List (ℕ × Event)) (s : State) (reached : Rea
       → t.scheduling ≡ Some n → task_of s n ≡ Some v → IsNeeded s n v
   needed_scheduling k t live n v is found = go (scheduled_from p events s reached k t live n is)
     where
-      go : (t.generating ≡ Some n) ⊎ IsLiveImplicit s n → IsNeeded s n v
+      go : (t.generating ≡ Some n) ⊎ ((t.implicit ≡ false) × IsLiveImplicit s n t.region) → IsNeeded s n v
       go (inl by) = needed_generating s k t live n v by
-      go (inr (w, found_w, im)) = inl (ap (λ (x : Task). x.implicit) (some_same found found_w) ∙ im)
+      go (inr (ex, (w, found_w, im, region))) =
+          let one : v ≡ w = some_same found found_w in
+          let here : t.region ≡ v.region = sym region ∙ ap (λ (x : Task). x.region) (sym one) in
+          inl (ap (λ (x : Task). x.implicit) one ∙ im, inr (inl (k, t, live, ex, here)))
 
-  -- the task that encountered a live region: member 0 was made by it
-  pub needed_encountering : (n : Rid) (r : Region) → region_of s n ≡ Some r → NamesOfRegion s n r → (k : Tid)
-      (t : Task) → r.encountering ≡ Some k → IsNeeded s k t
-  needed_encountering n r found names k t is =
+  -- the task that encountered a region that is not joined: member 0 was made by it
+  pub needed_encountering : (n : Rid) (r : Region) → region_of s n ≡ Some r → r.joined ≡ false → NamesOfRegion s n r
+      → (k : Tid) (t : Task) → r.encountering ≡ Some k → IsNeeded s k t
+  needed_encountering n r found unjoined names k t is =
       let some = ((members_known p events s reached).regions n r found).some in
       let (a, at) = first_at r.team some in
-      go a (names.team 0 a at)
+      go a (names.team unjoined 0 a at)
     where
       go : (a : Tid × ℕ) → IsMemberTask s n 0 a → IsNeeded s k t
       go a member =

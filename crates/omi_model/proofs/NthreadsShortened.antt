@@ -20,7 +20,7 @@ use Rattle.omi_model.specs.Teams.{shortened}
 use Rattle.omi_model.proofs.EachObject.{EachTask, IsTaskLaw, over_events, task_step}
 use Rattle.omi_model.proofs.OpeningObjects.{each_first_task}
 use Rattle.omi_model.proofs.Slots.{none_some, some_same}
-use Rattle.omi_model.proofs.StaysKept.{stays_step}
+use Rattle.omi_model.proofs.StaysKept.{needed_region, stays_step}
 use Rattle.omi_model.proofs.Steps.{IsRelisted}
 
 -- setting a variable sets the list's head, or leaves the list
@@ -101,12 +101,13 @@ module _ (p : Program) where
       task_step p (Shortened next) s i e next step (λ k t y ys is taken q. q) law
       (λ k t live.
       let (r, found, is) = all k t live in
-      let (q, found_q, same) = (stays_step p s i e next step).regions t.region r found in
+      let (q, found_q, same) = (stays_step p s i e next step).regions t.region r found (needed_region s k t live r) in
       (q, found_q, record { some = is.some; rest = is.rest ∙ ap (λ n. drop (n + 1) p.env.nthreads) (sym same.levels) }))
     where
       law : (middle : State) (y : Item) → IsRelisted s middle → Stays middle next
           → EachTask (Shortened next) middle → IsTaskLaw p middle i e y next (Shortened next)
       law middle y before later of_tasks = record {
+        frees = λ k t free how q. q;
         shows = λ k t x q. q;
         tools = λ k t x q. q;
         begins = λ k t waits mine by q. q;
@@ -115,7 +116,7 @@ module _ (p : Program) where
         starts = λ k u j t x is live ex de may of by q. q;
         members = λ region team f k t r is found may new of by j m at.
             let (q, found_q, here) = of_tasks k t is.live in
-            let (q', found_q', same) = later.regions t.region r found in
+            let (q', found_q', same) = later.regions t.region r found (needed_region middle k t is.live r) in
             let one : q ≡ q' = some_same found_q found_q' in
             let level : q.levels ≡ r.levels = ap (λ (x : Region). x.levels) one ∙ same.levels in
             (_, new, record { some = some_of_shortened t.variables.nthreads here.some; rest = deeper t.variables.nthreads r.levels (here.rest ∙ ap (λ n. drop (n + 1) p.env.nthreads) level) });

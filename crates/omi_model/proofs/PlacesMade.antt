@@ -18,7 +18,7 @@ use Rattle.omi_model.specs.State.{State}
 use Rattle.omi_model.specs.Changes.{encounter}
 use Rattle.omi_model.specs.Teams.{member_task, with_members}
 use Rattle.omi_model.proofs.SlotEffects.{OfSlots, slots_effect}
-use Rattle.omi_model.proofs.Slots.{each_slot}
+use Rattle.omi_model.proofs.Slots.{each_slot, gone_live}
 use Rattle.omi_model.proofs.Steps.{from_some, list_moves, move_of, on_live, relisted}
 use Rattle.omi_model.specs.Lists.{stays}
 
@@ -62,9 +62,10 @@ module _ (P : ℕ → ℕ → Type 0) where
     lives : OfSlots p s i (λ e regions tasks. MakesIn P e → LivesIn P tasks)
     lives = record {
       stays = λ e same here. all;
-      tasks = λ e same n f here. lives_on s.tasks n.0 f all;
-      defers = λ task x here. lives_made s.tasks task.0 x all here;
-      starts_now = λ task x here. lives_made s.tasks task.0 x all here;
+      tasks = λ e same slots q n f here. lives_on slots n.0 f (q here);
+      frees = λ task here c j t live. all c j t (gone_live s.tasks task.0 c j t live);
+      defers = λ task x fresh here. lives_made s.tasks task.0 x all here;
+      starts_now = λ task x fresh here. lives_made s.tasks task.0 x all here;
       forks = λ region team f k t r may here. lives_members (member_task p region k t r f) 0 team s.tasks here all;
       arrives = λ k t is here. all;
       releases = λ k t r is found may here. all;

@@ -12,9 +12,9 @@ use Rattle.omi_model.specs.declared.progress.Progress.TheVariants.{Begun, Deferr
 use Rattle.omi_model.specs.declared.region.Region.{Region}
 use Rattle.omi_model.specs.declared.task.Task.{Task}
 use Rattle.omi_model.specs.Barriers.{AreFinished}
-use Rattle.omi_model.specs.Changes.{IsCurrent, encounter, list_of}
+use Rattle.omi_model.specs.Changes.{IsCurrent, ahead_of, encounter}
 use Rattle.omi_model.specs.LawEnds.{IsLast}
-use Rattle.omi_model.specs.LawStays.{Stays}
+use Rattle.omi_model.specs.LawStays.{Stays, is_free}
 use Rattle.omi_model.specs.Lists.{fits, stays, take_item}
 use Rattle.omi_model.specs.Opening.{opening}
 use Rattle.omi_model.specs.Reached.{Leads, Reached, Step}
@@ -26,14 +26,15 @@ use Rattle.omi_model.proofs.BarrierOrder.{IsReady, Outside, Phase, Released, Wai
 use Rattle.omi_model.proofs.BarrierSteps.{Changes, IsUntouched, region_changed}
 use Rattle.omi_model.proofs.ChainsKept.{current_begun}
 use Rattle.omi_model.proofs.Covered.{Covers, HasBehind, main_covers, member_covers, stays_covers, take_covers}
-use Rattle.omi_model.proofs.EachObject.{EachTask, IsTaskLaw, list_of_current, over_events, task_step, task_step_from}
+use Rattle.omi_model.proofs.EachObject.{EachTask, IsTaskLaw, ahead_of_current, over_events, task_step, task_step_from}
 use Rattle.omi_model.proofs.LastItems.{Closes, main_closes, member_closes, start_closes, stays_closes, take_closes, task_closes}
-use Rattle.omi_model.proofs.ListLaws.{take_fits}
+use Rattle.omi_model.proofs.ListLaws.{take_fits, by_taken, is_frees, passes_front, taken_plain}
 use Rattle.omi_model.proofs.NamesLive.{names_live}
 use Rattle.omi_model.proofs.OpeningObjects.{each_first_task}
 use Rattle.omi_model.proofs.ReachedStates.{over_reached}
 use Rattle.omi_model.proofs.Slots.{false_true, found_live, same_or_not, some_same}
-use Rattle.omi_model.proofs.StaysKept.{stays_leads, stays_step}
+use Rattle.omi_model.proofs.StaysKept.{stays_step}
+use Rattle.omi_model.proofs.StaysLater.{stays_leads}
 use Rattle.omi_model.proofs.Steps.{IsMove, IsRelisted, is_relisted, move_of, moved_on}
 
 -- ---- lists of implicit tasks
@@ -44,11 +45,14 @@ IsCovered p k t = t.implicit ≡ true → Covers (barriers_of p) t.list
 covered_step : (p : Program) (s : State) (i : ℕ) (e : Event) (next : State) → Step p s i e next
     → EachTask (IsCovered p) s → EachTask (IsCovered p) next
 covered_step p s i e next step all = task_step p (IsCovered p) s i e next step
-    (λ k t y ys is taken h im. stays_covers (barriers_of p) (encounter s i) e y ys (take_covers (barriers_of p) p (encounter s i) e t.list y ys taken (h im))) law all
+    (λ k t y ys is taken h im.
+    by_taken p (encounter s i) e t.frees t.list y ys (λ f z zs. Covers (barriers_of p) (stays (encounter s i) f z zs)) taken
+    (λ from. stays_covers (barriers_of p) (encounter s i) e y ys (take_covers (barriers_of p) p (encounter s i) e t.list y ys from (h im))) (λ task n. h im)) law all
   where
     law : (middle : State) (y : Item) → IsRelisted s middle → Stays middle next
         → EachTask (IsCovered p) middle → IsTaskLaw p middle i e y next (IsCovered p)
     law middle y before later of_tasks = record {
+      frees = λ k t free how q. q;
       shows = λ k t x q. q;
       tools = λ k t x q. q;
       sets = λ k t icv value v f at_set q. q;
@@ -70,7 +74,7 @@ covered p events s reached =
 -- ---- regions past their last release
 
 abbrev IsRested : Program → Region → Type 0
-IsRested p r = r.released ≡ barriers_of p r.function + 1
+IsRested p r = barriers_of p r.function + 1 ≤ r.released
 
 -- an explicit task of such a region is finished
 abbrev Rests : Program → State → Tid → Task → Type 0
@@ -123,19 +127,20 @@ module _ (p : Program) (events : List (ℕ × Event)) (s : State) (reached : Rea
   was : (n : Rid) (q : Region) (r : Region) → region_of s n ≡ Some r → region_of next n ≡ Some q
       → Changes s i e n r q × (q.function ≡ r.function)
   was n q r found found_q =
-      let (w, found_w, change) = region_changed p s i e next m n r found in
-      let one : w ≡ q = some_same found_w found_q in
-      let (w', found_w', same) = (stays_step p s i e next step).regions n r found in
-      (subst (λ (x : Region). Changes s i e n r x) one change, ap (λ (x : Region). x.function) (some_same found_q found_w') ∙ same.function)
+      let same = (stays_step p s i e next step).alike_regions n r q found found_q in
+      (region_changed p s i e next m n r q found found_q, same.function)
 
   -- a task that makes another one is in no region past its last release
   makes_open : (k : Tid) (t : Task) → IsCurrent s i k t
       → (HasBehind (barriers_of p) m.item m.behind → 0 < left (barriers_of p) m.behind)
-      → is_barrier_event e ≡ false → (q : Region) → region_of next t.region ≡ Some q → IsRested p q → ⊥
-  makes_open k t is behind plain q found_q rested = go t.implicit refl
+      → is_frees m.item ≡ false → is_barrier_event e ≡ false → (q : Region) → region_of next t.region ≡ Some q
+      → IsRested p q → ⊥
+  makes_open k t is behind makes plain q found_q rested = go t.implicit refl
     where
       taken : take_item p (encounter s i) e t.list ≡ Some (m.item, m.behind)
-      taken = ap (take_item p (encounter s i) e) (sym (list_of_current s i k t is)) ∙ m.taken
+      taken =
+          taken_plain p (encounter s i) e t.frees t.list m.item m.behind makes
+          (ap (take_item p (encounter s i) e) (sym (ahead_of_current s i k t is)) ∙ m.taken)
 
       begun_finished : Begun ≡ Finished → ⊥
       begun_finished h = cc
@@ -156,14 +161,15 @@ module _ (p : Program) (events : List (ℕ × Event)) (s : State) (reached : Rea
           let count = ready.barriers in
           let sum = member.barriers in
           let same : barriers_of p q.function ≡ barriers_of p r.function = ap (barriers_of p) function in
-          let last : q.released ≡ barriers_of p q.function + 1 = rested in
+          let last : barriers_of p q.function + 1 ≤ q.released = rested in
           omega arith
       go false ex =
           let (r, found) = ((names_live p events s reached).tasks k t is.live).region in
           let (change, function) = was t.region q r found found_q in
           let released : q.released ≡ r.released = (untouched_by s i e t.region r q plain change).1 in
-          let last : r.released ≡ barriers_of p r.function + 1 =
-          sym released ∙ (rested ∙ ap (λ f. barriers_of p f + 1) function) in
+          let same : barriers_of p q.function ≡ barriers_of p r.function = ap (barriers_of p) function in
+          let now : barriers_of p q.function + 1 ≤ q.released = rested in
+          let last : barriers_of p r.function + 1 ≤ r.released = omega (arith, same, now, released) in
           begun_finished
           (sym (current_begun p events s reached i k t is.name is.live).0 ∙ all k t is.live ex r found last)
 
@@ -177,25 +183,25 @@ module _ (p : Program) (events : List (ℕ × Event)) (s : State) (reached : Rea
   fits_item : (y : Item) → m.item ≡ y → fits e y ≡ true
   fits_item y of =
       subst (λ (x : Item). fits e x ≡ true) of
-      (take_fits p (encounter s i) e (list_of s i) m.item m.behind m.taken)
+      (take_fits p (encounter s i) e (ahead_of s i) m.item m.behind m.taken)
 
   no_new : (k : Tid) (t : Task) → IsCurrent middle i k t → (y : Item) → m.item ≡ y
-      → (HasBehind (barriers_of p) y m.behind → 0 < left (barriers_of p) m.behind)
+      → (HasBehind (barriers_of p) y m.behind → 0 < left (barriers_of p) m.behind) → is_frees y ≡ false
       → is_barrier_event e ≡ false → (q : Region) → region_of next t.region ≡ Some q → IsRested p q → ⊥
-  no_new k t is y of behind plain q found_q rested =
+  no_new k t is y of behind makes plain q found_q rested =
       let (v, current, region) = current_before k t is in
       makes_open k v current
-      (λ h. behind (subst (λ (x : Item). HasBehind (barriers_of p) x m.behind) of h)) plain q
+      (λ h. behind (subst (λ (x : Item). HasBehind (barriers_of p) x m.behind) of h)) (ap is_frees of ∙ makes) plain q
       (ap (region_of next) (sym region) ∙ found_q) rested
 
   no_new_now : (k : Tid) (t : Task) → IsCurrent middle i k t → (f : ℕ) (final : Bool)
       → (m.item ≡ item.StartNow f final) ⊎ ((seen : ℕ) × (m.item ≡ item.Defer seen f final)) → (q : Region)
       → region_of next t.region ≡ Some q → IsRested p q → ⊥
   no_new_now k t is f final (inl of) =
-      no_new k t is (item.StartNow f final) of (λ h. h)
+      no_new k t is (item.StartNow f final) of (λ h. h) refl
       (starts_now_only e f final (fits_item (item.StartNow f final) of))
   no_new_now k t is f final (inr (seen, of)) =
-      no_new k t is (item.Defer seen f final) of (λ h. h)
+      no_new k t is (item.Defer seen f final) of (λ h. h) refl
       (defers_only e seen f final (fits_item (item.Defer seen f final) of))
 
   waiting_finished : (t : Task) → t.progress ≡ NotBegun → t.progress ≡ Finished → ⊥
@@ -206,6 +212,7 @@ module _ (p : Program) (events : List (ℕ × Event)) (s : State) (reached : Rea
 
   rest_law : EachTask (Rests p next) middle → IsTaskLaw p middle i e m.item next (Rests p next)
   rest_law of_tasks = record {
+    frees = λ k t free how q. q;
     shows = λ k t x q. q;
     tools = λ k t x q. q;
     sets = λ k t icv value v f at_set q. q;
@@ -214,7 +221,7 @@ module _ (p : Program) (events : List (ℕ × Event)) (s : State) (reached : Rea
     starts = λ k u j t x is live ex de may of by q ex' r found rested. absurd (deferred_finished u de (q ex' r found rested));
     members = λ region team f k t r is found may new of by j n at ex. absurd (false_true (sym ex));
     deferred = λ task f final seen k t is of fresh ex r found rested.
-        absurd (no_new k t is (item.Defer seen f final) of (λ h. h) (defers_only e seen f final (fits_item (item.Defer seen f final) of)) r found rested);
+        absurd (no_new k t is (item.Defer seen f final) of (λ h. h) refl (defers_only e seen f final (fits_item (item.Defer seen f final) of)) r found rested);
     made = λ task f final k t is of fresh by ex r found rested. absurd (no_new_now k t is f final of r found rested);
   }
 
@@ -228,7 +235,9 @@ module _ (p : Program) (events : List (ℕ × Event)) (s : State) (reached : Rea
       go : (r : Region) → region_of s t.region ≡ Some r → q.function ≡ r.function
           → (q.released ≡ r.released) ⊎ AreFinished s t.region → t.progress ≡ Finished
       go r found function (inl same) =
-          h ex r found (sym same ∙ (rested ∙ ap (λ f. barriers_of p f + 1) function))
+          let all_of : barriers_of p q.function ≡ barriers_of p r.function = ap (barriers_of p) function in
+          let now : barriers_of p q.function + 1 ≤ q.released = rested in
+          h ex r found (omega (arith, all_of, now, same))
       go r found function (inr finished) =
           finished k.0.creator k.0.slot t
           (found_live k.0.generation (s.tasks k.0.creator k.0.slot) t live) ex refl
@@ -258,11 +267,14 @@ HasLast k t = Closes (MayClose t.implicit) t.list
 lasts_step : (p : Program) (s : State) (i : ℕ) (e : Event) (next : State) → Step p s i e next
     → EachTask HasLast s → EachTask HasLast next
 lasts_step p s i e next step all = task_step p HasLast s i e next step
-    (λ k t y ys is taken h. stays_closes (MayClose t.implicit) (encounter s i) e y ys (take_closes (MayClose t.implicit) p (encounter s i) e t.list y ys taken h)) law all
+    (λ k t y ys is taken h.
+    by_taken p (encounter s i) e t.frees t.list y ys (λ f z zs. Closes (MayClose t.implicit) (stays (encounter s i) f z zs)) taken
+    (λ from. stays_closes (MayClose t.implicit) (encounter s i) e y ys (take_closes (MayClose t.implicit) p (encounter s i) e t.list y ys from h)) (λ task n. h)) law all
   where
     law : (middle : State) (y : Item) → IsRelisted s middle → Stays middle next → EachTask HasLast middle
         → IsTaskLaw p middle i e y next HasLast
     law middle y relists later of_tasks = record {
+      frees = λ k t free how q. q;
       shows = λ k t x q. q;
       tools = λ k t x q. q;
       sets = λ k t icv value v f at_set q. q;
@@ -334,14 +346,21 @@ implicit_last p s i event.Done item.Done ys k t last fit rule is h = h.0 refl
 implicit_last p s i event.Done y ys k t last fit rule is h = absurd (false_true fit)
 implicit_last p s i e y ys k t last fit rule is h = absurd last
 
-pub regions_end : (p : Program) (events more : List (ℕ × Event)) (s u : State) → Reached p events s
-    → (i : ℕ) (e : Event) (k : Tid) (t : Task) → IsLast e → Legal p s i e → IsCurrent s i k t
-    → Leads p s more u
-    → (n : Tid) (v : Task) → task_of u n ≡ Some v → v.implicit ≡ false → v.region ≡ t.region → v.progress ≡ Finished
-regions_end p events more s u reached i e k t last legal is leads n v live ex region =
+last_other : (e : Event) → IsLast e → is_free e ≡ false
+last_other (event.ImplicitEnd task) last = refl
+last_other (event.Join region) last = refl
+last_other event.Done last = refl
+last_other e last = absurd last
+
+-- where the last event of a member is legal, all barriers of its region are released
+pub last_rested : (p : Program) (events : List (ℕ × Event)) (s : State) → Reached p events s → (i : ℕ) (e : Event)
+    (k : Tid) (t : Task) → IsLast e → Legal p s i e → IsCurrent s i k t
+    → (r : Region) × (region_of s t.region ≡ Some r) × (r.released ≡ barriers_of p r.function + 1)
+last_rested p events s reached i e k t last legal is =
     let at = encounter s i in
     let taken : take_item p at e t.list ≡ Some (legal.item, legal.behind) =
-    ap (take_item p at e) (sym (list_of_current s i k t is)) ∙ legal.taken in
+    sym (passes_front p at e t.frees t.list (last_other e last))
+    ∙ (ap (take_item p at e) (sym (ahead_of_current s i k t is)) ∙ legal.taken) in
     let fit = take_fits p at e t.list legal.item legal.behind taken in
     let h : Closes (MayClose t.implicit) (legal.item ∷ legal.behind) =
     take_closes (MayClose t.implicit) p at e t.list legal.item legal.behind taken
@@ -357,21 +376,18 @@ regions_end p events more s u reached i e k t last legal is leads n v live ex re
     let stood : slice_index r.arrivals t.number ≡ r.released =
     subst (λ ph. Stands ph t.number (slice_index r.arrivals t.number) r.released) outside member.stands in
     let sum = member.barriers in
-    let on = stays_leads p s more u leads in
-    let (t', live', same) = on.implicit k t is.live im in
-    let (r', found', same_region) = on.regions t.region r found in
+    let all_released : r.released ≡ barriers_of p r.function + 1 = omega arith in
+    (r, found, all_released)
+
+pub regions_end : (p : Program) (events more : List (ℕ × Event)) (s u : State) → Reached p events s
+    → (i : ℕ) (e : Event) (k : Tid) (t : Task) → IsLast e → Legal p s i e → IsCurrent s i k t
+    → Leads p s more u
+    → (n : Tid) (v : Task) → task_of u n ≡ Some v → v.implicit ≡ false → v.region ≡ t.region → v.progress ≡ Finished
+regions_end p events more s u reached i e k t last legal is leads n v live ex region =
+    let (r, found, stood) = last_rested p events s reached i e k t last legal is in
     let reached_u : Reached p (events ++ more) u = leads_append p (opening p) events s more u reached leads in
-    let (q, found_q, member') =
-    ((placed p (events ++ more) u reached_u).places k t' live').0 (same.implicit ∙ im) in
-    let one : q ≡ r' = some_same found_q (ap (region_of u) same.region ∙ found') in
-    let most =
-    (near member'.phase t'.number (slice_index q.arrivals t'.number) q.released member'.stands).0 in
-    let sum' = member'.barriers in
-    let released : q.released ≡ r'.released = ap (λ (x : Region). x.released) one in
-    let function : barriers_of p q.function ≡ barriers_of p r'.function =
-    ap (λ (x : Region). barriers_of p x.function) one in
-    let function' : barriers_of p r'.function ≡ barriers_of p r.function =
-    ap (barriers_of p) same_region.function in
-    let rise : r.released ≤ r'.released = same_region.released in
-    let rested : r'.released ≡ barriers_of p r'.function + 1 = omega arith in
-    rests p (events ++ more) u reached_u n v live ex r' (ap (region_of u) region ∙ found') rested
+    let (q, found_q) = ((names_live p (events ++ more) u reached_u).tasks n v live).region in
+    let same = (stays_leads p s more u leads).alike_regions t.region r q found (ap (region_of u) (sym region) ∙ found_q) in
+    let function : barriers_of p q.function ≡ barriers_of p r.function = ap (barriers_of p) same.function in
+    let rested : barriers_of p q.function + 1 ≤ q.released = omega (arith, function, same.released, stood) in
+    rests p (events ++ more) u reached_u n v live ex q found_q rested

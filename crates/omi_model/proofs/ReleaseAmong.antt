@@ -21,9 +21,11 @@ use Rattle.omi_model.specs.Rules.{Legal, Rule}
 use Rattle.omi_model.specs.State.{State, region_of, task_of}
 use Rattle.omi_model.proofs.BarrierLaw.{near, placed}
 use Rattle.omi_model.proofs.BarrierSteps.{Changes, region_changed}
+use Rattle.omi_model.proofs.NamesKept.{made_later, made_live, names_kept}
 use Rattle.omi_model.proofs.NamesLive.{names_live}
 use Rattle.omi_model.proofs.Slots.{same_or_not, some_same}
-use Rattle.omi_model.proofs.StaysKept.{stays_leads}
+use Rattle.omi_model.proofs.StaysKept.{needed_region, stays_step}
+use Rattle.omi_model.proofs.StaysLater.{leads_kept, stays_leads}
 use Rattle.omi_model.proofs.Steps.{move_of}
 
 pub arrivals_near : (p : Program) (events : List (ℕ × Event)) (s : State) → Reached p events s
@@ -42,7 +44,7 @@ pub undeferred : (p : Program) (events : List (ℕ × Event)) (s : State) → Re
     → (k : Tid) (t : Task) → task_of s k ≡ Some t → t.implicit ≡ true → t.progress ≡ Deferred → ⊥
 undeferred p events s reached k t live im is =
     let (r, found, at) = (placed p events s reached).members.tasks k t live im in
-    let m = ((names_live p events s reached).regions t.region r found).team t.number (k, t.thread) at in
+    let m = ((names_live p events s reached).regions t.region r found).members t.number (k, t.thread) at t live in
     let one : m.task ≡ t = some_same m.live live in
     m.undeferred (ap (λ (x : Task). x.progress) one ∙ is)
 
@@ -93,7 +95,10 @@ module _ (p : Program) (n : Rid) where
       let none : q.released ≡ r.released = ap (λ (x : Region). x.released) one in absurd (omega arith)
   release_between s (x ∷ xs) u r q (mid, step, leads) found found_q more =
       let m = move_of p s x.0 x.1 mid step in
-      let (w, found_w, change) = region_changed p s x.0 x.1 mid m n r found in
+      let kept = (names_kept p s x.0 x.1 mid step).0 in
+      let made = made_later s.regions mid.regions kept n.0 (made_live s.regions n.0 r found) in
+      let (w, found_w) = (leads_kept p mid xs u leads).0.back n.0 q made found_q in
+      let change = region_changed p s x.0 x.1 mid m n r w found found_w in
       go w (raises s x.0 x.1 mid step m.item m.rule r w change found xs)
       (λ less. release_between mid xs u w q leads found_w found_q less)
     where
@@ -111,8 +116,10 @@ pass_follows p first more s next u i k t v reached is step leads is_later legal 
     let im : t.implicit ≡ true = ap (λ (x : Task). x.implicit) (sym one) ∙ im0 in
     let found : region_of s t.region ≡ Some r0 = ap (λ (x : Task). region_of s x.region) (sym one) ∙ found0 in
     let above = (arrivals_near p first s reached k t r0 is.live im found).0 in
-    let (q, found_q, change) =
-    region_changed p s i event.Arrive next (move_of p s i event.Arrive next step) t.region r0 found in
+    let (q, found_q, before) =
+    (stays_step p s i event.Arrive next step).regions t.region r0 found (needed_region s k t is.live r0) in
+    let change =
+    region_changed p s i event.Arrive next (move_of p s i event.Arrive next step) t.region r0 q found found_q in
     let touched = change k t is in
     let arrived : slice_index q.arrivals t.number ≡ slice_index r0.arrivals t.number + 1 =
     ap (λ xs. slice_index xs t.number) (touched.0 refl)
@@ -121,15 +128,14 @@ pass_follows p first more s next u i k t v reached is step leads is_later legal 
     let same = on.alike k t v is.live is_later.live in
     let region : v.region ≡ t.region = same.region in
     let number : v.number ≡ t.number = same.number (undeferred p first s reached k t is.live im) in
-    let (w, found_w, same_w) = (stays_leads p next more u leads).regions t.region q found_q in
-    let (k1, v1, r1, is1, found1, may) = legal.rule in
+    let (k1, v1, w, is1, found1, may) = legal.rule in
     let one_passing : v1 ≡ v =
     some_same is1.live (ap (task_of u) (some_same is1.name is_later.name) ∙ is_later.live) in
-    let one_region : r1 ≡ w =
-    some_same found1 (ap (region_of u) (ap (λ (x : Task). x.region) one_passing ∙ region) ∙ found_w) in
+    let found_w : region_of u t.region ≡ Some w =
+    ap (region_of u) (sym (ap (λ (x : Task). x.region) one_passing ∙ region)) ∙ found1 in
+    let same_w = (stays_leads p next more u leads).alike_regions t.region q w found_q found_w in
     let may_here : slice_index w.arrivals t.number ≤ w.released =
-    subst (λ j. slice_index w.arrivals j ≤ w.released) (ap (λ (x : Task). x.number) one_passing ∙ number)
-    (subst (λ (x : Region). slice_index x.arrivals v1.number ≤ x.released) one_region may) in
+    subst (λ j. slice_index w.arrivals j ≤ w.released) (ap (λ (x : Task). x.number) one_passing ∙ number) may in
     let kept : slice_index q.arrivals t.number ≤ slice_index w.arrivals t.number = same_w.arrivals t.number in
     let released : q.released ≡ r0.released = touched.2 in
     release_between p t.region next more u q w leads found_q found_w (omega arith)

@@ -14,6 +14,7 @@ use Rattle.omi_model.specs.Lists.{may_drop}
 use Rattle.omi_model.specs.Rows.{barrier_items, body_items, call_items, end_of_member, first_item, items_behind, last_of_member, main_items, member_items, task_items, shown, work_state, working}
 use Rattle.omi_model.proofs.EachObject.{start_list}
 use Rattle.omi_model.proofs.Slots.{false_true}
+use Rattle.omi_model.specs.declared.id.Tid.{Tid}
 
 -- the items that are not of a fork, a wait, a barrier or a lock, and that do not close a list
 abbrev pub is_plain : Item → Bool
@@ -30,6 +31,7 @@ is_plain item.Join = false
 is_plain item.ImplicitEnd = false
 is_plain item.Finish = false
 is_plain item.Done = false
+is_plain (item.Frees n) = false
 is_plain x = true
 
 -- the law is kept where one of them is put in front
@@ -169,8 +171,10 @@ last_keeps P join end n = go (n == 0)
 pub drop_keeps : (P : List Item → Type 0) → ((xs : List Item) → P (item.Asks ∷ xs) → P xs)
     → ((state : ℕ) (xs : List Item) → P (item.Tasks state ∷ xs) → P xs)
     → ((xs : List Item) → P (item.OneTask ∷ xs) → P xs)
+    → ((n : Tid) (xs : List Item) → P (item.Frees n ∷ xs) → P xs)
     → (x : Item) (xs : List Item) → may_drop x ≡ true → P (x ∷ xs) → P xs
-drop_keeps P asks tasks one item.Asks xs may h = asks xs h
-drop_keeps P asks tasks one (item.Tasks state) xs may h = tasks state xs h
-drop_keeps P asks tasks one item.OneTask xs may h = one xs h
-drop_keeps P asks tasks one x xs may h = absurd (false_true may)
+drop_keeps P asks tasks one frees item.Asks xs may h = asks xs h
+drop_keeps P asks tasks one frees (item.Tasks state) xs may h = tasks state xs h
+drop_keeps P asks tasks one frees item.OneTask xs may h = one xs h
+drop_keeps P asks tasks one frees (item.Frees n) xs may h = frees n xs h
+drop_keeps P asks tasks one frees x xs may h = absurd (false_true may)

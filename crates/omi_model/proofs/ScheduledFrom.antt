@@ -1,8 +1,9 @@
--- The scheduling task of a task: its generating task, or an implicit task that lives.
+-- The scheduling task of a task: its generating task, or, of an explicit task, a live implicit one of its region.
 use Rattle.std.proofs.Common.{◌≡◌, ◌==◌, ◌⊎◌, inl, inr, ℕ, Bool, true, false, List, [], Option, Some, None, if◌then◌else◌, refl, sym, ap, ◌∙◌, subst}
 use Rattle.omi_script.specs.declared.program.Program.{Program}
 use Rattle.omi_model.specs.declared.event.Event.{Event}
 use Rattle.omi_model.specs.declared.event.Event.TheVariants as event
+use Rattle.omi_model.specs.declared.id.Rid.{Rid}
 use Rattle.omi_model.specs.declared.id.Tid.{Tid}
 use Rattle.omi_model.specs.declared.item.Item.{Item}
 use Rattle.omi_model.specs.declared.item.Item.TheVariants as item
@@ -15,14 +16,15 @@ use Rattle.omi_model.specs.Opening.{opening}
 use Rattle.omi_model.specs.Reached.{Reached, Step}
 use Rattle.omi_model.specs.State.{State, task_of}
 use Rattle.omi_model.specs.Tasking.{MayStartAt}
-use Rattle.omi_model.proofs.EachObject.{EachTask, IsTaskLaw, list_of_current, task_step_from}
-use Rattle.omi_model.proofs.ListLaws.{take_fits}
+use Rattle.omi_model.proofs.ChainsKept.{current_begun}
+use Rattle.omi_model.proofs.EachObject.{EachTask, IsTaskLaw, ahead_of_current, task_step_from}
+use Rattle.omi_model.proofs.ListLaws.{take_fits, taken_plain}
 use Rattle.omi_model.proofs.OpeningObjects.{each_first_task}
 use Rattle.omi_model.proofs.ReachedStates.{over_reached}
 use Rattle.omi_model.proofs.Scheduling.{at_item}
 use Rattle.omi_model.proofs.Slots.{false_true, none_some, some_same}
-use Rattle.omi_model.proofs.StaysKept.{stays_step}
-use Rattle.omi_model.proofs.Steps.{IsMove, IsRelisted, is_relisted, move_of, moved_on, relisted}
+use Rattle.omi_model.proofs.StaysKept.{needed_begun, stays_step}
+use Rattle.omi_model.proofs.Steps.{IsMove, IsRelisted, is_relisted, move_of, moved_on, relisted_to}
 
 -- the wait at which a task starts is taken by a start
 starts_only : (e : Event) (state : ℕ) → fits e (item.Tasks state) ≡ true
@@ -30,18 +32,17 @@ starts_only : (e : Event) (state : ℕ) → fits e (item.Tasks state) ≡ true
 starts_only (event.Start task) state fit = (task, refl)
 starts_only e state fit = absurd (false_true fit)
 
--- a live implicit task
-abbrev pub IsLiveImplicit : State → Tid → Type 0
-IsLiveImplicit s k = (v : Task) × (task_of s k ≡ Some v) × (v.implicit ≡ true)
+-- a live implicit task of a region
+abbrev pub IsLiveImplicit : State → Tid → Rid → Type 0
+IsLiveImplicit s k region = (v : Task) × (task_of s k ≡ Some v) × (v.implicit ≡ true) × (v.region ≡ region)
 
 abbrev pub IsScheduledFrom : State → Tid → Task → Type 0
-IsScheduledFrom s k t =
-    (n : Tid) → t.scheduling ≡ Some n → (t.generating ≡ Some n) ⊎ IsLiveImplicit s n
+IsScheduledFrom s k t = (n : Tid) → t.scheduling ≡ Some n
+    → (t.generating ≡ Some n) ⊎ ((t.implicit ≡ false) × IsLiveImplicit s n t.region)
 
 -- a task was made by this one, or is of the region of this live implicit one
 abbrev pub IsStartedUnder : State → Tid → Task → Type 0
-IsStartedUnder s j u =
-    (u.generating ≡ Some j) ⊎ ((v : Task) × (task_of s j ≡ Some v) × (v.implicit ≡ true) × (v.region ≡ u.region))
+IsStartedUnder s j u = (u.generating ≡ Some j) ⊎ IsLiveImplicit s j u.region
 
 module _ (p : Program) (events : List (ℕ × Event)) (s : State) (reached : Reached p events s) (i : ℕ)
     (e : Event) (next : State) (step : Step p s i e next) (m : IsMove p s i e next) where
@@ -56,7 +57,7 @@ module _ (p : Program) (events : List (ℕ × Event)) (s : State) (reached : Rea
 
   -- the current task, in the state before
   pub was : (k : Tid) (t : Task) → IsCurrent middle i k t
-      → (v : Task) × (xs : List Item) × IsCurrent s i k v × (t ≡ relisted xs v)
+      → (v : Task) × (xs : Option Tid × List Item) × IsCurrent s i k v × (t ≡ relisted_to xs v)
   was k t is =
       let (v, xs, live, same) = before.tasks k t is.live in
       let current : IsCurrent s i k v = record { name = sym (before.currents i) ∙ is.name; live = live } in (v, xs, current, same)
@@ -66,8 +67,9 @@ module _ (p : Program) (events : List (ℕ × Event)) (s : State) (reached : Rea
       → (u.generating ≡ Some k) ⊎ (IsInBarrier t × (u.region ≡ t.region))
   under (item.Tasks state) of k t is u may =
       let taken : take_item p (encounter s i) e t.list ≡ Some (item.Tasks state, m.behind) =
-      ap (take_item p (encounter s i) e) (sym (list_of_current s i k t is))
-      ∙ (m.taken ∙ ap (λ (y : Item). Some (y, m.behind)) of) in
+      taken_plain p (encounter s i) e t.frees t.list (item.Tasks state) m.behind refl
+      (ap (take_item p (encounter s i) e) (sym (ahead_of_current s i k t is))
+      ∙ (m.taken ∙ ap (λ (y : Item). Some (y, m.behind)) of)) in
       let (task, starts) =
       starts_only e state (take_fits p (encounter s i) e t.list (item.Tasks state) m.behind taken) in
       at_item p events s reached (item.Tasks state) m.behind k t u i task
@@ -75,7 +77,7 @@ module _ (p : Program) (events : List (ℕ × Event)) (s : State) (reached : Rea
   under item.OneTask of k t is u may = inl may
   under x of k t is u may = absurd may
 
-  may_before : (x : Item) (j : Tid) (t v u : Task) (xs : List Item) → t ≡ relisted xs v → MayStartAt x j t u
+  may_before : (x : Item) (j : Tid) (t v u : Task) (xs : Option Tid × List Item) → t ≡ relisted_to xs v → MayStartAt x j t u
       → MayStartAt x j v u
   may_before (item.Tasks state) j t v u xs same may =
       subst (λ (y : Task). MayStartAt (item.Tasks state) j y u) same may
@@ -93,43 +95,48 @@ module _ (p : Program) (events : List (ℕ × Event)) (s : State) (reached : Rea
           → IsStartedUnder next j u
       go v current (inl by) = inl by
       go v current (inr (barrier, region)) =
-          let (w, found, kept) = stay.tasks j v current.live (inl barrier.implicit) in
+          let (w, found, kept) = stay.tasks j v current.live (needed_begun s j v (current_begun p events s reached i j v current.name current.live).0) in
           inr (w, found, kept.implicit ∙ barrier.implicit, kept.region ∙ sym region)
 
-  from_current : (j : Tid) (u : Task) → IsStartedUnder next j u → (n : Tid) → ◌≡◌ {A = Option Tid} (Some j) (Some n) → (u.generating ≡ Some n) ⊎ IsLiveImplicit next n
-  from_current j u (inl by) n is = inl (by ∙ is)
-  from_current j u (inr (v, found, im, region)) n is =
-      inr (v, ap (task_of next) (sym (some_same refl is)) ∙ found, im)
+  from_current : (j : Tid) (u : Task) → u.implicit ≡ false → IsStartedUnder next j u → (n : Tid)
+      → ◌≡◌ {A = Option Tid} (Some j) (Some n)
+      → (u.generating ≡ Some n) ⊎ ((u.implicit ≡ false) × IsLiveImplicit next n u.region)
+  from_current j u ex (inl by) n is = inl (by ∙ is)
+  from_current j u ex (inr (v, found, im, region)) n is =
+      inr (ex, (v, ap (task_of next) (sym (some_same refl is)) ∙ found, im, region))
 
   from_law : EachTask (IsScheduledFrom next) middle
       → IsTaskLaw p middle i e m.item next (IsScheduledFrom next)
   from_law all = record {
+    frees = λ k t free how q. q;
     shows = λ k t x q. q;
     tools = λ k t x q. q;
     sets = λ k t icv value v f at_set q. q;
     begins = λ k t waits mine by q. q;
     finishes = λ k t is over q. q;
-    starts = λ k u j t x is live ex de may of by q. from_current j u (starts_under x of j t is u may);
-    members = λ region team f k t r is found may new of by j n at. of_first (j == 0) k;
+    starts = λ k u j t x is live ex de may of by q. from_current j u ex (starts_under x of j t is u may);
+    members = λ region team f k t r is found may new of by j n at. of_first region (j == 0) k;
     deferred = λ task f final seen k t is of fresh n from. absurd (none_some refl from);
     made = λ task f final k t is of fresh by n from. inl from;
   }
     where
-      of_first : (b : Bool) (k n : Tid) → (if b then Some k else None) ≡ Some n
-          → (◌≡◌ {A = Option Tid} (Some k) (Some n)) ⊎ IsLiveImplicit next n
-      of_first true k n from = inl from
-      of_first false k n from = absurd (none_some refl from)
+      of_first : (region : Rid) (b : Bool) (k n : Tid) → (if b then Some k else None) ≡ Some n
+          → (◌≡◌ {A = Option Tid} (Some k) (Some n)) ⊎ ((true ≡ false) × IsLiveImplicit next n region)
+      of_first region true k n from = inl from
+      of_first region false k n from = absurd (none_some refl from)
 
   from_step : EachTask (IsScheduledFrom s) s → EachTask (IsScheduledFrom next) next
   from_step all =
       task_step_from p (IsScheduledFrom next) (IsScheduledFrom next) s i e next m (λ k t is taken q. q)
-      (λ k t ne live q. q) from_law (λ k t live n is. later t n (all k t live n is))
+      (λ k t ne live q. q) from_law (λ k t live n is. later k t live n (all k t live n is))
     where
-      later : (t : Task) (n : Tid) → (t.generating ≡ Some n) ⊎ IsLiveImplicit s n
-          → (t.generating ≡ Some n) ⊎ IsLiveImplicit next n
-      later t n (inl by) = inl by
-      later t n (inr (v, found, im)) =
-          let (w, found_w, same) = stay.tasks n v found (inl im) in inr (w, found_w, same.implicit ∙ im)
+      later : (k : Tid) (t : Task) → task_of s k ≡ Some t → (n : Tid)
+          → (t.generating ≡ Some n) ⊎ ((t.implicit ≡ false) × IsLiveImplicit s n t.region)
+          → (t.generating ≡ Some n) ⊎ ((t.implicit ≡ false) × IsLiveImplicit next n t.region)
+      later k t live n (inl by) = inl by
+      later k t live n (inr (ex, (v, found, im, region))) =
+          let (w, found_w, same) = stay.tasks n v found (inl (im, inr (inl (k, t, live, ex, sym region)))) in
+          inr (ex, (w, found_w, same.implicit ∙ im, same.region ∙ region))
 
 pub scheduled_from : (p : Program) (events : List (ℕ × Event)) (s : State) → Reached p events s
     → EachTask (IsScheduledFrom s) s

@@ -13,7 +13,7 @@ use Rattle.omi_model.specs.declared.task.Task.{Task}
 use Rattle.omi_model.specs.Changes.{IsCurrent, encounter}
 use Rattle.omi_model.specs.LawScheduling.{IsInBarrier, passes_next}
 use Rattle.omi_model.specs.LawStays.{Stays}
-use Rattle.omi_model.specs.Lists.{fits, may_drop, opened, take_item}
+use Rattle.omi_model.specs.Lists.{fits, may_drop, opened, take_item, stays}
 use Rattle.omi_model.specs.Rows.{first_of}
 use Rattle.omi_numbers.specs.declared.states.TheConstants.{WAIT_TASKWAIT}
 use Rattle.omi_model.specs.Opening.{opening}
@@ -23,11 +23,12 @@ use Rattle.omi_model.specs.State.{State, task_of}
 use Rattle.omi_model.specs.Tasking.{MayStartAt}
 use Rattle.omi_model.proofs.BarrierLaw.{placed}
 use Rattle.omi_model.proofs.BarrierOrder.{Outside, order, wrong}
-use Rattle.omi_model.proofs.EachObject.{EachTask, IsTaskLaw, list_of_current, over_events, task_step}
+use Rattle.omi_model.proofs.EachObject.{EachTask, IsTaskLaw, ahead_of_current, over_events, task_step}
 use Rattle.omi_model.proofs.OpeningObjects.{each_first_task}
 use Rattle.omi_model.proofs.Slots.{false_true, none_some, some_same}
 use Rattle.omi_model.proofs.Steps.{IsRelisted}
 use Rattle.omi_model.proofs.WaitLists.{Waits, main_waits, member_waits, start_waits, stays_waits, take_waits, task_waits}
+use Rattle.omi_model.proofs.ListLaws.{by_taken, passes_front}
 
 abbrev TaskWaits : Tid → Task → Type 0
 TaskWaits k t = Waits t.list
@@ -35,11 +36,14 @@ TaskWaits k t = Waits t.list
 waits_step : (p : Program) (s : State) (i : ℕ) (e : Event) (next : State) → Step p s i e next
     → EachTask TaskWaits s → EachTask TaskWaits next
 waits_step p s i e next step all = task_step p TaskWaits s i e next step
-    (λ k t y ys is taken h. stays_waits (encounter s i) e y ys (take_waits p (encounter s i) e t.list y ys taken h)) law all
+    (λ k t y ys is taken h.
+    by_taken p (encounter s i) e t.frees t.list y ys (λ f z zs. Waits (stays (encounter s i) f z zs)) taken
+    (λ from. stays_waits (encounter s i) e y ys (take_waits p (encounter s i) e t.list y ys from h)) (λ task n. h)) law all
   where
     law : (middle : State) (y : Item) → IsRelisted s middle → Stays middle next → EachTask TaskWaits middle
         → IsTaskLaw p middle i e y next TaskWaits
     law middle y before later of_tasks = record {
+      frees = λ k t free how q. q;
       shows = λ k t x q. q;
       tools = λ k t x q. q;
       sets = λ k t icv value v f at_set q. q;
@@ -95,6 +99,7 @@ module _ (p : Program) (at : Encounter) (task : Tid) (state : ℕ) (ys : List It
   drop_passes item.Asks xs may h = h
   drop_passes (item.Tasks w) xs may h = h
   drop_passes item.OneTask xs may h = h
+  drop_passes (item.Frees n) xs may h = h
   drop_passes x xs may h = absurd (false_true may)
 
   passes_back : (xs : List Item) → take_item p at (event.Start task) xs ≡ Some (item.Tasks state, ys)
@@ -163,7 +168,8 @@ module _ (p : Program) (events : List (ℕ × Event)) (s : State) (reached : Rea
       subst (λ (a : Tid). MayStartAt legal.item a t u) one_name
       (subst (λ (x : Task). MayStartAt legal.item k0 x u) one (subst (MayStartAt legal.item k0 t0) new may.allowed)) in
       at_item legal.item legal.behind k t u i task
-      (ap (take_item p (encounter s i) (event.Start task)) (sym (list_of_current s i k t is)) ∙ legal.taken) is.live allowed
+      (sym (passes_front p (encounter s i) (event.Start task) t.frees t.list refl)
+      ∙ (ap (take_item p (encounter s i) (event.Start task)) (sym (ahead_of_current s i k t is)) ∙ legal.taken)) is.live allowed
 
 pub starts_are_constrained : (p : Program) (events : List (ℕ × Event)) (s : State) → Reached p events s
     → (i : ℕ) (task k : Tid) (t u : Task) → Legal p s i (event.Start task) → IsCurrent s i k t

@@ -59,14 +59,16 @@ module _ (p : Program) (events : List (ℕ × Event)) (s : State) (reached : Rea
   ends_later k t live (m, e) =
       (m, chain_stays m t.scheduling (names.tasks k t live).scheduling (λ n w is found. needed_scheduling p events s reached k t live n w is found) ∙ e)
 
-rightly_later : (s u : State) → Stays s u → (t : Task) → IsScheduledRightly s t → IsScheduledRightly u t
-rightly_later s u stay t h ex un = go (h ex un)
+rightly_later : (s u : State) → Stays s u → (k : Tid) (t : Task) → task_of s k ≡ Some t → IsScheduledRightly s t
+    → IsScheduledRightly u t
+rightly_later s u stay k t live h ex un = go (h ex un)
   where
     go : (t.scheduling ≡ t.generating) ⊎ ((k : Tid) × (v : Task) × (t.scheduling ≡ Some k) × (task_of s k ≡ Some v) × (v.implicit ≡ true) × (v.region ≡ t.region))
         → (t.scheduling ≡ t.generating) ⊎ ((k : Tid) × (v : Task) × (t.scheduling ≡ Some k) × (task_of u k ≡ Some v) × (v.implicit ≡ true) × (v.region ≡ t.region))
     go (inl e) = inl e
-    go (inr (k, v, is, found, im, region)) =
-        let (w, found_w, same) = stay.tasks k v found (inl im) in inr (k, w, is, found_w, same.implicit ∙ im, same.region ∙ region)
+    go (inr (n, v, is, found, im, region)) =
+        let (w, found_w, same) = stay.tasks n v found (inl (im, inr (inl (k, t, live, ex, sym region)))) in
+        inr (n, w, is, found_w, same.implicit ∙ im, same.region ∙ region)
 
 module _ (p : Program) (events : List (ℕ × Event)) (s : State) (reached : Reached p events s) (i : ℕ)
     (e : Event) (next : State) (step : Step p s i e next) (all : EachTask (λ k u. IsScheduled s u) s) where
@@ -100,6 +102,7 @@ module _ (p : Program) (events : List (ℕ × Event)) (s : State) (reached : Rea
   law : EachTask (λ k u. IsScheduled next u) middle
       → IsTaskLaw p middle i e m.item next (λ k u. IsScheduled next u)
   law of_tasks = record {
+    frees = λ k t free how q. record { rightly = q.rightly; ends = q.ends };
     shows = λ k t x q. record { rightly = q.rightly; ends = q.ends };
     tools = λ k t x q. record { rightly = q.rightly; ends = q.ends };
     sets = λ k t icv value v f at_set q. record { rightly = q.rightly; ends = q.ends };
@@ -134,7 +137,7 @@ module _ (p : Program) (events : List (ℕ × Event)) (s : State) (reached : Rea
       task_step_from p (λ k u. IsScheduled next u) (λ k u. IsScheduled next u) s i e next m
       (λ k t is taken q. record { rightly = q.rightly; ends = q.ends }) (λ k t ne live q. q) law
       (λ k t live. record {
-        rightly = rightly_later s next stay t (all k t live).rightly;
+        rightly = rightly_later s next stay k t live (all k t live).rightly;
         ends = ends_later p events s reached next stay k t live (all k t live).ends;
       })
 

@@ -4,7 +4,7 @@ use Rattle.std.specs.Option.{option_map}
 use Rattle.std.proofs.lemmas.Bool.{cases_eq}
 use Rattle.omi_model.specs.declared.id.Id.{Id}
 use Rattle.omi_model.specs.declared.slot.Slot.{Slot}
-use Rattle.omi_model.specs.Put.{Slots, put, found, named, changed, on, made}
+use Rattle.omi_model.specs.Put.{Slots, put, found, named, changed, emptied, gone, on, made}
 
 pub none_some : {A : Type 0} {o : Option A} {x : A} → o ≡ None → o ≡ Some x → ⊥
 none_some e f = cc
@@ -170,6 +170,91 @@ module _ {A : Type 0} (slots : Slots A) (k : Id) where
       go true = refl
       go false = refl
 
+-- ---- a slot that is emptied
+
+pub found_generation : {A : Type 0} (g : ℕ) (slot : Slot A) (x : A) → found g slot ≡ Some x
+    → slot.generations ≡ g + 1
+found_generation {A} g slot x e = go (slot.generations == g + 1) refl e
+  where
+    go : (b : Bool) → slot.generations == g + 1 ≡ b → (if b then slot.live else None) ≡ Some x
+        → slot.generations ≡ g + 1
+    go true is h = eqb-true slot.generations (g + 1) is
+    go false is h = absurd (none_some refl h)
+
+module _ {A : Type 0} (h : ℕ) (slot : Slot A) where
+  abbrev left : Bool → Slot A
+  left b = if b then record { generations = slot.generations; live = None } else slot
+
+  emptied_live : (x : A) → (emptied h slot).live ≡ Some x → slot.live ≡ Some x
+  emptied_live x e = go (slot.generations == h + 1) e
+    where
+      go : (b : Bool) → (left b).live ≡ Some x → slot.live ≡ Some x
+      go true f = absurd (none_some refl f)
+      go false f = f
+
+  emptied_generations : (emptied h slot).generations ≡ slot.generations
+  emptied_generations = go (slot.generations == h + 1)
+    where
+      go : (b : Bool) → (left b).generations ≡ slot.generations
+      go true = refl
+      go false = refl
+
+  -- what is found afterwards was there, and is not the object that is gone
+  emptied_found : (g : ℕ) (x : A) → found g (emptied h slot) ≡ Some x → (found g slot ≡ Some x) × (g ≢ h)
+  emptied_found g x e = go (slot.generations == h + 1) refl e
+    where
+      go : (b : Bool) → slot.generations == h + 1 ≡ b → found g (left b) ≡ Some x
+          → (found g slot ≡ Some x) × (g ≢ h)
+      go true is f = absurd (none_some refl (found_live g (left true) x f))
+      go false is f = (f, λ same. differ (found_generation g slot x f) same is)
+        where
+          differ : slot.generations ≡ g + 1 → g ≡ h → slot.generations == h + 1 ≡ false → ⊥
+          differ a b c = false_true (sym c ∙ eq-eqb slot.generations (h + 1) (a ∙ ap (λ n. n + 1) b))
+
+  -- another object stays
+  emptied_other : (g : ℕ) (x : A) → g ≢ h → found g slot ≡ Some x → found g (emptied h slot) ≡ Some x
+  emptied_other g x ne e = go (slot.generations == h + 1) refl
+    where
+      go : (b : Bool) → slot.generations == h + 1 ≡ b → found g (left b) ≡ Some x
+      go true is =
+          let a = found_generation g slot x e in
+          let b = eqb-true slot.generations (h + 1) is in absurd (ne (omega arith))
+      go false is = e
+
+module _ {A : Type 0} (slots : Slots A) (k : Id) where
+  abbrev old_slot : Slot A
+  old_slot = slots k.creator k.slot
+
+  pub gone_live : (c j : ℕ) (x : A) → (gone slots k c j).live ≡ Some x → (slots c j).live ≡ Some x
+  gone_live =
+      each_slot slots k (λ c j (slot : Slot A). (x : A) → slot.live ≡ Some x → (slots c j).live ≡ Some x)
+      (emptied k.generation old_slot) (emptied_live k.generation old_slot) (λ c j apart x e. e)
+
+  pub gone_generations : (c j : ℕ) → (gone slots k c j).generations ≡ (slots c j).generations
+  gone_generations =
+      each_slot slots k (λ c j (slot : Slot A). slot.generations ≡ (slots c j).generations)
+      (emptied k.generation old_slot) (emptied_generations k.generation old_slot) (λ c j apart. refl)
+
+  pub gone_was : (n : Id) (x : A) → named (gone slots k) n ≡ Some x → named slots n ≡ Some x
+  gone_was n x e =
+      each_slot slots k
+      (λ c j (slot : Slot A). found n.generation slot ≡ Some x → found n.generation (slots c j) ≡ Some x)
+      (emptied k.generation old_slot)
+      (λ f. (emptied_found k.generation old_slot n.generation x f).0) (λ c j apart f. f) n.creator n.slot e
+
+  pub gone_apart : (x : A) → named (gone slots k) k ≡ Some x → ⊥
+  gone_apart x e =
+      (emptied_found k.generation old_slot k.generation x
+      (sym (ap (found k.generation) (at_slot slots k (emptied k.generation old_slot))) ∙ e)).1 refl
+
+  pub gone_other : (n : Id) (x : A) → (n ≡ k → ⊥) → named slots n ≡ Some x → named (gone slots k) n ≡ Some x
+  gone_other n x ne e =
+      each_slot slots k
+      (λ c j (slot : Slot A). n.creator ≡ c → n.slot ≡ j → found n.generation (slots c j) ≡ Some x → found n.generation slot ≡ Some x)
+      (emptied k.generation old_slot)
+      (λ a b f. emptied_other k.generation old_slot n.generation x (λ same. ne (id_same n k a b same)) f)
+      (λ c j apart a b f. f) n.creator n.slot refl refl e
+
 -- ---- facts of each object by name
 
 abbrev pub Each : {A : Type 0} → (Id → A → Type 0) → Slots A → Type 0
@@ -232,3 +317,7 @@ later_on {A} R same slots k f here n x e = go (same_or_not n k)
 pub later_made : {A : Type 0} (R : A → A → Type 0) → ((x : A) → R x x) → (slots : Slots A) (k : Id) (new : A)
     → (slots k.creator k.slot).live ≡ None → Later R slots (made slots k new)
 later_made R same slots k new empty n x e = (x, made_stays slots k new n x empty e, same x)
+
+pub each_gone : {A : Type 0} (P : Id → A → Type 0) (slots : Slots A) (k : Id) → Each P slots
+    → Each P (gone slots k)
+each_gone P slots k all n x e = all n x (gone_was slots k n x e)

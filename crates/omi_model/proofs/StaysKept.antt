@@ -20,18 +20,19 @@ use Rattle.omi_model.specs.declared.task.Variables.{Variables}
 use Rattle.omi_model.specs.declared.thread.Thread.{Thread}
 use Rattle.omi_model.specs.Changes.{on_region, on_task, on_thread, with_list, encounter}
 use Rattle.omi_model.specs.Fresh.{AreDistinct, IsFresh}
-use Rattle.omi_model.specs.LawStays.{IsNeeded, IsSameRegion, IsSameTask, Stays, StaysOver, stage_of}
-use Rattle.omi_model.specs.Put.{Slots, made, put}
-use Rattle.omi_model.specs.Reached.{Leads, Reached, Step}
+use Rattle.omi_model.specs.LawStays.{IsTeamNeeded, IsNeeded, IsNeededRegion, IsSameRegion, IsSameTask, Stays, StaysOver, stage_of, is_free}
+use Rattle.omi_model.specs.Lists.{stays}
+use Rattle.omi_model.specs.Put.{Slots, gone, made, named, put}
+use Rattle.omi_model.specs.Reached.{Step}
 use Rattle.omi_model.specs.Rows.{working}
 use Rattle.omi_model.specs.Rules.{Rule, effect}
 use Rattle.omi_model.specs.Barriers.{arrived, released}
 use Rattle.omi_model.specs.Settings.{entered, left, with_tool}
 use Rattle.omi_model.specs.State.{State, region_of, task_of}
-use Rattle.omi_model.specs.Tasking.{deferred, finished, scheduled, started, started_alone, started_now}
+use Rattle.omi_model.specs.Tasking.{MayFree, deferred, finished, freed, freeing, scheduled, started, started_alone, started_now}
 use Rattle.omi_model.specs.Teams.{forked, joined, master_of, member_task, task_ended, with_members}
-use Rattle.omi_model.proofs.Slots.{Later, each_put, id_same, later_made, later_on, made_beside, made_stays, none_some, some_same}
-use Rattle.omi_model.proofs.Steps.{of_current, of_current_region, of_region, of_set, list_moves, relisted, step_law}
+use Rattle.omi_model.proofs.Slots.{Later, each_on, each_put, false_true, found_live, gone_other, gone_was, id_same, later_made, later_on, made_beside, made_stays, none_some, some_same}
+use Rattle.omi_model.proofs.Steps.{from_some, is_relisted, list_moves, move_of, moved_on, of_current, of_current_region, of_region, of_set, relisted, relisted_to}
 
 -- ---- one object
 
@@ -72,7 +73,7 @@ same_region_trans r q w a b = record {
 
 -- ---- states
 
--- Each live task of a state lives in the next one: no event that takes one away has a rule.
+-- Each live task of a state lives in the next one, as over every event but those that give a record back.
 record KeepsAll (s u : State) : Type 0 where
   tasks : (k : Tid) (t : Task) → task_of s k ≡ Some t
       → (v : Task) × (task_of u k ≡ Some v) × IsSameTask t v
@@ -87,11 +88,24 @@ alike_of s u h k t v live found =
     let (w, found_w, same) = h.tasks k t live in
     subst (IsSameTask t) (some_same found_w found) same
 
+alike_regions_of : (s u : State) → KeepsAll s u → (n : Rid) (r q : Region) → region_of s n ≡ Some r
+    → region_of u n ≡ Some q → IsSameRegion r q
+alike_regions_of s u h n r q live found =
+    let (w, found_w, same) = h.regions n r live in
+    subst (IsSameRegion r) (some_same found_w found) same
+
 stays_of : (s u : State) → KeepsAll s u → Stays s u
-stays_of s u h = record { tasks = λ k t live need. h.tasks k t live; alike = alike_of s u h; regions = h.regions; begun = h.begun; count = h.count }
+stays_of s u h = record {
+  tasks = λ k t live need. h.tasks k t live;
+  alike = alike_of s u h;
+  regions = λ n r live need. h.regions n r live;
+  alike_regions = alike_regions_of s u h;
+  begun = h.begun;
+  count = h.count;
+}
 
 over_of : (s u : State) → KeepsAll s u → StaysOver s u
-over_of s u h = record { implicit = λ k t live im. h.tasks k t live; alike = alike_of s u h; regions = h.regions; begun = h.begun; count = h.count }
+over_of s u h = record { alike = alike_of s u h; alike_regions = alike_regions_of s u h; begun = h.begun; count = h.count }
 
 keeps_same : (s : State) → KeepsAll s s
 keeps_same s = record { tasks = λ k t e. (t, e, same_task t); regions = λ n r e. (r, e, same_region r); begun = λ i h. h; count = refl }
@@ -201,9 +215,9 @@ stage_most NotBegun = omega arith
 stage_most Begun = omega arith
 stage_most Finished = omega arith
 
-other_task : (t : Task) (enter tool : ℕ) (v : Variables) (zs : List Item)
-    → IsSameTask t (record t { enter = enter; tool = tool; variables = v; list = zs })
-other_task t enter tool v zs = record { implicit = refl; region = refl; generating = refl; function = refl; is_final = refl; stage = omega arith; started = λ h. h; thread = λ h. refl; number = λ h. refl; scheduling = λ h. refl }
+other_task : (t : Task) (enter tool : ℕ) (v : Variables) (zs : List Item) (next : Option Tid)
+    → IsSameTask t (record t { enter = enter; tool = tool; variables = v; list = zs; frees = next })
+other_task t enter tool v zs next = record { implicit = refl; region = refl; generating = refl; function = refl; is_final = refl; stage = omega arith; started = λ h. h; thread = λ h. refl; number = λ h. refl; scheduling = λ h. refl }
 
 begun_task : (t : Task) → t.progress ≡ NotBegun → IsSameTask t (record t { progress = Begun })
 begun_task t is = record {
@@ -309,100 +323,101 @@ keeps_setting : (s : State) (k : Tid) (f : Task → Task) → ((t : Task) → Is
     → KeepsAll s (on_task s k f)
 keeps_setting s k f keeps = keeps_task s k f (λ t e. keeps t)
 
-keeps_effect : (p : Program) (s : State) (i : ℕ) (e : Event) (y : Item) → Rule s i e y
+-- another task may be given back next
+keeps_freeing : (s : State) (next k : Option Tid)
+    → KeepsAll s (record s { tasks = freeing next k s.tasks })
+keeps_freeing s next None = keeps_same s
+keeps_freeing s next (Some k) =
+    keeps_setting s k (λ u. record u { frees = next }) (λ u. other_task u u.enter u.tool u.variables u.list next)
+
+keeps_effect : (p : Program) (s : State) (i : ℕ) (e : Event) (y : Item) → is_free e ≡ false → Rule s i e y
     → IfSome (effect p s i e y) (KeepsAll s)
-keeps_effect p s i event.Begin y rule = keeps_thread s i (λ h. record h { begun = true }) (λ h. refl)
-keeps_effect p s i event.Offer y rule = keeps_thread s i (λ h. record h { claim = claim.Free }) (λ h. h)
-keeps_effect p s i (event.Want n) y rule = keeps_thread s i (λ h. record h { wanted = n; asks = [] }) (λ h. h)
-keeps_effect p s i (event.Ask w true) y rule =
+keeps_effect p s i event.Begin y other rule = keeps_thread s i (λ h. record h { begun = true }) (λ h. refl)
+keeps_effect p s i event.Offer y other rule = keeps_thread s i (λ h. record h { claim = claim.Free }) (λ h. h)
+keeps_effect p s i (event.Want n) y other rule = keeps_thread s i (λ h. record h { wanted = n; asks = [] }) (λ h. h)
+keeps_effect p s i (event.Ask w true) y other rule =
     let listed : State = on_thread s i (λ h. record h { asks = h.asks ++ (w, true) ∷ [] }) in
     keeps_trans s listed (on_thread listed w (λ h. record h { claim = claim.By i }))
     (keeps_thread s i (λ h. record h { asks = h.asks ++ (w, true) ∷ [] }) (λ h. h))
     (keeps_thread listed w (λ h. record h { claim = claim.By i }) (λ h. h))
-keeps_effect p s i (event.Ask w false) y rule =
+keeps_effect p s i (event.Ask w false) y other rule =
     keeps_thread s i (λ h. record h { asks = h.asks ++ (w, false) ∷ [] }) (λ h. h)
-keeps_effect p s i (event.Fork region team) (item.Fork f) rule =
+keeps_effect p s i (event.Fork region team) (item.Fork f) other rule =
     of_region s i (forked p s i region team f) (KeepsAll s) _ rule
     (λ k t r is found may. keeps_current s _ i (master_of team) (keeps_forked s i region _ (member_task p region k t r f) team may.region_new (new_team s.tasks i team may.tasks_new may.distinct)))
-keeps_effect p s i (event.Fork region team) y rule = tt
-keeps_effect p s i (event.ImplicitBegin task) y rule =
+keeps_effect p s i (event.Fork region team) y other rule = tt
+keeps_effect p s i (event.ImplicitBegin task) y other rule =
     keeps_current s _ i (Some task)
     (keeps_task s task (λ t. record t { progress = Begun }) (λ t e. let same : rule.member ≡ t = some_same rule.live e in begun_task t (ap (λ (u : Task). u.progress) (sym same) ∙ rule.waiting)))
-keeps_effect p s i (event.State state wait) y rule =
+keeps_effect p s i (event.State state wait) y other rule =
     keeps_thread s i (λ h. record h { state = state; wait = wait }) (λ h. h)
-keeps_effect p s i event.Enter y rule =
+keeps_effect p s i event.Enter y other rule =
     of_current s i (entered s) (KeepsAll s) _ rule
-    (λ k t is h. keeps_setting s k (λ u. record u { enter = t.exit - 32 }) (λ u. other_task u _ u.tool u.variables u.list))
-keeps_effect p s i event.Leave y rule =
+    (λ k t is h. keeps_setting s k (λ u. record u { enter = t.exit - 32 }) (λ u. other_task u _ u.tool u.variables u.list u.frees))
+keeps_effect p s i event.Leave y other rule =
     of_current s i (left s) (KeepsAll s) _ rule
-    (λ k t is h. keeps_setting s k (λ u. record u { enter = 0 }) (λ u. other_task u _ u.tool u.variables u.list))
-keeps_effect p s i event.Arrive y rule =
+    (λ k t is h. keeps_setting s k (λ u. record u { enter = 0 }) (λ u. other_task u _ u.tool u.variables u.list u.frees))
+keeps_effect p s i event.Arrive y other rule =
     of_current_region s i (λ k t. arrived s t) (KeepsAll s) _ rule
     (λ k t r is found h. keeps_region s t.region (λ q. record q { arrivals = slice_set q.arrivals t.number (slice_index q.arrivals t.number + 1) }) (λ q e. arrived_region q t.number))
-keeps_effect p s i event.Release y rule =
+keeps_effect p s i event.Release y other rule =
     of_current_region s i (λ k t. released s t) (KeepsAll s) _ rule
     (λ k t r is found h. keeps_region s t.region (λ q. record q { released = q.released + 1 }) (λ q e. released_region q))
-keeps_effect p s i (event.ImplicitEnd task) y rule =
+keeps_effect p s i (event.ImplicitEnd task) y other rule =
     of_current_region s i (task_ended s i) (KeepsAll s) _ rule
     (λ k t r is found h. let first : State = on_task s k (λ u. record u { progress = Finished }) in
     keeps_current s _ i None (keeps_trans s first _ (keeps_setting s k (λ u. record u { progress = Finished }) finished_task) (keeps_region first t.region (λ q. record q { ended = slice_set q.ended t.number true }) (λ q e. ended_region q t.number))))
-keeps_effect p s i (event.Join region) y rule =
+keeps_effect p s i (event.Join region) y other rule =
     of_region s i (joined s i) (KeepsAll s) _ rule
     (λ k t r is found h. let first : State = on_task s k (λ u. record u { progress = Finished }) in
     keeps_current s _ i r.encountering (keeps_trans s first _ (keeps_setting s k (λ u. record u { progress = Finished }) finished_task) (keeps_region first t.region (λ q. record q { joined = true }) (λ q e. joined_region q))))
-keeps_effect p s i (event.FreeTask task) y rule = tt
-keeps_effect p s i (event.FreeRegion region) y rule = tt
-keeps_effect p s i (event.Defer task) (item.Defer seen f final) rule =
+keeps_effect p s i (event.FreeTask task) y other rule = absurd (false_true (sym other))
+keeps_effect p s i (event.FreeRegion region) y other rule = tt
+keeps_effect p s i (event.Defer task) (item.Defer seen f final) other rule =
     of_current s i (deferred p s task f final seen) (KeepsAll s) _ rule
     (λ k t is fresh. keeps_made s task _ i fresh)
-keeps_effect p s i (event.Defer task) y rule = tt
-keeps_effect p s i (event.StartNow task) (item.Defer seen f final) rule =
+keeps_effect p s i (event.Defer task) y other rule = tt
+keeps_effect p s i (event.StartNow task) (item.Defer seen f final) other rule =
     of_current s i (started_now p s i task f final) (KeepsAll s) _ rule
     (λ k t is fresh. keeps_current s _ i (Some task) (keeps_made s task _ i fresh))
-keeps_effect p s i (event.StartNow task) (item.StartNow f final) rule =
+keeps_effect p s i (event.StartNow task) (item.StartNow f final) other rule =
     of_current s i (started_now p s i task f final) (KeepsAll s) _ rule
     (λ k t is fresh. keeps_current s _ i (Some task) (keeps_made s task _ i fresh))
-keeps_effect p s i (event.StartNow task) y rule = tt
-keeps_effect p s i (event.Start task) (item.Tasks state) rule =
+keeps_effect p s i (event.StartNow task) y other rule = tt
+keeps_effect p s i (event.Start task) (item.Tasks state) other rule =
     of_current s i (started s i task) (KeepsAll s) _ rule
     (λ k t is may. keeps_current s _ i (Some task) (keeps_task s task (λ u. record (scheduled i k t u) { list = working (encounter s i) u.list }) (λ u e. let same : may.new ≡ u = some_same may.live e in started_task i k t u (working (encounter s i) u.list) (ap (λ (x : Task). x.progress) (sym same) ∙ may.deferred))))
-keeps_effect p s i (event.Start task) item.OneTask rule =
+keeps_effect p s i (event.Start task) item.OneTask other rule =
     of_current s i (started_alone s i task) (KeepsAll s) _ rule
     (λ k t is may. keeps_current s _ i (Some task) (keeps_task s task (scheduled i k t) (λ u e. let same : may.new ≡ u = some_same may.live e in started_task i k t u u.list (ap (λ (x : Task). x.progress) (sym same) ∙ may.deferred))))
-keeps_effect p s i (event.Start task) y rule = tt
-keeps_effect p s i (event.Finish task) y rule =
+keeps_effect p s i (event.Start task) y other rule = tt
+keeps_effect p s i (event.Finish task) y other rule =
     of_current s i (finished s i) (KeepsAll s) _ rule
-    (λ k t is h. keeps_current s _ i t.scheduling (keeps_setting s k (λ u. record u { progress = Finished }) finished_task))
-keeps_effect p s i (event.Set icv value) y rule =
+    (λ k t is h. let first : State = on_task s k (λ u. record u { progress = Finished }) in
+    keeps_current s _ i t.scheduling (keeps_trans s first _ (keeps_setting s k (λ u. record u { progress = Finished }) finished_task) (keeps_freeing first (Some k) t.scheduling)))
+keeps_effect p s i (event.Set icv value) y other rule =
     of_set s i icv value (KeepsAll s) rule (keeps_global s s.locks value)
-    (λ k t v is e. keeps_setting s k (λ u. record u { variables = v }) (λ u. other_task u u.enter u.tool v u.list))
-keeps_effect p s i (event.SetTool x) y rule =
+    (λ k t v is e. keeps_setting s k (λ u. record u { variables = v }) (λ u. other_task u u.enter u.tool v u.list u.frees))
+keeps_effect p s i (event.SetTool x) y other rule =
     of_current s i (λ k t. with_tool s x k) (KeepsAll s) _ rule
-    (λ k t is h. keeps_setting s k (λ u. record u { tool = x }) (λ u. other_task u u.enter x u.variables u.list))
-keeps_effect p s i (event.Lock k) y rule = keeps_global s (put s.locks k (Some i)) s.max_active
-keeps_effect p s i (event.Unlock k) y rule = keeps_global s (put s.locks k None) s.max_active
-keeps_effect p s i e y rule = keeps_same s
+    (λ k t is h. keeps_setting s k (λ u. record u { tool = x }) (λ u. other_task u u.enter x u.variables u.list u.frees))
+keeps_effect p s i (event.Lock k) y other rule = keeps_global s (put s.locks k (Some i)) s.max_active
+keeps_effect p s i (event.Unlock k) y other rule = keeps_global s (put s.locks k None) s.max_active
+keeps_effect p s i e y other rule = keeps_same s
 
 keeps_list : (s : State) (i : ℕ) (zs : List Item) → KeepsAll s (with_list s i zs)
 keeps_list s i zs =
     list_moves s i zs (KeepsAll s)
-    (λ k is. keeps_setting s k (relisted zs) (λ u. other_task u u.enter u.tool u.variables zs))
+    (λ k is. keeps_setting s k (relisted zs) (λ u. other_task u u.enter u.tool u.variables zs None))
     (λ none. keeps_thread s i (λ h. record h { list = zs }) (λ h. h))
-
-keeps_step : (p : Program) (s : State) (i : ℕ) (e : Event) (next : State) → Step p s i e next
-    → KeepsAll s next
-keeps_step p = step_law p KeepsAll keeps_trans keeps_list (keeps_effect p)
-
-keeps_leads : (p : Program) (s : State) (events : List (ℕ × Event)) (u : State) → Leads p s events u
-    → KeepsAll s u
-keeps_leads p s [] u same = subst (KeepsAll s) (sym same) (keeps_same s)
-keeps_leads p s (x ∷ xs) u (next, step, leads) =
-    keeps_trans s next u (keeps_step p s x.0 x.1 next step) (keeps_leads p next xs u leads)
 
 -- ---- what is used from here on
 
 pub stays_same : (s : State) → Stays s s
 stays_same s = stays_of s s (keeps_same s)
+
+pub over_same : (s : State) → StaysOver s s
+over_same s = over_of s s (keeps_same s)
 
 -- a list that moves on takes no task away
 pub list_keeps : (s : State) (i : ℕ) (zs : List Item) (k : Tid) (t : Task) → task_of s k ≡ Some t
@@ -412,36 +427,141 @@ list_keeps s i zs k t live = (keeps_list s i zs).tasks k t live
 pub stays_list : (s : State) (i : ℕ) (zs : List Item) → Stays s (with_list s i zs)
 stays_list s i zs = stays_of s (with_list s i zs) (keeps_list s i zs)
 
+-- a task that may be given back is not needed
+free_not_needed : (s : State) (task next : Tid) → MayFree s task next → (t : Task) → task_of s task ≡ Some t
+    → IsNeeded s task t → ⊥
+free_not_needed s task next may t live need = go need
+  where
+    old_is : may.old ≡ t
+    old_is = some_same may.live live
+
+    go : IsNeeded s task t → ⊥
+    go (inl (im, team)) = false_true (sym may.explicit ∙ (ap (λ (y : Task). y.implicit) old_is ∙ im))
+    go (inr (inl runs)) = runs (ap (λ (y : Task). y.progress) (sym old_is) ∙ may.over)
+    go (inr (inr (m, v, found, by))) =
+        may.childless m.0.creator m.0.slot v (found_live m.0.generation (s.tasks m.0.creator m.0.slot) v found) by
+
+-- where a task that is not needed is given back, every other one stays
+module _ (s : State) (task k : Tid) (free : (t : Task) → task_of s task ≡ Some t → IsNeeded s task t → ⊥)
+    (x : Option Tid) where
+  abbrev without : State
+  without = on_task (record s { tasks = gone s.tasks task.0 }) k (λ u. record u { frees = x })
+
+  freed_later : (n : Tid) (t : Task) → named (gone s.tasks task.0) n.0 ≡ Some t
+      → (v : Task) × (task_of without n ≡ Some v) × IsSameTask t v
+  freed_later n t live =
+      later_on IsSameTask same_task (gone s.tasks task.0) k.0 (λ u. record u { frees = x })
+      (λ u e. other_task u u.enter u.tool u.variables u.list x) n.0 t live
+
+  not_needed : (n : Tid) (t : Task) → task_of s n ≡ Some t → IsNeeded s n t → n.0 ≡ task.0 → ⊥
+  not_needed n t live need same =
+      let named_so : n ≡ task = ap (λ (a : Id). record { 0 = a }) same in
+      free t (ap (task_of s) (sym named_so) ∙ live) (subst (λ (a : Tid). IsNeeded s a t) named_so need)
+
+  freed_stays : Stays s without
+  freed_stays = record {
+    tasks = λ n t live need. freed_later n t (gone_other s.tasks task.0 n.0 t (not_needed n t live need) live);
+    alike = λ n t v live found.
+        let (u, was, same) = freed_from n v found in subst (λ (y : Task). IsSameTask y v) (some_same was live) same;
+    regions = λ n r e need. (r, e, same_region r);
+    alike_regions = λ n r q e found. subst (IsSameRegion r) (some_same e found) (same_region r);
+    begun = λ i h. h;
+    count = refl;
+  }
+    where
+      freed_from : (n : Tid) (v : Task) → task_of without n ≡ Some v
+          → (u : Task) × (task_of s n ≡ Some u) × IsSameTask u v
+      freed_from n v found =
+          each_on (λ m y. (u : Task) × (task_of s (record { 0 = m }) ≡ Some u) × IsSameTask u y)
+          (gone s.tasks task.0) k.0 (λ u. record u { frees = x })
+          (λ m y e. (y, gone_was s.tasks task.0 m y e, same_task y))
+          (λ y e (u, was, same). (u, was, same_task_trans u y _ same (other_task y y.enter y.tool y.variables y.list x)))
+          n.0 v found
+
 -- the effect of an event, and a whole event
 pub stays_effect : (p : Program) (s : State) (i : ℕ) (e : Event) (y : Item) → Rule s i e y
     → IfSome (effect p s i e y) (Stays s)
-stays_effect p s i e y rule = go (effect p s i e y) (keeps_effect p s i e y rule)
+stays_effect p s i e y rule = of_event e y rule
   where
     go : (o : Option State) → IfSome o (KeepsAll s) → IfSome o (Stays s)
     go None h = tt
     go (Some u) h = stays_of s u h
 
+    of_event : (e : Event) (y : Item) → Rule s i e y → IfSome (effect p s i e y) (Stays s)
+    of_event (event.FreeTask task) (item.Frees next) free =
+        of_current s i (freed s task) (Stays s) _ free (λ k t is may. freed_stays s task k (free_not_needed s task next may) _)
+    of_event (event.FreeTask task) y free = absurd free
+    of_event (event.FreeRegion region) y free = tt
+    of_event e y r = go (effect p s i e y) (keeps_effect p s i e y refl r)
+
+-- over a list that has moved on and the effect behind it
+stays_behind : (s m u : State) → KeepsAll s m → ((n : Rid) → region_of m n ≡ region_of s n)
+    → ((k : Tid) (t : Task) → task_of s k ≡ Some t → (v : Task) → task_of m k ≡ Some v → IsNeeded s k t → IsNeeded m k v)
+    → Stays m u → Stays s u
+stays_behind s m u a same_regions needs b = record {
+  tasks = λ k t live need.
+      let (v, found, first) = a.tasks k t live in
+      let (w, found_w, second) = b.tasks k v found (needs k t live v found need) in
+      (w, found_w, same_task_trans t v w first second);
+  alike = λ k t w live found.
+      let (v, found_v, first) = a.tasks k t live in
+      same_task_trans t v w first (b.alike k v w found_v found);
+  regions = λ n r e need. b.regions n r (same_regions n ∙ e) (still_needed n r need);
+  alike_regions = λ n r q e found. b.alike_regions n r q (same_regions n ∙ e) found;
+  begun = λ i h. b.begun i (a.begun i h);
+  count = b.count ∙ a.count;
+}
+  where
+    still_needed : (n : Rid) (r : Region) → IsNeededRegion s n r → IsNeededRegion m n r
+    still_needed n r (inl unjoined) = inl unjoined
+    still_needed n r (inr (inl (k, v, live, of))) =
+        let (w, found, same) = a.tasks k v live in inr (inl (k, w, found, same.region ∙ of))
+    still_needed n r (inr (inr (o, q, live, of))) = inr (inr (o, q, same_regions o ∙ live, of))
+
 pub stays_step : (p : Program) (s : State) (i : ℕ) (e : Event) (next : State) → Step p s i e next
     → Stays s next
-stays_step p s i e next step = stays_of s next (keeps_step p s i e next step)
+stays_step p s i e next step =
+    let m = move_of p s i e next step in
+    let zs : List Item = stays (encounter s i) e m.item m.behind in
+    let middle : State = moved_on s i e m.item m.behind in
+    stays_behind s middle next (keeps_list s i zs) (is_relisted s i zs).regions (still_needed zs)
+    (from_some (Stays middle) (effect p middle i e m.item) next m.effect_is (stays_effect p middle i e m.item m.rule_moved))
+  where
+    still_needed_team : (zs : List Item) (n : Rid) → IsTeamNeeded s n → IsTeamNeeded (with_list s i zs) n
+    still_needed_team zs n (inl (r, found, unjoined)) = inl (r, (is_relisted s i zs).regions n ∙ found, unjoined)
+    still_needed_team zs n (inr (inl (k, v, live, ex, of))) =
+        let (w, found, same) = (keeps_list s i zs).tasks k v live in
+        inr (inl (k, w, found, same.implicit ∙ ex, same.region ∙ of))
+    still_needed_team zs n (inr (inr (m, q, live, of))) = inr (inr (m, q, (is_relisted s i zs).regions m ∙ live, of))
 
--- No event that takes a task away has a rule, so each live task stays. What cites this has to change once one has.
-pub stays_whole : (p : Program) (s : State) (i : ℕ) (e : Event) (next : State) → Step p s i e next → (k : Tid)
-    (t : Task) → task_of s k ≡ Some t → (v : Task) × (task_of next k ≡ Some v) × IsSameTask t v
-stays_whole p s i e next step k t live = (keeps_step p s i e next step).tasks k t live
+    still_needed : (zs : List Item) (k : Tid) (t : Task) → task_of s k ≡ Some t → (v : Task)
+        → task_of (with_list s i zs) k ≡ Some v → IsNeeded s k t → IsNeeded (with_list s i zs) k v
+    still_needed zs k t live v found need =
+        let (u, xs, was, same) = (is_relisted s i zs).tasks k v found in
+        go u xs same (some_same live was) need
+      where
+        go : (u : Task) (xs : Option Tid × List Item) → v ≡ relisted_to xs u → t ≡ u → IsNeeded s k t
+            → IsNeeded (with_list s i zs) k v
+        go u xs same is (inl (im, team)) = inl (
+          ap (λ (y : Task). y.implicit) same ∙ (ap (λ (y : Task). y.implicit) (sym is) ∙ im),
+          subst (IsTeamNeeded (with_list s i zs)) (ap (λ (y : Task). y.region) is ∙ ap (λ (y : Task). y.region) (sym same))
+              (still_needed_team zs t.region team),
+        )
+        go u xs same is (inr (inl runs)) =
+            inr (inl (λ over. runs (ap (λ (y : Task). y.progress) is ∙ (ap (λ (y : Task). y.progress) (sym same) ∙ over))))
+        go u xs same is (inr (inr (n, w, child, by))) =
+            let (w', found_w, alike) = (keeps_list s i zs).tasks n w child in
+            inr (inr (n, w', found_w, alike.generating ∙ by))
 
--- and any events
-pub stays_leads : (p : Program) (s : State) (events : List (ℕ × Event)) (u : State) → Leads p s events u
-    → StaysOver s u
-stays_leads p s events u leads = over_of s u (keeps_leads p s events u leads)
-
-pub stay_over_an_event : (p : Program) (first : List (ℕ × Event)) (s : State) (i : ℕ) (e : Event) (next : State)
-    → Reached p first s → Step p s i e next → Stays s next
-stay_over_an_event p first s i e next reached step = stays_step p s i e next step
-
-pub stay : (p : Program) (first more : List (ℕ × Event)) (s u : State) → Reached p first s → Leads p s more u
-    → StaysOver s u
-stay p first more s u reached leads = stays_leads p s more u leads
+-- over an event that takes no task away, each live task stays
+pub stays_whole : (p : Program) (s : State) (i : ℕ) (e : Event) (next : State) → is_free e ≡ false → Step p s i e next
+    → (k : Tid) (t : Task) → task_of s k ≡ Some t → (v : Task) × (task_of next k ≡ Some v) × IsSameTask t v
+stays_whole p s i e next other step k t live =
+    let m = move_of p s i e next step in
+    let zs : List Item = stays (encounter s i) e m.item m.behind in
+    let middle : State = moved_on s i e m.item m.behind in
+    (keeps_trans s middle next (keeps_list s i zs)
+    (from_some (KeepsAll middle) (effect p middle i e m.item) next m.effect_is (keeps_effect p middle i e m.item other m.rule_moved))).tasks k t live
 
 -- ---- tasks that are needed
 
@@ -462,3 +582,20 @@ needed_waiting s k t waits = inr (inl (λ over. not_over t.progress waits over))
 pub needed_generating : (s : State) (k : Tid) (t : Task) → task_of s k ≡ Some t → (n : Tid) (v : Task)
     → t.generating ≡ Some n → IsNeeded s n v
 needed_generating s k t live n v by = inr (inr (k, t, live, by))
+
+-- an implicit task of a region that is not joined
+pub needed_member : (s : State) (k : Tid) (t : Task) → t.implicit ≡ true → (r : Region) → region_of s t.region ≡ Some r
+    → r.joined ≡ false → IsNeeded s k t
+needed_member s k t im r found unjoined = inl (im, inl (r, found, unjoined))
+
+-- ---- regions that are needed
+
+-- the region of a live task
+pub needed_region : (s : State) (k : Tid) (t : Task) → task_of s k ≡ Some t → (r : Region)
+    → IsNeededRegion s t.region r
+needed_region s k t live r = inr (inl (k, t, live, refl))
+
+-- the region that encloses a live one
+pub needed_enclosing : (s : State) (n o : Rid) (r q : Region) → region_of s n ≡ Some r → r.enclosing ≡ Some o
+    → IsNeededRegion s o q
+needed_enclosing s n o r q live is = inr (inr (n, r, live, is))

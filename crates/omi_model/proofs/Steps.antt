@@ -18,7 +18,7 @@ use Rattle.omi_model.specs.declared.task.Task.{Task}
 use Rattle.omi_model.specs.declared.task.Variables.{Variables}
 use Rattle.omi_model.specs.declared.thread.Thread.{Thread}
 use Rattle.omi_model.specs.Barriers.{AreFinished}
-use Rattle.omi_model.specs.Changes.{IsCurrent, OfCurrent, OfCurrentRegion, by_current, by_region, encounter, list_of, on_task, on_thread, with_list}
+use Rattle.omi_model.specs.Changes.{IsCurrent, OfCurrent, OfCurrentRegion, ahead_of, by_current, by_region, encounter, on_task, on_thread, with_list}
 use Rattle.omi_model.specs.Fresh.{IsFresh}
 use Rattle.omi_model.specs.Lists.{stays, take_item}
 use Rattle.omi_numbers.specs.declared.variables.TheConstants.{MAX_ACTIVE_LEVELS_VAR}
@@ -27,13 +27,16 @@ use Rattle.omi_model.specs.Reached.{Step}
 use Rattle.omi_model.specs.Rules.{Rule, effect, moved}
 use Rattle.omi_model.specs.Settings.{with_set, with_task_variable, with_variable, with_variable_of}
 use Rattle.omi_model.specs.State.{State, region_of, task_of}
-use Rattle.omi_model.specs.Tasking.{AreChildrenFinished, IsTaken, MayStart, MayStartAt}
+use Rattle.omi_model.specs.Tasking.{AreChildrenFinished, IsTaken, MayFree, MayStart, MayStartAt}
 use Rattle.omi_model.specs.Teams.{MayAsk, MayFork, got_threads}
 use Rattle.omi_model.proofs.Slots.{each_on, each_put, each_slot, later_on, none_some, on_empty, on_generations, on_same, some_same}
 
--- a task with another list
+-- a task with another list, and one whose list has moved on
+abbrev pub relisted_to : Option Tid × List Item → Task → Task
+relisted_to x t = record t { frees = x.0; list = x.1 }
+
 abbrev pub relisted : List Item → Task → Task
-relisted zs t = record t { list = zs }
+relisted zs t = relisted_to (None, zs) t
 
 -- ---- what an event makes by the current task
 
@@ -102,7 +105,7 @@ pub list_moves : (s : State) (i : ℕ) (zs : List Item) (L : State → Type 0)
 list_moves s i zs L busy idle = go (s.threads i).current refl
   where
     go : (o : Option Tid) → (s.threads i).current ≡ o
-        → L (option_map_or (λ k. on_task s k (λ t. record t { list = zs })) o (on_thread s i (λ h. record h { list = zs })))
+        → L (option_map_or (λ k. on_task s k (λ t. record t { frees = None; list = zs })) o (on_thread s i (λ h. record h { list = zs })))
     go None e = idle e
     go (Some k) e = busy k e
 
@@ -250,6 +253,20 @@ module _ (s : State) (i : ℕ) (k0 : Tid) (is_current : (s.threads i).current �
         allowed = allowed x may.new may.allowed;
       }
 
+  free_moved : (task n : Tid) → MayFree s task n → MayFree next task n
+  free_moved task n may =
+      let (v, live, same) =
+      later_on (λ (u v : Task). (xs : Option Tid × List Item) × (v ≡ relisted_to xs u))
+      (λ u. ((u.frees, u.list), refl)) s.tasks k0.0 (relisted zs) (λ u e. ((None, zs), refl)) task.0 may.old may.live in
+      record {
+        next_is = may.next_is;
+        old = v;
+        live = live;
+        explicit = ap (λ (x : Task). x.implicit) same.1 ∙ may.explicit;
+        over = ap (λ (x : Task). x.progress) same.1 ∙ may.over;
+        childless = λ c j u found. on_live s.tasks k0.0 (relisted zs) (λ x. x.generating ≡ Some task → ⊥) (λ x h. h) c j (may.childless c j) u found;
+      }
+
   busy_rule : (e : Event) (y : Item) → Rule s i e y → Rule next i e y
   busy_rule event.Begin y rule = rule
   busy_rule event.Offer y rule = rule
@@ -271,6 +288,7 @@ module _ (s : State) (i : ℕ) (k0 : Tid) (is_current : (s.threads i).current �
   busy_rule (event.Join region) y rule =
       of_region_moved _ _
       (λ k t r h. record { mine = h.mine; implicit = h.implicit; first = h.first; ended = h.ended }) rule
+  busy_rule (event.FreeTask task) (item.Frees n) rule = of_moved _ _ (λ k t h. free_moved task n h) rule
   busy_rule (event.FreeTask task) y rule = absurd rule
   busy_rule (event.FreeRegion region) y rule = absurd rule
   busy_rule (event.Seen j) y rule = of_moved _ _ (λ k t h. taken_moved t.region j h) rule
@@ -333,6 +351,7 @@ module _ (s : State) (i : ℕ) (none : (s.threads i).current ≡ None) (zs : Lis
   idle_rule event.Pass y rule = absurd (no_region rule)
   idle_rule (event.ImplicitEnd task) y rule = absurd (no_region rule)
   idle_rule (event.Join region) y rule = absurd (no_region rule)
+  idle_rule (event.FreeTask task) (item.Frees n) rule = absurd (no_current rule)
   idle_rule (event.FreeTask task) y rule = absurd rule
   idle_rule (event.FreeRegion region) y rule = absurd rule
   idle_rule (event.Seen j) y rule = absurd (no_current rule)
@@ -355,7 +374,7 @@ rule_moved s i e y zs rule =
 -- a state whose list has moved on has the same objects but for a list
 pub record IsRelisted (s u : State) : Type 0 where
   pub tasks : (k : Tid) (t : Task) → task_of u k ≡ Some t
-      → (v : Task) × (xs : List Item) × (task_of s k ≡ Some v) × (t ≡ relisted xs v)
+      → (v : Task) × (xs : Option Tid × List Item) × (task_of s k ≡ Some v) × (t ≡ relisted_to xs v)
   pub regions : (n : Rid) → region_of u n ≡ region_of s n
   pub currents : (j : ℕ) → (u.threads j).current ≡ (s.threads j).current
   pub asks : (j : ℕ) → (u.threads j).asks ≡ (s.threads j).asks
@@ -363,12 +382,13 @@ pub record IsRelisted (s u : State) : Type 0 where
 pub is_relisted : (s : State) (i : ℕ) (zs : List Item) → IsRelisted s (with_list s i zs)
 is_relisted s i zs = list_moves s i zs (IsRelisted s)
     (λ k is. record {
-      tasks = λ n t e. each_on (λ m u. (v : Task) × (xs : List Item) × (task_of s (record { 0 = m }) ≡ Some v) × (u ≡ relisted xs v)) s.tasks k.0 (relisted zs) (λ m u f. (u, u.list, f, refl)) (λ u f h. (u, zs, f, refl)) n.0 t e;
+      tasks = λ n t e. each_on (λ m u. (v : Task) × (xs : Option Tid × List Item) × (task_of s (record { 0 = m }) ≡ Some v) × (u ≡ relisted_to xs v)) s.tasks k.0 (relisted zs)
+          (λ m u f. (u, (u.frees, u.list), f, refl)) (λ u f h. (u, (None, zs), f, refl)) n.0 t e;
       regions = λ n. refl;
       currents = λ j. refl;
       asks = λ j. refl;
     })
-    (λ none. record { tasks = λ n t e. (t, t.list, e, refl); regions = λ n. refl; currents = idle_same s i none zs (λ h. h.current) refl; asks = idle_same s i none zs (λ h. h.asks) refl })
+    (λ none. record { tasks = λ n t e. (t, (t.frees, t.list), e, refl); regions = λ n. refl; currents = idle_same s i none zs (λ h. h.current) refl; asks = idle_same s i none zs (λ h. h.asks) refl })
 
 -- ---- a step
 
@@ -380,7 +400,7 @@ pub record IsMove (p : Program) (s : State) (i : ℕ) (e : Event) (next : State)
   pub known : i < s.count
   pub item : Item
   pub behind : List Item
-  pub taken : take_item p (encounter s i) e (list_of s i) ≡ Some (item, behind)
+  pub taken : take_item p (encounter s i) e (ahead_of s i) ≡ Some (item, behind)
   pub rule : Rule s i e item
   pub rule_moved : Rule (moved_on s i e item behind) i e item
   pub effect_is : effect p (moved_on s i e item behind) i e item ≡ Some next

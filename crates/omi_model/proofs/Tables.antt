@@ -13,7 +13,7 @@ use Rattle.omi_model.specs.declared.item.Item.TheVariants as item
 use Rattle.omi_model.specs.declared.task.Task.{Task}
 use Rattle.omi_model.specs.declared.task.Variables.{Variables}
 use Rattle.omi_model.specs.declared.thread.Thread.{Thread}
-use Rattle.omi_model.specs.Changes.{encounter, list_of}
+use Rattle.omi_model.specs.Changes.{ahead_of, encounter, in_front}
 use Rattle.omi_model.specs.LawStays.{Stays}
 use Rattle.omi_model.specs.Lists.{fits}
 use Rattle.omi_numbers.specs.declared.variables.TheConstants.{DEFAULT_DEVICE_VAR, DYN_VAR, NTHREADS_VAR, RUN_SCHED_VAR}
@@ -97,28 +97,33 @@ module _ (p : Program) (s : State) (i : ℕ) (e : Event) (next : State) (step : 
   pub m : IsMove p s i e next
   m = move_of p s i e next step
 
-  pub list_right : AreRight (list_of s i)
+  front_right : (f : Option Tid) (xs : List Item) → AreRight xs → AreRight (in_front f xs)
+  front_right None xs h = h
+  front_right (Some n) xs h = (tt, h)
+
+  pub list_right : AreRight (ahead_of s i)
   list_right = of_current (s.threads i).current
     where
       of_task : (o : Option Task) → ((t : Task) → o ≡ Some t → AreRight t.list)
-          → AreRight (option_map_or (λ t. t.list) o (s.threads i).list)
+          → AreRight (option_map_or (λ t. in_front t.frees t.list) o (s.threads i).list)
       of_task None all = (tables.threads i).0
-      of_task (Some t) all = all t refl
+      of_task (Some t) all = front_right t.frees t.list (all t refl)
 
       of_current : (o : Option Tid)
-          → AreRight (option_map_or (λ t. t.list) (option_and_then (task_of s) o) (s.threads i).list)
+          → AreRight (option_map_or (λ t. in_front t.frees t.list) (option_and_then (task_of s) o) (s.threads i).list)
       of_current None = (tables.threads i).0
       of_current (Some k) = of_task (task_of s k) (λ t live. (tables.tasks k t live).0)
 
   pub item_right : IsItemRight m.item
-  item_right = (take_right p (encounter s i) e (list_of s i) m.item m.behind m.taken list_right).0
+  item_right = (take_right p (encounter s i) e (ahead_of s i) m.item m.behind m.taken list_right).0
 
   pub item_fits : fits e m.item ≡ true
-  item_fits = take_fits p (encounter s i) e (list_of s i) m.item m.behind m.taken
+  item_fits = take_fits p (encounter s i) e (ahead_of s i) m.item m.behind m.taken
 
   task_law : (middle : State) (y : Item) → IsRelisted s middle → Stays middle next
       → EachTask TaskTables middle → IsTaskLaw p middle i e y next TaskTables
   task_law middle y before later of_tasks = record {
+    frees = λ k t free how q. q;
     shows = λ k t x q. q;
     tools = λ k t x q. q;
     begins = λ k t waits mine by q. q;
@@ -161,7 +166,7 @@ module _ (p : Program) (s : State) (i : ℕ) (e : Event) (next : State) (step : 
 
   pub tables_step : InTables next
   tables_step = record {
-    tasks = task_step p TaskTables s i e next step (λ k t y ys is taken q. (stays_right (encounter s i) e y ys (take_right p (encounter s i) e t.list y ys taken q.0), q.1)) task_law tables.tasks;
+    tasks = task_step p TaskTables s i e next step (λ k t y ys is taken q. (stays_right (encounter s i) e y ys (take_right p (encounter s i) e (in_front t.frees t.list) y ys taken (front_right t.frees t.list q.0)), q.1)) task_law tables.tasks;
     threads = thread_step p ThreadTables s i e next step (λ y ys none taken q. (stays_right (encounter s i) e y ys (take_right p (encounter s i) e (s.threads i).list y ys taken q.0), q.1)) thread_law tables.threads;
   }
 

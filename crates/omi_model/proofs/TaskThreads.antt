@@ -93,6 +93,7 @@ module _ (p : Program) (events : List (ℕ × Event)) (s : State) (reached : Rea
       task_law : (middle : State) (y : Item) → IsRelisted s middle → Stays middle next
           → EachTask (RunsOnBegun next) middle → IsTaskLaw p middle i e y next (RunsOnBegun next)
       task_law middle y before later all = record {
+        frees = λ k t free how q. q;
         shows = λ k t x q. q;
         tools = λ k t x q. q;
         sets = λ k t icv value v f at_set q. q;

@@ -41,7 +41,7 @@ module _ (p : Program) where
   pub take_waits : (at : Encounter) (e : Event) (xs : List Item) (y : Item) (ys : List Item)
       → take_item p at e xs ≡ Some (y, ys) → Waits xs → Waits (y ∷ ys)
   take_waits at =
-      take_keeps p at Waits (drop_keeps Waits (λ xs h. h) (λ state xs h. h.1) (λ xs h. h))
+      take_keeps p at Waits (drop_keeps Waits (λ xs h. h) (λ state xs h. h.1) (λ xs h. h) (λ n xs h. h))
       (λ s xs h. row_keeps p at Waits (waits at) (shape_of s) xs h)
 
   pub task_waits : (f : ℕ) → Waits (task_items p f)

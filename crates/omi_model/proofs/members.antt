@@ -9,3 +9,4 @@ pub mod Lineages
 pub mod BegunChains
 pub mod Encounters
 pub mod EncounterLaws
+pub mod WholeTeams

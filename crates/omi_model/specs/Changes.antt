@@ -1,9 +1,10 @@
 -- What an event looks at, and the parts of a state that it changes.
-use Rattle.std.specs.Prelude.{◌≡◌, ℕ, Bool, false, List, Option, Some, None}
+use Rattle.std.specs.Prelude.{◌≡◌, ℕ, false, List, ◌∷◌, Option, Some, None}
 use Rattle.std.specs.Option.{option_and_then, option_map, option_map_or}
 use Rattle.omi_model.specs.declared.id.Tid.{Tid}
 use Rattle.omi_model.specs.declared.id.Rid.{Rid}
 use Rattle.omi_model.specs.declared.item.Item.{Item}
+use Rattle.omi_model.specs.declared.item.Item.TheVariants as item
 use Rattle.omi_model.specs.Put.{put, on}
 use Rattle.omi_model.specs.declared.encounter.Encounter.{Encounter}
 use Rattle.omi_model.specs.State.{State, region_of, task_of, current_task}
@@ -52,10 +53,24 @@ OfCurrentRegion s i P = (k : Tid) × (t : Task) × (r : Region) × IsCurrent s i
 abbrev pub list_of : State → ℕ → List Item
 list_of s i = option_map_or (λ t. t.list) (current_task s i) (s.threads i).list
 
+-- a finished task may be given back in front of a list
+abbrev pub in_front : Option Tid → List Item → List Item
+in_front None list = list
+in_front (Some k) list = item.Frees k ∷ list
+
+-- all that a thread may go on with
+abbrev pub ahead_of : State → ℕ → List Item
+ahead_of s i =
+    option_map_or (λ t. in_front t.frees t.list) (current_task s i) (s.threads i).list
+
+-- the list moves on: what could be given back in front of it is passed over
+abbrev pub with_ahead : State → ℕ → Option Tid → List Item → State
+with_ahead s i frees list =
+    option_map_or (λ k. on_task s k (λ t. record t { frees = frees; list = list }))
+    (s.threads i).current (on_thread s i (λ h. record h { list = list }))
+
 abbrev pub with_list : State → ℕ → List Item → State
-with_list s i list =
-    option_map_or (λ k. on_task s k (λ t. record t { list = list })) (s.threads i).current
-    (on_thread s i (λ h. record h { list = list }))
+with_list s i list = with_ahead s i None list
 
 -- the level of a region, 0 where it isn't live
 abbrev pub level_of : State → Rid → ℕ

@@ -1,4 +1,4 @@
--- Encounters: a region and its tasks were made by the thread of member 0, in a task that this thread runs in the enclosing region. While the region is not joined that task is suspended there, not finished, and the enclosing region is visible and not joined. Only the initial region has no such task. An explicit task was made on a member's thread, runs on that of the member with its number, and its region is not joined before it is finished.
+-- Encounters: a region and its tasks were made by the thread of member 0, in a task that, where it lives, this thread runs in the enclosing region. While the region is not joined that task lives and is suspended there, not finished, and the enclosing region is visible and not joined. Only the initial region has no such task, and no enclosing region. An explicit task was made on a member's thread, runs on that of the member with its number, and its region is not joined before it is finished.
 use Rattle.std.specs.Prelude.{◌≡◌, ℕ, List, false, slice_get, Some, None}
 use Rattle.omi_script.specs.declared.program.Program.{Program}
 use Rattle.omi_model.specs.declared.event.Event.{Event}
@@ -21,7 +21,7 @@ pub record IsNamedByFirst (n : Rid) (team : List (Tid × ℕ)) : Type 0 where
 abbrev pub IsOpen : State → Rid → Type 0
 IsOpen s n = (r : Region) × (region_of s n ≡ Some r) × (r.joined ≡ false)
 
--- the task that encountered a region
+-- the task that encountered a region, where it lives
 pub record IsEncountering (s : State) (n : Rid) (r : Region) (k : Tid) : Type 0 where
   pub task : Task
   pub live : task_of s k ≡ Some task
@@ -42,9 +42,11 @@ pub record IsInRegion (s : State) (k : Tid) (t : Task) : Type 0 where
 
 pub record AreEncounters (s : State) : Type 0 where
   pub named : (n : Rid) (r : Region) → region_of s n ≡ Some r → IsNamedByFirst n r.team
-  pub encountered : (n : Rid) (r : Region) (k : Tid) → region_of s n ≡ Some r
-      → r.encountering ≡ Some k → IsEncountering s n r k
+  pub encountered : (n : Rid) (r : Region) (k : Tid) (t : Task) → region_of s n ≡ Some r
+      → r.encountering ≡ Some k → task_of s k ≡ Some t → IsEncountering s n r k
   pub initial : (n : Rid) (r : Region) → region_of s n ≡ Some r → r.encountering ≡ None
+      → n ≡ initial_region
+  pub outermost : (n : Rid) (r : Region) → region_of s n ≡ Some r → r.enclosing ≡ None
       → n ≡ initial_region
   pub explicit : (k : Tid) (t : Task) → task_of s k ≡ Some t → t.implicit ≡ false
       → IsInRegion s k t

@@ -1,7 +1,8 @@
 -- What stays: no event takes away a region or a task that is needed, none changes what a task or a region is, and what these have come to is never undone.
-use Rattle.std.specs.Prelude.{◌≡◌, ◌≤◌, ◌⊎◌, ℕ, List, true, slice_get, slice_index, length, Some}
+use Rattle.std.specs.Prelude.{◌≡◌, ◌≤◌, ◌⊎◌, ℕ, Bool, List, true, false, slice_get, slice_index, length, Some}
 use Rattle.omi_script.specs.declared.program.Program.{Program}
 use Rattle.omi_model.specs.declared.event.Event.{Event}
+use Rattle.omi_model.specs.declared.event.Event.TheVariants as event
 use Rattle.omi_model.specs.declared.id.Tid.{Tid}
 use Rattle.omi_model.specs.declared.id.Rid.{Rid}
 use Rattle.omi_model.specs.declared.progress.Progress.{Progress}
@@ -45,28 +46,48 @@ pub record IsSameRegion (r q : Region) : Type 0 where
   pub ended : (j : ℕ) → slice_get r.ended j ≡ Some true → slice_get q.ended j ≡ Some true
   pub joined : r.joined ≡ true → q.joined ≡ true
 
--- A task that no event takes away from a state: an implicit task, one that is not finished, or the generating task of a live task. What is left is a finished explicit task without a live child.
+-- the events that give a record back
+abbrev pub is_free : Event → Bool
+is_free (event.FreeTask task) = true
+is_free (event.FreeRegion region) = true
+is_free e = false
+
+-- a region encloses a live one
+abbrev pub EnclosesLive : State → Rid → Type 0
+EnclosesLive s n = (m : Rid) × (q : Region) × (region_of s m ≡ Some q) × (q.enclosing ≡ Some n)
+
+-- A region that no event takes away from a state: one that is not joined, of which a task lives, or that encloses a live region.
+abbrev pub IsNeededRegion : State → Rid → Region → Type 0
+IsNeededRegion s n r = (r.joined ≡ false)
+    ⊎ (((k : Tid) × (v : Task) × (task_of s k ≡ Some v) × (v.region ≡ n)) ⊎ EnclosesLive s n)
+
+-- A region whose members' tasks no event takes away: one that is live and not joined, of which an explicit task lives, or that encloses a live region.
+abbrev pub IsTeamNeeded : State → Rid → Type 0
+IsTeamNeeded s n = ((r : Region) × (region_of s n ≡ Some r) × (r.joined ≡ false))
+    ⊎ (((k : Tid) × (v : Task) × (task_of s k ≡ Some v) × (v.implicit ≡ false) × (v.region ≡ n)) ⊎ EnclosesLive s n)
+
+-- A task that no event takes away from a state: an implicit task of such a region, one that is not finished, or the generating task of a live task. What is left is finished and without a live child.
 abbrev pub IsNeeded : State → Tid → Task → Type 0
-IsNeeded s k t = (t.implicit ≡ true) ⊎ ((t.progress ≡ Finished → ⊥)
+IsNeeded s k t = ((t.implicit ≡ true) × IsTeamNeeded s t.region) ⊎ ((t.progress ≡ Finished → ⊥)
     ⊎ ((n : Tid) × (v : Task) × (task_of s n ≡ Some v) × (v.generating ≡ Some k)))
 
--- A state and the one behind an event: tasks that are needed stay, and so do regions; a task that lives in both states is the same.
+-- A state and the one behind an event: tasks and regions that are needed stay, and a task or a region that lives in both states is the same.
 pub record Stays (s u : State) : Type 0 where
   pub tasks : (k : Tid) (t : Task) → task_of s k ≡ Some t → IsNeeded s k t
       → (v : Task) × (task_of u k ≡ Some v) × IsSameTask t v
   pub alike : (k : Tid) (t v : Task) → task_of s k ≡ Some t → task_of u k ≡ Some v → IsSameTask t v
-  pub regions : (n : Rid) (r : Region) → region_of s n ≡ Some r
+  pub regions : (n : Rid) (r : Region) → region_of s n ≡ Some r → IsNeededRegion s n r
       → (q : Region) × (region_of u n ≡ Some q) × IsSameRegion r q
+  pub alike_regions : (n : Rid) (r q : Region) → region_of s n ≡ Some r → region_of u n ≡ Some q
+      → IsSameRegion r q
   pub begun : (i : ℕ) → (s.threads i).begun ≡ true → (u.threads i).begun ≡ true
   pub count : u.count ≡ s.count
 
--- A state and one that any events lead to: implicit tasks stay, and so do regions; a task that lives in both states is the same.
+-- A state and one that any events lead to: a task or a region that lives in both states is the same.
 pub record StaysOver (s u : State) : Type 0 where
-  pub implicit : (k : Tid) (t : Task) → task_of s k ≡ Some t → t.implicit ≡ true
-      → (v : Task) × (task_of u k ≡ Some v) × IsSameTask t v
   pub alike : (k : Tid) (t v : Task) → task_of s k ≡ Some t → task_of u k ≡ Some v → IsSameTask t v
-  pub regions : (n : Rid) (r : Region) → region_of s n ≡ Some r
-      → (q : Region) × (region_of u n ≡ Some q) × IsSameRegion r q
+  pub alike_regions : (n : Rid) (r q : Region) → region_of s n ≡ Some r → region_of u n ≡ Some q
+      → IsSameRegion r q
   pub begun : (i : ℕ) → (s.threads i).begun ≡ true → (u.threads i).begun ≡ true
   pub count : u.count ≡ s.count
 

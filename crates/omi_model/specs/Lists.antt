@@ -1,5 +1,5 @@
 -- To-do lists: which item of a list an event takes, and what stands in the item's place afterwards.
-use Rattle.std.specs.Prelude.{ℕ, ◌+◌, ◌==◌, ◌&&◌, Bool, true, false, nat_lt, List, [], ◌∷◌, Option, Some, None, if◌then◌else◌}
+use Rattle.std.specs.Prelude.{◌+◌, ◌==◌, ◌&&◌, Bool, true, false, nat_lt, List, [], ◌∷◌, Option, Some, None, if◌then◌else◌}
 use Rattle.omi_numbers.specs.declared.limits.TheConstants.{OWN_SLOTS}
 use Rattle.omi_script.specs.declared.program.Program.{Program}
 use Rattle.omi_model.specs.declared.item.Item.{Item}
@@ -20,6 +20,7 @@ abbrev pub may_drop : Item → Bool
 may_drop item.Asks = true
 may_drop (item.Tasks state) = true
 may_drop item.OneTask = true
+may_drop (item.Frees task) = true
 may_drop x = false
 
 -- the event is this item's. Slots for deferred tasks are looked at in the order 0 to 3.
@@ -45,6 +46,7 @@ fits (event.StartNow task) (item.StartNow f final) = true
 fits (event.Start task) (item.Tasks state) = true
 fits (event.Start task) item.OneTask = true
 fits (event.Finish task) item.Finish = true
+fits (event.FreeTask task) (item.Frees next) = true
 fits event.WaitDone item.WaitDone = true
 fits event.Yield item.Yield = true
 fits (event.Set icv value) (item.Set v x) = icv == v && value == x

@@ -92,6 +92,7 @@ opening_task p = record {
   tool = 0;
   progress = Begun;
   place = 0;
+  frees = None;
   list = main_items (record { debug = p.env.debug; number = 0; level = 0; is_final = false })
       (body_of p.funcs p.main);
 }

@@ -47,3 +47,14 @@ abbrev pub made : {A : Type 0} → Slots A → Id → A → Slots A
 made slots n x =
     put slots n.creator
     (put (slots n.creator) n.slot (record { generations = n.generation + 1; live = Some x }))
+
+-- a slot whose object of a generation is gone. A stale generation changes nothing
+abbrev pub emptied : {A : Type 0} → ℕ → Slot A → Slot A
+emptied g slot =
+    if slot.generations == g + 1 then record { generations = slot.generations; live = None } else slot
+
+-- the object of a name is gone, and every other slot stays
+abbrev pub gone : {A : Type 0} → Slots A → Id → Slots A
+gone slots n =
+    put slots n.creator
+    (put (slots n.creator) n.slot (emptied n.generation (slots n.creator n.slot)))

@@ -1,7 +1,6 @@
 -- Rows: the events of each statement in their order, as items of a to-do list. A list holds statements and items; a statement at its head is replaced by its row once an event of the row comes.
 use Rattle.std.specs.Prelude.{ℕ, zero, suc, ◌==◌, ◌||◌, List, [], ◌∷◌, if◌then◌else◌}
 use Rattle.omi_numbers.specs.Holders.{lock_wait}
-use Rattle.omi_script.specs.Schedules.{schedule_word}
 use Rattle.omi_script.specs.Bodies.{body_of}
 use Rattle.omi_script.specs.declared.program.Program.{Program}
 use Rattle.omi_script.specs.declared.statement.Stmt.{Stmt}
@@ -10,8 +9,6 @@ use Rattle.omi_model.specs.declared.encounter.Encounter.{Encounter}
 use Rattle.omi_model.specs.declared.item.Item.{Item}
 use Rattle.omi_model.specs.declared.item.Item.TheVariants as item
 use Rattle.omi_numbers.specs.declared.states.TheConstants.{WORK_SERIAL, WORK_PARALLEL, WAIT_BARRIER_IMPLICIT_PARALLEL, WAIT_BARRIER_EXPLICIT, WAIT_TASKWAIT, WAIT_CRITICAL, OVERHEAD}
-use Rattle.omi_numbers.specs.declared.variables.TheConstants.{DYN_VAR, NTHREADS_VAR, RUN_SCHED_VAR, DEFAULT_DEVICE_VAR, MAX_ACTIVE_LEVELS_VAR}
-use Rattle.omi_numbers.specs.Words.{flag}
 use Rattle.omi_model.specs.declared.shape.Shape.{Shape}
 use Rattle.omi_model.specs.declared.shape.Shape.TheVariants as shape
 use Rattle.omi_model.specs.Shapes.{shape_of}

@@ -1,9 +1,9 @@
 -- States, frames, control variables, the tool word and locks.
-use Rattle.std.specs.Prelude.{◌≡◌, ◌==◌, ℕ, Bool, not, List, [], ◌∷◌, Option, Some, None, if◌then◌else◌}
+use Rattle.std.specs.Prelude.{◌==◌, ℕ, not, List, [], ◌∷◌, Option, Some, None, if◌then◌else◌}
 use Rattle.std.specs.Option.{option_and_then, option_map}
 use Rattle.omi_script.specs.Schedules.{kind_in, chunk_in}
 use Rattle.omi_numbers.specs.Addresses.{enter_frame}
-use Rattle.omi_model.specs.Changes.{on_thread, on_task, by_current}
+use Rattle.omi_model.specs.Changes.{on_thread, on_task}
 use Rattle.omi_numbers.specs.declared.variables.TheConstants.{DYN_VAR, NTHREADS_VAR, RUN_SCHED_VAR, DEFAULT_DEVICE_VAR, MAX_ACTIVE_LEVELS_VAR}
 use Rattle.omi_model.specs.Put.{put}
 use Rattle.omi_model.specs.State.{State, task_of}

@@ -1,8 +1,7 @@
 -- The state of an OpenMP program: threads, live regions and tasks by name, locks and global variables. It has no address, offset or counter of the runtime.
-use Rattle.std.specs.Prelude.{ℕ, Bool, List, Option}
+use Rattle.std.specs.Prelude.{ℕ, Option}
 use Rattle.std.specs.Option.{option_and_then}
 use Rattle.omi_script.specs.declared.env.Env.{Env}
-use Rattle.omi_script.specs.declared.statement.Sched.{Sched}
 use Rattle.omi_model.specs.declared.id.Tid.{Tid}
 use Rattle.omi_model.specs.declared.id.Rid.{Rid}
 use Rattle.omi_model.specs.declared.region.Region.{Region}

@@ -1,5 +1,5 @@
 -- Threads, claims and teams: a worker begins and offers itself; a task that encounters a parallel construct asks for threads and forks a team; members begin and end, and member 0 joins them.
-use Rattle.std.specs.Prelude.{◌≡◌, ◌≢◌, ◌==◌, ◌⊎◌, ◌<◌, ◌≤◌, ℕ, suc, ◌+◌, Bool, true, false, nat_le, nat_lt, List, [], ◌∷◌, ◌++◌, length, map, drop, get_or, slice_set, Option, Some, None, All, Contains, replicate, if◌then◌else◌}
+use Rattle.std.specs.Prelude.{◌≡◌, ◌≢◌, ◌==◌, ◌⊎◌, ◌<◌, ℕ, suc, ◌+◌, Bool, true, false, nat_le, nat_lt, List, [], ◌∷◌, ◌++◌, length, map, drop, get_or, slice_set, Option, Some, None, All, Contains, replicate, if◌then◌else◌}
 use Rattle.std.specs.List.{filter_map}
 use Rattle.omi_script.specs.declared.program.Program.{Program}
 use Rattle.omi_model.specs.declared.claim.Claim.TheVariants as claim
@@ -127,6 +127,7 @@ member_task p region k t r f number thread = record {
   tool = 0;
   progress = if number == 0 then Begun else NotBegun;
   place = 0;
+  frees = None;
   list = member_items p
       (record { debug = p.env.debug; number = number; level = r.levels + 1; is_final = false }) f;
 }

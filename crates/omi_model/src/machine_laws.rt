@@ -24,15 +24,17 @@ ghost use Rattle.omi_model.specs.LawStays.{Stay, StayOverAnEvent};
 ghost use Rattle.omi_model.specs.LawWellFormed.{ReachedIsWellFormed};
 
 /// Tasks and regions stay what they are: whatever events follow, the parts that say what a task or a region is keep their
-/// values while it lives, and no arrival, release, start or end is undone. No event takes away a region, an implicit task, a
-/// task that isn't finished, or the generating task of a live task.
+/// values while it lives, and no arrival, release, start or end is undone. No event takes away a task that isn't finished, the
+/// generating task of a live task, a region that isn't joined, has a live task or encloses a live region, or an implicit task
+/// whose region isn't joined, has a live explicit task or encloses a live region.
 pub fn what_stays()
     ensures event { StayOverAnEvent }
     ensures later { Stay }
 {}
 
 /// Each task and each region that a thread, a task or a region names is live, and a member of a team is an implicit task of
-/// its region with its number and thread.
+/// its region with its number and thread. Of a region that is joined, the task that encountered it and its members' tasks need
+/// not live; where a member's name is that of a live task, this is the member's.
 pub fn names_are_live()
     ensures { NamesAreLive }
 {}
@@ -148,9 +150,9 @@ pub fn tasks_have_lineage()
 {}
 
 /// A region and its tasks were made by the thread of member 0, and all but the initial region in a task of the enclosing region
-/// that runs on this thread; while the region is not joined that task has begun and not finished, and the enclosing region is
-/// visible and not joined; an explicit task was made on a member's thread, runs on that of the member with its number, and its
-/// region is not joined before the task is finished.
+/// that, where it lives, runs on this thread; while the region is not joined that task lives, has begun and not finished, and
+/// the enclosing region is visible and not joined; only the initial region has no enclosing one; an explicit task was made on a
+/// member's thread, runs on that of the member with its number, and its region is not joined before the task is finished.
 pub fn regions_are_encountered()
     ensures { RegionsAreEncountered }
 {}

@@ -13,7 +13,8 @@ pub struct Variables {
 }
 
 /// A task. `thread` and `number` (in the team) are those of an implicit task from the fork on, and are set once an explicit
-/// task starts; `place` is that of a deferred task; `exit` and `enter` are frame addresses.
+/// task starts; `place` is that of a deferred task; `exit` and `enter` are frame addresses. `frees` is the finished task that
+/// may be given back next, in front of all that stands in the list.
 #[derive(Drop)]
 pub struct Task {
     pub implicit: bool,
@@ -30,5 +31,6 @@ pub struct Task {
     pub tool: u64,
     pub progress: Progress,
     pub place: u8,
+    pub frees: Option<Tid>,
     pub list: ItemList,
 }

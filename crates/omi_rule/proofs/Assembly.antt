@@ -58,6 +58,7 @@ use Rattle.omi_rule.proofs.Runs.{stack_runs}
 use Rattle.omi_rule.proofs.Named.{all_named}
 use Rattle.omi_rule.proofs.NothingNew.{Makes, nothing_new, within_stays}
 use Rattle.omi_rule.proofs.RowsStay.{Spares, row_stays}
+use Rattle.omi_model.specs.LawStays.{is_free}
 
 -- ---- premises
 
@@ -69,7 +70,7 @@ pub record Before (p : Program) (w : List ℕ) (m : Memory) (events : List (ℕ 
   pub known : i < s.count
   pub few : length events + 1 < MOST_EVENTS
   -- what barriers say of other threads stays
-  pub barriers : (e : Event) (u : State) → Step p s i e u → (j : ℕ) → j < s.count → j ≢ i
+  pub barriers : (e : Event) (u : State) → is_free e ≡ false → Step p s i e u → (j : ℕ) → j < s.count → j ≢ i
       → (c : BarrierCounter) → (actors j).counter ≡ counter.Barrier c → KeepsBarrierRow s (actors j) c
       → KeepsBarrierRow u (actors j) c
 
@@ -304,6 +305,12 @@ no_slot : (e : Event) (found : ℕ) → (Makes e → ⊥) → FindsEmptySlot e f
 no_slot (event.Defer task) found not = absurd (not tt)
 no_slot e found not = tt
 
+-- an event that a step commits gives no record back
+held_back : (w : List ℕ) (s : State) (i : ℕ) (e : Event) (o : Op) → CommitsAt w s i e o → is_free e ≡ false
+held_back w s i (event.FreeTask task) o commits = absurd commits
+held_back w s i (event.FreeRegion region) o commits = absurd commits
+held_back w s i e o commits = refl
+
 module _ (p : Program) (w : List ℕ) (m : Memory) (events : List (ℕ × Event)) (s : State) (actors : ℕ → Actor)
     (i : ℕ) (before : Before p w m events s actors i) where
   abbrev rule : Rule p w m events s actors
@@ -345,7 +352,8 @@ module _ (p : Program) (w : List ℕ) (m : Memory) (events : List (ℕ × Event)
       → AreWithin w regions u.regions → AreWithin w tasks u.tasks → AreNewMembers p u → KeepsWords w (left_in m o x) u (all_owed (replace_at actors i after.0))
       → ((j : ℕ) → j ≢ i → Spares m (left_in m o x) s j (actors j)) → KeepsThread p w (left_in m o x) (events ++ (i, e) ∷ []) u i after.0 → KeepsRule p w m events s actors i o x after
   event_keeps o x (a, out) e u is step commits finds in_regions in_tasks waiting words spares own =
-      let leaves : LeavesOthers s u i = events_leave_others p events s rule.reached i e u step in
+      let held = held_back w s i e o commits in
+      let leaves : LeavesOthers s u i = events_leave_others p events s rule.reached i e u held step in
       let reached : Reached p (events ++ (i, e) ∷ []) u =
       leads_on p (opening p) events s (i, e) u rule.reached step in
       let named : LiveAreNamed u.regions × LiveAreNamed u.tasks =
@@ -367,7 +375,7 @@ module _ (p : Program) (w : List ℕ) (m : Memory) (events : List (ℕ × Event)
           };
           words = words;
           waiting = waiting;
-          threads = all_threads p w m (left_in m o x) events (events ++ (i, e) ∷ []) s u actors i rule leaves (names_step p s i e u step) a words (λ y there. Contains-append_left events ((i, e) ∷ []) y there) spares (before.barriers e u step) own;
+          threads = all_threads p w m (left_in m o x) events (events ++ (i, e) ∷ []) s u actors i rule leaves (names_step p s i e u held step) a words (λ y there. Contains-append_left events ((i, e) ∷ []) y there) spares (before.barriers e u held step) own;
         };
       })
 

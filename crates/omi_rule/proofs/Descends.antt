@@ -24,8 +24,8 @@ use Rattle.omi_model.specs.Rows.{barrier_items, behind, body_items, call_items, 
 use Rattle.omi_model.specs.State.{State, region_of, task_of}
 use Rattle.omi_model.specs.Tasking.{deferred_task, scheduled}
 use Rattle.omi_model.proofs.ChainsKept.{current_begun}
-use Rattle.omi_model.proofs.EachObject.{EachTask, IsTaskLaw, list_of_current, start_list, stays_after, task_step_from}
-use Rattle.omi_model.proofs.ListLaws.{take_keeps}
+use Rattle.omi_model.proofs.EachObject.{EachTask, IsTaskLaw, ahead_of_current, start_list, stays_after, task_step_from}
+use Rattle.omi_model.proofs.ListLaws.{take_keeps, by_taken}
 use Rattle.omi_model.proofs.members.Lineages.{have_lineage}
 use Rattle.omi_model.proofs.OpeningObjects.{each_first_task}
 use Rattle.omi_model.proofs.Slots.{false_true, some_same}
@@ -120,6 +120,7 @@ module _ (p : Program) where
   drop_below f item.Asks xs may h = h
   drop_below f (item.Tasks state) xs may h = h
   drop_below f item.OneTask xs may h = h
+  drop_below f (item.Frees n) xs may h = h
   drop_below f x xs may h = absurd (false_true may)
 
   take_below : (f : ℕ) (at : Encounter) (e : Event) (xs : List Item) (y : Item) (ys : List Item)
@@ -178,8 +179,10 @@ module _ (p : Program) (events : List (ℕ × Event)) (s : State) (reached : Rea
   -- the item that the event takes from the list of the current task
   taken_below : (k : Tid) (t : Task) → IsCurrent s i k t → Below t.function (move.item ∷ move.behind)
   taken_below k t is =
-      take_below p t.function (encounter s i) e t.list move.item move.behind
-      (ap (take_item p (encounter s i) e) (sym (list_of_current s i k t is)) ∙ move.taken) (all k t is.live).0
+      by_taken p (encounter s i) e t.frees t.list move.item move.behind (λ f y ys. Below t.function (y ∷ ys))
+      (ap (take_item p (encounter s i) e) (sym (ahead_of_current s i k t is)) ∙ move.taken)
+      (λ from. take_below p t.function (encounter s i) e t.list move.item move.behind from (all k t is.live).0)
+      (λ task n. (all k t is.live).0)
 
   -- which is the current one once the list has moved on
   moved_below : (k : Tid) (t : Task) → IsCurrent (moved_on s i e move.item move.behind) i k t
@@ -221,6 +224,7 @@ module _ (p : Program) (events : List (ℕ × Event)) (s : State) (reached : Rea
   descend_law : EachTask (Descends next) (moved_on s i e move.item move.behind)
       → IsTaskLaw p (moved_on s i e move.item move.behind) i e move.item next (Descends next)
   descend_law middle = record {
+    frees = λ k t free how h. h;
     shows = λ k t enter h. h;
     tools = λ k t x h. h;
     sets = λ k t icv value v is of h. h;

@@ -29,6 +29,7 @@ below_step : (p : Program) (s : State) (i : ℕ) (e : Event) (next : State) → 
 below_step p s i e next step all = record {
   tasks = task_step p TaskBelow s i e next step (λ k t y ys is taken h. h)
       (λ middle y listed stays each. record {
+        frees = λ k t free how h. h;
         shows = λ k t enter h. h;
         tools = λ k t x h. h;
         sets = λ k t icv value v is of h. h;

@@ -12,7 +12,7 @@ use Rattle.omi_model.specs.Teams.{new_region}
 use Rattle.omi_model.proofs.EachObject.{EachTask, over_events, task_step}
 use Rattle.omi_model.proofs.OpeningObjects.{each_first_task}
 use Rattle.omi_model.proofs.Slots.{some_same}
-use Rattle.omi_model.proofs.StaysKept.{stays_step}
+use Rattle.omi_model.proofs.StaysKept.{needed_region, stays_step}
 
 abbrev RunsFunction : State → Tid → Task → Type 0
 RunsFunction s k t =
@@ -22,6 +22,7 @@ runs_step : (p : Program) (s : State) (i : ℕ) (e : Event) (next : State) → S
     → EachTask (RunsFunction s) s → EachTask (RunsFunction next) next
 runs_step p s i e next step all = task_step p (RunsFunction next) s i e next step (λ k t y ys is taken h. h)
     (λ middle y listed stays each. record {
+      frees = λ k t free how h. h;
       shows = λ k t enter h. h;
       tools = λ k t x h. h;
       sets = λ k t icv value v is of h. h;
@@ -34,7 +35,7 @@ runs_step p s i e next step all = task_step p (RunsFunction next) s i e next ste
     })
     (λ k t live im.
     let (r, found, same) = all k t live im in
-    let (q, later, alike) = (stays_step p s i e next step).regions t.region r found in
+    let (q, later, alike) = (stays_step p s i e next step).regions t.region r found (needed_region s k t live r) in
     (q, later, alike.function ∙ same))
 
 pub member_function : (p : Program) (events : List (ℕ × Event)) (s : State) → Reached p events s

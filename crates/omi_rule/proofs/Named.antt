@@ -1,5 +1,5 @@
 -- Each live object has a name: where it lives, the slot has had a generation.
-use Rattle.std.proofs.Common.{◌≡◌, ◌≢◌, ◌+◌, ◌-◌, ◌==◌, ◌&&◌, ℕ, Bool, true, false, List, [], ◌∷◌, Option, Some, None, refl, ap, ◌∙◌, arith, eq-eqb, if◌then◌else◌}
+use Rattle.std.proofs.Common.{◌≡◌, ◌≢◌, ◌+◌, ◌-◌, ◌==◌, ◌&&◌, ℕ, Bool, true, false, List, [], ◌∷◌, Option, Some, None, refl, ap, ◌∙◌, arith, eq-eqb, if◌then◌else◌, sym}
 use Rattle.std.specs.Option.{option_map}
 use Rattle.omi_script.specs.declared.program.Program.{Program}
 use Rattle.omi_model.specs.declared.event.Event.{Event}
@@ -12,14 +12,14 @@ use Rattle.omi_model.specs.declared.slot.Slot.{Slot}
 use Rattle.omi_model.specs.declared.task.Task.{Task}
 use Rattle.omi_model.specs.Changes.{with_list}
 use Rattle.omi_model.specs.Opening.{opening, opening_region, opening_task}
-use Rattle.omi_model.specs.Put.{Slots, changed, first_alone, made, on, unused}
+use Rattle.omi_model.specs.Put.{Slots, changed, first_alone, made, on, unused, gone}
 use Rattle.omi_model.specs.Reached.{Reached, Step}
 use Rattle.omi_model.specs.Rules.{effect}
 use Rattle.omi_model.specs.State.{State, task_of}
 use Rattle.omi_model.specs.Teams.{member_task, with_members}
 use Rattle.omi_model.proofs.EachObject.{over_events}
 use Rattle.omi_model.proofs.SlotEffects.{OfSlots, slots_effect}
-use Rattle.omi_model.proofs.Slots.{each_slot, none_some}
+use Rattle.omi_model.proofs.Slots.{each_slot, none_some, gone_generations, gone_live}
 use Rattle.omi_model.proofs.Steps.{from_some, list_moves, move_of, moved_on}
 use Rattle.omi_rep.specs.Shows.{LiveAreNamed}
 
@@ -53,6 +53,10 @@ counted_made {A} slots n x all =
     (record { generations = n.generation + 1; live = Some x }) (λ y e zero. omega (arith, zero))
     (λ c k apart. all c k)
 
+counted_gone : {A : Type 0} (slots : Slots A) (n : Id) → AreCounted slots → AreCounted (gone slots n)
+counted_gone {A} slots n all c k y e zero =
+    all c k y (gone_live slots n c k y e) (sym (gone_generations slots n c k) ∙ zero)
+
 counted_members : (task : ℕ → ℕ → Task) (j : ℕ) (team : List (Tid × ℕ)) (slots : Slots Task)
     → AreCounted slots → AreCounted (with_members task j team slots)
 counted_members task j [] slots all = all
@@ -74,9 +78,10 @@ module _ (p : Program) (z : State) (i : ℕ) (all : AllCounted z) where
   effect_counted : OfSlots p z i (λ e regions tasks. AreCounted regions × AreCounted tasks)
   effect_counted = record {
     stays = λ e same. all;
-    tasks = λ e same n f. (all.0, by_task n f);
-    defers = λ task x. (all.0, counted_made z.tasks task.0 x all.1);
-    starts_now = λ task x. (all.0, counted_made z.tasks task.0 x all.1);
+    tasks = λ e same slots q n f. (all.0, counted_on slots n.0 f q.1);
+    frees = λ task. (all.0, counted_gone z.tasks task.0 all.1);
+    defers = λ task x fresh. (all.0, counted_made z.tasks task.0 x all.1);
+    starts_now = λ task x fresh. (all.0, counted_made z.tasks task.0 x all.1);
     forks = λ region team f k t r may. (counted_made z.regions region.0 _ all.0, counted_members (member_task p region k t r f) 0 team z.tasks all.1);
     arrives = λ k t is. (by_region t.region _, all.1);
     releases = λ k t r is found may. (by_region t.region _, all.1);

@@ -9,7 +9,7 @@ use Rattle.omi_model.specs.declared.item.Item.TheVariants as item
 use Rattle.omi_model.specs.declared.progress.Progress.TheVariants.{Begun, NotBegun}
 use Rattle.omi_model.specs.declared.region.Region.{Region}
 use Rattle.omi_model.specs.declared.task.Task.{Task}
-use Rattle.omi_model.specs.Changes.{encounter, list_of}
+use Rattle.omi_model.specs.Changes.{ahead_of, encounter}
 use Rattle.omi_model.specs.Lists.{take_item}
 use Rattle.omi_model.specs.Reached.{Step}
 use Rattle.omi_model.specs.State.{State}
@@ -39,6 +39,7 @@ module _ (p : Program) (z : State) (i : ℕ) (e : Event) (y : Item) (next : Stat
 
   task_law : IsTaskLaw p z i e y next (IsNew p)
   task_law = record {
+    frees = λ k t free how is waits. let o = is waits in record { function = o.function; exit = o.exit; final = o.final };
     shows = λ k t enter is waits. let o = is waits in record { function = o.function; exit = o.exit; final = o.final };
     tools = λ k t x is waits. let o = is waits in record { function = o.function; exit = o.exit; final = o.final };
     sets = λ k t icv value v with_v here is waits. let o = is waits in record { function = o.function; exit = o.exit; final = o.final };
@@ -52,7 +53,7 @@ module _ (p : Program) (z : State) (i : ℕ) (e : Event) (y : Item) (next : Stat
 
 -- where no team is forked
 pub waiting_step : (p : Program) (s : State) (i : ℕ) (e : Event) (next : State) → Step p s i e next
-    → ((y : Item × List Item) → take_item p (encounter s i) e (list_of s i) ≡ Some y → (f : ℕ) → y.0 ≡ item.Fork f → f < length p.funcs)
+    → ((y : Item × List Item) → take_item p (encounter s i) e (ahead_of s i) ≡ Some y → (f : ℕ) → y.0 ≡ item.Fork f → f < length p.funcs)
     → AreNewMembers p s → AreNewMembers p next
 waiting_step p s i e next step known all =
     let m = move_of p s i e next step in

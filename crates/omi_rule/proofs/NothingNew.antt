@@ -9,12 +9,12 @@ use Rattle.omi_model.specs.declared.item.Item.{Item}
 use Rattle.omi_model.specs.declared.region.Region.{Region}
 use Rattle.omi_model.specs.declared.task.Task.{Task}
 use Rattle.omi_model.specs.Changes.{with_list}
-use Rattle.omi_model.specs.Put.{Slots, found, on}
+use Rattle.omi_model.specs.Put.{Slots, found, on, gone}
 use Rattle.omi_model.specs.Reached.{Step}
 use Rattle.omi_model.specs.Rules.{effect}
 use Rattle.omi_model.specs.State.{State}
 use Rattle.omi_model.proofs.SlotEffects.{OfSlots, slots_effect}
-use Rattle.omi_model.proofs.Slots.{none_some, on_empty, on_generations}
+use Rattle.omi_model.proofs.Slots.{none_some, on_empty, on_generations, gone_generations, gone_live}
 use Rattle.omi_model.proofs.Steps.{from_some, list_moves, move_of, moved_on}
 use Rattle.omi_layout.specs.Table.{per_thread, thread_count}
 use Rattle.omi_rep.specs.Shows.{AreWithin, LiveAreNamed}
@@ -42,6 +42,19 @@ none_same {A} x = record { generations = λ c j. refl; empty = λ c j e. e }
 pub none_on : {A : Type 0} (x : Slots A) (k : Id) (f : A → A) → IsNoneNew x (on x k f)
 none_on {A} x k f = record { generations = on_generations x k f; empty = on_empty x k f }
 
+none_trans : {A : Type 0} (x y z : Slots A) → IsNoneNew x y → IsNoneNew y z → IsNoneNew x z
+none_trans {A} x y z a b = record { generations = λ c j. b.generations c j ∙ a.generations c j; empty = λ c j e. b.empty c j (a.empty c j e) }
+
+none_gone : {A : Type 0} (x : Slots A) (k : Id) → IsNoneNew x (gone x k)
+none_gone {A} x k = record {
+  generations = gone_generations x k;
+  empty = λ c j none. by c j none (gone x k c j).live refl;
+}
+  where
+    by : (c j : ℕ) → (x c j).live ≡ None → (o : Option A) → (gone x k c j).live ≡ o → (gone x k c j).live ≡ None
+    by c j none None is = is
+    by c j none (Some v) is = absurd (none_some none (gone_live x k c j v is))
+
 nothing_trans : (s t u : State) → NothingNew s t → NothingNew t u → NothingNew s u
 nothing_trans s t u a b = record {
   regions = record { generations = λ c j. b.regions.generations c j ∙ a.regions.generations c j; empty = λ c j e. b.regions.empty c j (a.regions.empty c j e) };
@@ -59,9 +72,10 @@ module _ (z : State) (i : ℕ) where
   effect_new : (p : Program) → OfSlots p z i NoneNew
   effect_new p = record {
     stays = λ e same not. (none_same z.regions, none_same z.tasks);
-    tasks = λ e same n f not. (none_same z.regions, none_on z.tasks n.0 f);
-    defers = λ task x not. absurd (not tt);
-    starts_now = λ task x not. absurd (not tt);
+    tasks = λ e same slots q n f not. (none_same z.regions, none_trans z.tasks slots (on slots n.0 f) (q not).1 (none_on slots n.0 f));
+    frees = λ task not. (none_same z.regions, none_gone z.tasks task.0);
+    defers = λ task x fresh not. absurd (not tt);
+    starts_now = λ task x fresh not. absurd (not tt);
     forks = λ region team f k t r may not. absurd (not tt);
     arrives = λ k t is not. (none_on z.regions t.region.0 _, none_same z.tasks);
     releases = λ k t r is found may not. (none_on z.regions t.region.0 _, none_same z.tasks);

@@ -1,5 +1,5 @@
 -- What an event of a thread leaves to the other threads: their parts of the state, and the tasks that run on them.
-use Rattle.std.proofs.Common.{◌≡◌, ◌≢◌, ◌+◌, ℕ, ◌⊎◌, inl, inr, ◌++◌, Bool, true, false, List, [], ◌∷◌, slice_get, slice_index, slice_set, Option, Some, refl, sym, ap, ◌∙◌, subst}
+use Rattle.std.proofs.Common.{◌≡◌, ◌≢◌, ◌+◌, ℕ, ◌⊎◌, inl, inr, ◌++◌, Bool, true, false, List, [], ◌∷◌, slice_get, slice_index, slice_set, Option, Some, refl, sym, ap, ◌∙◌, subst, None}
 use Rattle.std.specs.Prelude.{IfSome, ⊤}
 use Rattle.std.specs.Option.{option_map}
 use Rattle.std.proofs.lemmas.List.{get_or-set_other}
@@ -13,7 +13,7 @@ use Rattle.omi_model.specs.declared.id.Rid.{Rid}
 use Rattle.omi_model.specs.declared.id.Tid.{Tid}
 use Rattle.omi_model.specs.declared.item.Item.{Item}
 use Rattle.omi_model.specs.declared.item.Item.TheVariants as item
-use Rattle.omi_model.specs.declared.progress.Progress.TheVariants.{Deferred, Begun}
+use Rattle.omi_model.specs.declared.progress.Progress.TheVariants.{Deferred, Begun, Finished}
 use Rattle.omi_model.specs.declared.region.Region.{Region}
 use Rattle.omi_model.specs.declared.task.Task.{Task}
 use Rattle.omi_model.specs.declared.thread.Thread.{Thread}
@@ -26,7 +26,7 @@ use Rattle.omi_model.specs.Reached.{Reached, Step}
 use Rattle.omi_model.specs.Rules.{Rule, effect}
 use Rattle.omi_model.specs.Settings.{entered, left, with_tool}
 use Rattle.omi_model.specs.State.{State, region_of, task_of}
-use Rattle.omi_model.specs.Tasking.{MayFinish, MayStart, deferred, deferred_task, finished, scheduled, started, started_alone, started_now}
+use Rattle.omi_model.specs.Tasking.{MayFinish, MayStart, deferred, deferred_task, finished, freed, freeing, scheduled, started, started_alone, started_now}
 use Rattle.omi_model.specs.Teams.{MayFork, forked, joined, member_task, new_region, task_ended, with_members}
 use Rattle.omi_model.proofs.ChainsKept.{have_chains}
 use Rattle.omi_model.proofs.members.EncounterLaws.{encounters}
@@ -35,6 +35,8 @@ use Rattle.omi_rule.specs.LeavesOthers.{EventsLeaveOthers, IsSameForOthers, IsSa
 use Rattle.omi_model.proofs.Slots.{each_put, made_beside, made_stays, none_some, on_other, on_same, put_other, same_or_not, some_same}
 use Rattle.omi_model.proofs.StaysKept.{AreNew, fresh_empty, new_team}
 use Rattle.omi_model.proofs.Steps.{from_some, is_relisted, list_moves, move_of, moved_on, of_current, of_current_region, of_region, of_set, on_fresh, relisted}
+use Rattle.omi_model.specs.LawStays.{is_free}
+use Rattle.omi_model.proofs.Chains.{top_of}
 
 same_thread : (h : Thread) → IsSameThread h h
 same_thread h = record { begun = refl; current = refl; wanted = refl; asks = refl; list = refl }
@@ -76,6 +78,8 @@ pub record KnowsOwn (z : State) (i : ℕ) : Type 0 where
   pub thread : (k : Tid) (t : Task) → IsCurrent z i k t → t.thread ≡ i
   pub member : (k : Tid) (t : Task) (r : Region) → IsCurrent z i k t → region_of z t.region ≡ Some r
       → (m : Tid × ℕ) × (slice_get r.team t.number ≡ Some m) × (m.1 ≡ i)
+  pub scheduling : (k : Tid) (t : Task) → IsCurrent z i k t → (n : Tid) (u : Task) → t.scheduling ≡ Some n
+      → task_of z n ≡ Some u → u.thread ≡ i
 
 -- ---- changes
 
@@ -324,11 +328,40 @@ module _ (z : State) (i : ℕ) (knows : KnowsOwn z i) where
     tasks_fresh = λ j n other fresh. fresh;
   }
 
-  effect_leaves : (p : Program) (e : Event) (y : Item) → Rule z i e y → IfSome (effect p z i e y) of_leaves
-  effect_leaves p event.Begin y rule = by_thread _
-  effect_leaves p event.Offer y rule = by_thread _
-  effect_leaves p (event.Want n) y rule = by_thread _
-  effect_leaves p (event.Ask w true) y rule = claims
+  -- a task finishes, and it may be given back in front of all that the task has ahead from which it was scheduled
+  by_finish : (k : Tid) (t : Task) → IsCurrent z i k t → LeavesOthers z (finished z i k t) i
+  by_finish k t is = go t.scheduling refl
+    where
+      over : Slots Task
+      over = on z.tasks k.0 (λ u. record u { progress = Finished })
+
+      go : (o : Option Tid) → t.scheduling ≡ o
+          → LeavesOthers z (record z { tasks = freeing (Some k) o over; threads = put z.threads i (record (z.threads i) { current = t.scheduling }) }) i
+      go None none = by_task_and_thread k (λ u. record u { progress = Finished }) _ (own_task z i k t is knows)
+      go (Some m) from = record {
+        environment = refl;
+        count = refl;
+        threads = thread_put z i _;
+        tasks = λ n u live other begun. beside n u live other begun (same_or_not n.0 m.0);
+        regions = regions_same z i;
+        regions_fresh = λ j n other fresh. fresh;
+        tasks_fresh = λ j n other fresh. on_fresh over m.0 (λ u. record u { frees = Some k }) j n (on_fresh z.tasks k.0 (λ u. record u { progress = Finished }) j n fresh);
+      }
+        where
+          beside : (n : Tid) (u : Task) → task_of z n ≡ Some u → u.thread ≢ i → (u.progress ≡ Deferred → ⊥)
+              → (n.0 ≡ m.0) ⊎ (n.0 ≡ m.0 → ⊥)
+              → named (on over m.0 (λ u. record u { frees = Some k })) n.0 ≡ Some u
+          beside n u live other begun (inl same) =
+              absurd (other (knows.scheduling k t is m u from (ap (named z.tasks) (sym same) ∙ live)))
+          beside n u live other begun (inr ne) =
+              on_other over m.0 (λ u. record u { frees = Some k }) n.0 ne
+              ∙ task_on z i k (λ u. record u { progress = Finished }) (own_task z i k t is knows) n u live other begun
+
+  effect_leaves : (p : Program) (e : Event) (y : Item) → is_free e ≡ false → Rule z i e y → IfSome (effect p z i e y) of_leaves
+  effect_leaves p event.Begin y held rule = by_thread _
+  effect_leaves p event.Offer y held rule = by_thread _
+  effect_leaves p (event.Want n) y held rule = by_thread _
+  effect_leaves p (event.Ask w true) y held rule = claims
     where
       h : Thread
       h = record (z.threads i) { asks = (z.threads i).asks ++ (w, true) ∷ [] }
@@ -349,60 +382,60 @@ module _ (z : State) (i : ℕ) (knows : KnowsOwn z i) where
         regions_fresh = λ j n other fresh. fresh;
         tasks_fresh = λ j n other fresh. fresh;
       }
-  effect_leaves p (event.Ask w false) y rule = by_thread _
-  effect_leaves p (event.Fork region team) (item.Fork f) rule =
+  effect_leaves p (event.Ask w false) y held rule = by_thread _
+  effect_leaves p (event.Fork region team) (item.Fork f) held rule =
       of_region z i (forked p z i region team f) of_leaves (λ k t r. MayFork z i region team) rule
       (λ k t r is found may. by_fork p region team f k t r may)
-  effect_leaves p (event.Fork region team) y rule = tt
-  effect_leaves p (event.ImplicitBegin task) y rule =
+  effect_leaves p (event.Fork region team) y held rule = tt
+  effect_leaves p (event.ImplicitBegin task) y held rule =
       by_task_and_thread task (λ t. record t { progress = Begun }) _
       (λ t live. let same : rule.member ≡ t = some_same rule.live live in inl (ap (λ (u : Task). u.thread) (sym same) ∙ rule.mine))
-  effect_leaves p (event.State state wait) y rule = by_thread _
-  effect_leaves p event.Enter y rule =
+  effect_leaves p (event.State state wait) y held rule = by_thread _
+  effect_leaves p event.Enter y held rule =
       of_current z i (entered z) of_leaves (λ k t. ⊤) rule
       (λ k t is h. by_task k _ (own_task z i k t is knows))
-  effect_leaves p event.Leave y rule =
+  effect_leaves p event.Leave y held rule =
       of_current z i (left z) of_leaves (λ k t. ⊤) rule (λ k t is h. by_task k _ (own_task z i k t is knows))
-  effect_leaves p event.Arrive y rule =
+  effect_leaves p event.Arrive y held rule =
       of_current_region z i (λ k t. arrived z t) of_leaves _ rule
       (λ k t r is found h. by_region t.region _ (arrives k t is))
-  effect_leaves p event.Release y rule =
+  effect_leaves p event.Release y held rule =
       of_current_region z i (λ k t. released z t) of_leaves _ rule
       (λ k t r is found h. by_region t.region _ (releases k t is h.first))
-  effect_leaves p event.Pass y rule = unchanged
-  effect_leaves p (event.ImplicitEnd task) y rule =
+  effect_leaves p event.Pass y held rule = unchanged
+  effect_leaves p (event.ImplicitEnd task) y held rule =
       of_current_region z i (task_ended z i) of_leaves _ rule
       (λ k t r is found h. by_all k _ t.region _ _ (own_task z i k t is knows) (λ q live. ends t q))
-  effect_leaves p (event.Join region) y rule =
+  effect_leaves p (event.Join region) y held rule =
       of_region z i (joined z i) of_leaves _ rule
       (λ k t r is found h. by_all k _ t.region _ _ (own_task z i k t is knows) (λ q live. joins q))
-  effect_leaves p (event.FreeTask task) y rule = tt
-  effect_leaves p (event.FreeRegion region) y rule = tt
-  effect_leaves p (event.Seen j) y rule = unchanged
-  effect_leaves p (event.Defer task) (item.Defer seen f final) rule =
+  effect_leaves p (event.FreeTask task) y held rule = absurd (cc held)
+  effect_leaves p (event.FreeRegion region) y held rule = tt
+  effect_leaves p (event.Seen j) y held rule = unchanged
+  effect_leaves p (event.Defer task) (item.Defer seen f final) held rule =
       of_current z i (deferred p z task f final seen) of_leaves (λ k t. IsFresh z.tasks i task.0) rule
       (λ k t is fresh. by_deferred task (deferred_task p k t f final seen) fresh)
-  effect_leaves p (event.Defer task) y rule = tt
-  effect_leaves p (event.StartNow task) (item.Defer seen f final) rule =
+  effect_leaves p (event.Defer task) y held rule = tt
+  effect_leaves p (event.StartNow task) (item.Defer seen f final) held rule =
       of_current z i (started_now p z i task f final) of_leaves (λ k t. IsFresh z.tasks i task.0) rule
       (λ k t is fresh. by_made task (scheduled i k t (deferred_task p k t f final 0)) _ fresh)
-  effect_leaves p (event.StartNow task) (item.StartNow f final) rule =
+  effect_leaves p (event.StartNow task) (item.StartNow f final) held rule =
       of_current z i (started_now p z i task f final) of_leaves (λ k t. IsFresh z.tasks i task.0) rule
       (λ k t is fresh. by_made task (scheduled i k t (deferred_task p k t f final 0)) _ fresh)
-  effect_leaves p (event.StartNow task) y rule = tt
-  effect_leaves p (event.Start task) (item.Tasks state) rule =
+  effect_leaves p (event.StartNow task) y held rule = tt
+  effect_leaves p (event.Start task) (item.Tasks state) held rule =
       of_current z i (started z i task) of_leaves (MayStart z task (item.Tasks state)) rule
       (λ k t is may. by_task_and_thread task _ _ (λ u live. let same : may.new ≡ u = some_same may.live live in inr (ap (λ (x : Task). x.progress) (sym same) ∙ may.deferred)))
-  effect_leaves p (event.Start task) item.OneTask rule =
+  effect_leaves p (event.Start task) item.OneTask held rule =
       of_current z i (started_alone z i task) of_leaves (MayStart z task item.OneTask) rule
       (λ k t is may. by_task_and_thread task _ _ (λ u live. let same : may.new ≡ u = some_same may.live live in inr (ap (λ (x : Task). x.progress) (sym same) ∙ may.deferred)))
-  effect_leaves p (event.Start task) y rule = tt
-  effect_leaves p (event.Finish task) y rule =
+  effect_leaves p (event.Start task) y held rule = tt
+  effect_leaves p (event.Finish task) y held rule =
       of_current z i (finished z i) of_leaves (MayFinish task) rule
-      (λ k t is h. by_task_and_thread k _ _ (own_task z i k t is knows))
-  effect_leaves p event.WaitDone y rule = unchanged
-  effect_leaves p event.Yield y rule = unchanged
-  effect_leaves p (event.Set icv value) y rule =
+      (λ k t is h. by_finish k t is)
+  effect_leaves p event.WaitDone y held rule = unchanged
+  effect_leaves p event.Yield y held rule = unchanged
+  effect_leaves p (event.Set icv value) y held rule =
       of_set z i icv value of_leaves rule whole (λ k t v is e. by_task k _ (own_task z i k t is knows))
     where
       whole : LeavesOthers z (record z { max_active = value }) i
@@ -415,16 +448,16 @@ module _ (z : State) (i : ℕ) (knows : KnowsOwn z i) where
         regions_fresh = λ j n other fresh. fresh;
         tasks_fresh = λ j n other fresh. fresh;
       }
-  effect_leaves p (event.SetTool x) y rule =
+  effect_leaves p (event.SetTool x) y held rule =
       of_current z i (λ k t. with_tool z x k) of_leaves (λ k t. ⊤) rule
       (λ k t is h. by_task k _ (own_task z i k t is knows))
-  effect_leaves p (event.Lock k) y rule = by_locks _
-  effect_leaves p (event.Unlock k) y rule = by_locks _
-  effect_leaves p event.Work y rule = unchanged
-  effect_leaves p (event.Call f) y rule = unchanged
-  effect_leaves p event.Skip y rule = unchanged
-  effect_leaves p event.Ret y rule = unchanged
-  effect_leaves p event.Done y rule = unchanged
+  effect_leaves p (event.Lock k) y held rule = by_locks _
+  effect_leaves p (event.Unlock k) y held rule = by_locks _
+  effect_leaves p event.Work y held rule = unchanged
+  effect_leaves p (event.Call f) y held rule = unchanged
+  effect_leaves p event.Skip y held rule = unchanged
+  effect_leaves p event.Ret y held rule = unchanged
+  effect_leaves p event.Done y held rule = unchanged
 
 -- ---- a step
 
@@ -448,16 +481,21 @@ knows_moved s i zs knows =
           let (m, at, runs) =
           knows.member k v r (record { name = sym (o.currents i) ∙ is.name; live = live }) there in
           (m, subst (λ (u : Task). slice_get r.team u.number ≡ Some m) (sym same) at, runs);
+      scheduling = λ k t is n u from there.
+          let (v, xs, live, same) = o.tasks k t is.live in
+          let (w, ys, was, alike) = o.tasks n u there in
+          ap (λ (x : Task). x.thread) alike
+          ∙ knows.scheduling k v (record { name = sym (o.currents i) ∙ is.name; live = live }) n w (ap (λ (x : Task). x.scheduling) (sym same) ∙ from) was;
     }
 
-pub step_leaves : (p : Program) (s : State) (i : ℕ) (e : Event) (next : State) → KnowsOwn s i
+pub step_leaves : (p : Program) (s : State) (i : ℕ) (e : Event) (next : State) → is_free e ≡ false → KnowsOwn s i
     → Step p s i e next → LeavesOthers s next i
-step_leaves p s i e next knows step =
+step_leaves p s i e next held knows step =
     let m = move_of p s i e next step in
     let middle : State = moved_on s i e m.item m.behind in
     let own : KnowsOwn middle i = knows_moved s i _ knows in
     leaves_trans s middle next i (list_leaves s i _ knows)
-    (from_some (λ u. LeavesOthers middle u i) (effect p middle i e m.item) next m.effect_is (effect_leaves middle i own p e m.item m.rule_moved))
+    (from_some (λ u. LeavesOthers middle u i) (effect p middle i e m.item) next m.effect_is (effect_leaves middle i own p e m.item held m.rule_moved))
 
 -- ---- what is known of a reached state
 
@@ -466,8 +504,17 @@ pub known_own : (p : Program) (events : List (ℕ × Event)) (s : State) → Rea
 known_own p events s reached i = record {
   thread = λ k t is. let (ks, chain) = have_chains p events s reached i in on_chain k t is ks chain;
   member = λ k t r is found. member k t r is found t.implicit refl;
+  scheduling = λ k t is n u from there. let (ks, chain) = have_chains p events s reached i in below k t is n u from there ks chain;
 }
   where
+    below : (k : Tid) (t : Task) → IsCurrent s i k t → (n : Tid) (u : Task) → t.scheduling ≡ Some n
+        → task_of s n ≡ Some u → (ks : List Tid) → IsChain s i (s.threads i).current ks → u.thread ≡ i
+    below k t is n u from there ks chain =
+        let (ns, v, list, apart, live, mine, begun, rest) = top_of s i (s.threads i).current ks k is.name chain in
+        let on : v.scheduling ≡ Some n = ap (λ (x : Task). x.scheduling) (some_same live is.live) ∙ from in
+        let (ms, w, list_n, apart_n, live_n, mine_n, begun_n, rest_n) = top_of s i v.scheduling ns n on rest in
+        ap (λ (x : Task). x.thread) (some_same there live_n) ∙ mine_n
+
     on_chain : (k : Tid) (t : Task) → IsCurrent s i k t → (ks : List Tid)
         → IsChain s i (s.threads i).current ks → t.thread ≡ i
     on_chain k t is [] none = absurd (none_some none is.name)
@@ -503,4 +550,27 @@ known_own p events s reached i = record {
 
 pub events_leave_others : EventsLeaveOthers
 events_leave_others =
-    λ p events s reached i e next step. step_leaves p s i e next (known_own p events s reached i) step
+    λ p events s reached i e next held step. step_leaves p s i e next held (known_own p events s reached i) step
+
+-- every event leaves the environment of the program
+pub step_environment : (p : Program) (events : List (ℕ × Event)) (s : State) → Reached p events s → (i : ℕ)
+    (e : Event) (next : State) → Step p s i e next → next.environment ≡ s.environment
+step_environment p events s reached i e next step =
+    let m = move_of p s i e next step in
+    let middle : State = moved_on s i e m.item m.behind in
+    from_some (λ u. u.environment ≡ middle.environment) (effect p middle i e m.item) next m.effect_is
+    (of_event middle (knows_moved s i _ (known_own p events s reached i)) e m.item m.rule_moved)
+    ∙ (list_leaves s i _ (known_own p events s reached i)).environment
+  where
+    go : (z : State) (o : Option State) → IfSome o (λ u. LeavesOthers z u i)
+        → IfSome o (λ u. u.environment ≡ z.environment)
+    go z None h = tt
+    go z (Some u) h = h.environment
+
+    of_event : (z : State) → KnowsOwn z i → (e : Event) (y : Item) → Rule z i e y
+        → IfSome (effect p z i e y) (λ u. u.environment ≡ z.environment)
+    of_event z knows (event.FreeTask task) (item.Frees n) rule =
+        of_current z i (freed z task) (λ u. u.environment ≡ z.environment) _ rule (λ k t is h. refl)
+    of_event z knows (event.FreeTask task) y rule = absurd rule
+    of_event z knows (event.FreeRegion region) y rule = tt
+    of_event z knows e y rule = go z (effect p z i e y) (effect_leaves z i knows p e y refl rule)

@@ -6,7 +6,7 @@ use Rattle.omi_script.specs.declared.program.Program.{Program}
 use Rattle.omi_model.specs.declared.event.Event.{Event}
 use Rattle.omi_model.specs.declared.id.Tid.{Tid}
 use Rattle.omi_model.specs.declared.item.Item.{Item}
-use Rattle.omi_model.specs.Changes.{encounter, list_of, on_task, on_thread, with_list}
+use Rattle.omi_model.specs.Changes.{encounter, ahead_of, in_front, on_task, on_thread, with_list}
 use Rattle.omi_model.specs.Lists.{stays, take_item}
 use Rattle.omi_model.specs.Reached.{Step}
 use Rattle.omi_model.specs.Rules.{Rule, effect, moved}
@@ -37,7 +37,7 @@ owed_after w m s actors i a o is keeps = subst (λ (owes : ℕ → Owed). KeepsW
 
 -- an event takes an item, and its effect leads to a state
 pub step_of : (p : Program) (s : State) (i : ℕ) (e : Event) (u : State) (y : Item) (ys : List Item)
-    → i < s.count → take_item p (encounter s i) e (list_of s i) ≡ Some (y, ys) → Rule s i e y
+    → i < s.count → take_item p (encounter s i) e (ahead_of s i) ≡ Some (y, ys) → Rule s i e y
     → effect p (with_list s i (stays (encounter s i) e y ys)) i e y ≡ Some u → Step p s i e u
 step_of p s i e u y ys known taken rule is = record {
   legal = record { known = known; item = y; behind = ys; taken = taken; rule = rule };
@@ -45,13 +45,13 @@ step_of p s i e u y ys known taken rule is = record {
 }
 
 -- a thread without a task: its list, and the state in which its list has moved on
-pub idle_list : (s : State) (i : ℕ) → (s.threads i).current ≡ None → list_of s i ≡ (s.threads i).list
+pub idle_list : (s : State) (i : ℕ) → (s.threads i).current ≡ None → ahead_of s i ≡ (s.threads i).list
 idle_list s i none =
     ap
-    (λ (n : Option Tid). option_map_or (λ t. t.list) (option_and_then (task_of s) n) (s.threads i).list) none
+    (λ (n : Option Tid). option_map_or (λ t. in_front t.frees t.list) (option_and_then (task_of s) n) (s.threads i).list) none
 
 pub idle_moved : (s : State) (i : ℕ) (zs : List Item) → (s.threads i).current ≡ None
     → with_list s i zs ≡ on_thread s i (λ h. record h { list = zs })
 idle_moved s i zs none =
     ap
-    (λ (n : Option Tid). option_map_or (λ k. on_task s k (λ t. record t { list = zs })) n (on_thread s i (λ h. record h { list = zs }))) none
+    (λ (n : Option Tid). option_map_or (λ k. on_task s k (λ t. record t { frees = None; list = zs })) n (on_thread s i (λ h. record h { list = zs }))) none

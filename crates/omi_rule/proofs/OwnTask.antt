@@ -1,18 +1,18 @@
 -- A thread's step in its own task: the state after an event on the task, and where the thread stands in it.
-use Rattle.std.proofs.Common.{◌≡◌, ℕ, List, [], ◌∷◌, Option, Some, refl, sym, ap, ◌∙◌, subst}
+use Rattle.std.proofs.Common.{◌≡◌, ℕ, List, [], ◌∷◌, Option, Some, refl, sym, ap, ◌∙◌, subst, None}
 use Rattle.std.specs.Option.{option_and_then, option_map, option_map_or}
 use Rattle.omi_script.specs.declared.program.Program.{Program}
 use Rattle.omi_model.specs.declared.id.Tid.{Tid}
 use Rattle.omi_model.specs.declared.item.Item.{Item}
 use Rattle.omi_model.specs.declared.region.Region.{Region}
 use Rattle.omi_model.specs.declared.task.Task.{Task}
-use Rattle.omi_model.specs.Changes.{IsCurrent, encounter, encounter_by, list_of, on_task, on_thread, with_list}
+use Rattle.omi_model.specs.Changes.{IsCurrent, encounter, encounter_by, list_of, on_task, on_thread, with_list, ahead_of}
 use Rattle.omi_model.specs.declared.event.Event.{Event}
 use Rattle.omi_model.specs.Put.{Slots, named, on}
 use Rattle.omi_model.specs.Reached.{Reached}
 use Rattle.omi_model.specs.State.{State, task_of}
 use Rattle.omi_model.proofs.ChainsKept.{have_chains}
-use Rattle.omi_model.proofs.EachObject.{list_of_current}
+use Rattle.omi_model.proofs.EachObject.{list_of_current, ahead_of_current}
 use Rattle.omi_model.proofs.Slots.{on_other, on_same, some_same}
 use Rattle.omi_model.proofs.Steps.{relisted}
 use Rattle.omi_pc.specs.declared.actor.Actor.{Actor}
@@ -31,6 +31,9 @@ use Rattle.omi_rule.specs.Chains.{IsWorkerAhead, KeepsBodies, KeepsBody, KeepsCo
 use Rattle.omi_rule.proofs.BodyMoves.{IsOfBodies}
 use Rattle.omi_rule.proofs.OthersStand.{of_innermost}
 use Rattle.omi_rule.proofs.Own.{AreBelow, ChangesTask, IsAlike, below_current, bodies_kept, encounter_kept}
+use Rattle.omi_model.proofs.FreesLists.{no_frees, taken_behind}
+use Rattle.omi_model.specs.Lists.{take_item}
+use Rattle.omi_model.specs.declared.encounter.Encounter.{Encounter}
 
 -- ---- facts of open bodies
 
@@ -105,6 +108,13 @@ module _ (p : Program) (s : State) (i : ℕ) (a : Actor) (o : StandsInTask p s i
   pub own_list : list_of s i ≡ top.task.list
   own_list = list_of_current s i a.context.task top.task is_current
 
+  -- an event that its list allows
+  pub own_taken : (events : List (ℕ × Event)) → Reached p events s → (at : Encounter) (e : Event) (y : Item) (zs : List Item)
+      → take_item p at e top.task.list ≡ Some (y, zs) → take_item p at e (ahead_of s i) ≡ Some (y, zs)
+  own_taken events reached at e y zs taken =
+      ap (take_item p at e) (ahead_of_current s i a.context.task top.task is_current)
+      ∙ taken_behind p at e top.task.frees top.task.list y zs (no_frees p events s reached a.context.task top.task top.live) taken
+
   pub own_encounter : encounter s i ≡ encounter_of s a.context
   own_encounter =
       ap (λ (n : Option Tid). encounter_by s (option_and_then (task_of s) n)) o.current
@@ -116,7 +126,7 @@ module _ (p : Program) (s : State) (i : ℕ) (a : Actor) (o : StandsInTask p s i
   pub list_moved : (zs : List Item) → with_list s i zs ≡ on_task s a.context.task (relisted zs)
   list_moved zs =
       ap
-      (λ (n : Option Tid). option_map_or (λ k. on_task s k (λ t. record t { list = zs })) n (on_thread s i (λ h. record h { list = zs }))) o.current
+      (λ (n : Option Tid). option_map_or (λ k. on_task s k (λ t. record t { frees = None; list = zs })) n (on_thread s i (λ h. record h { list = zs }))) o.current
 
   -- a state in which the own task is another
   pub own_changes : (f : Task → Task) (u : State)

@@ -13,7 +13,7 @@ use Rattle.omi_model.specs.State.{State, scheduling_of, task_of}
 use Rattle.omi_model.specs.Visible.{HasStarted, IsVisibleRegion, IsVisibleTask}
 use Rattle.omi_model.specs.WellFormed.{Ends, IsMember, IsTaskRight, IsWellFormed}
 use Rattle.omi_model.proofs.Slots.{on_other, on_same, same_or_not, some_same}
-use Rattle.omi_model.proofs.Steps.{relisted}
+use Rattle.omi_model.proofs.Steps.{relisted, relisted_to}
 use Rattle.omi_layout.specs.Field.{tasks}
 use Rattle.omi_rep.specs.Shows.{IsWithin}
 use Rattle.omi_rule.proofs.NothingNew.{named_stays, none_on, within_stays}
@@ -35,16 +35,16 @@ module _ (s : State) (k : Tid) (zs : List Item) where
       go (inr other) = inl (on_other s.tasks k.0 (relisted zs) n.0 other)
 
   later : (n : Tid) (t : Task) → task_of s n ≡ Some t
-      → (xs : List Item) × (task_of u n ≡ Some (relisted xs t))
+      → (xs : Option Tid × List Item) × (task_of u n ≡ Some (relisted_to xs t))
   later n t live = go (same_but_lists n)
     where
       go : (task_of u n ≡ task_of s n) ⊎ (task_of u n ≡ option_map (relisted zs) (task_of s n))
-          → (xs : List Item) × (task_of u n ≡ Some (relisted xs t))
-      go (inl same) = (t.list, same ∙ live)
-      go (inr moved) = (zs, moved ∙ ap (option_map (relisted zs)) live)
+          → (xs : Option Tid × List Item) × (task_of u n ≡ Some (relisted_to xs t))
+      go (inl same) = ((t.frees, t.list), same ∙ live)
+      go (inr moved) = ((None, zs), moved ∙ ap (option_map (relisted zs)) live)
 
   earlier : (n : Tid) (v : Task) → task_of u n ≡ Some v
-      → (t : Task) × (xs : List Item) × (task_of s n ≡ Some t) × (v ≡ relisted xs t)
+      → (t : Task) × (xs : Option Tid × List Item) × (task_of s n ≡ Some t) × (v ≡ relisted_to xs t)
   earlier n v live = by (task_of s n) refl
     where
       gone : task_of s n ≡ None
@@ -53,7 +53,7 @@ module _ (s : State) (k : Tid) (zs : List Item) where
       gone e (inr moved) = cc (sym live ∙ moved ∙ ap (option_map (relisted zs)) e)
 
       by : (o : Option Task) → task_of s n ≡ o
-          → (t : Task) × (xs : List Item) × (task_of s n ≡ Some t) × (v ≡ relisted xs t)
+          → (t : Task) × (xs : Option Tid × List Item) × (task_of s n ≡ Some t) × (v ≡ relisted_to xs t)
       by (Some t) e = let (xs, now) = later n t e in (t, xs, e, some_same live now)
       by None e = absurd (gone e (same_but_lists n))
 
@@ -89,10 +89,10 @@ module _ (s : State) (k : Tid) (zs : List Item) where
   task_later : (n : Tid) → IsVisibleTask s n → IsVisibleTask u n
   task_later n seen =
       let (xs, now) = later n seen.task seen.live in
-      record { task = relisted xs seen.task; live = now; shown = shown_as s u region_later seen.task.implicit seen.task.region (HasStarted seen.task.progress) seen.shown }
+      record { task = relisted_to xs seen.task; live = now; shown = shown_as s u region_later seen.task.implicit seen.task.region (HasStarted seen.task.progress) seen.shown }
 
   task_earlier : (n : Tid) (seen : IsVisibleTask u n)
-      → (was : IsVisibleTask s n) × (xs : List Item) × (seen.task ≡ relisted xs was.task)
+      → (was : IsVisibleTask s n) × (xs : Option Tid × List Item) × (seen.task ≡ relisted_to xs was.task)
   task_earlier n seen =
       let (t, xs, was, same) = earlier n seen.task seen.live in
       (record { task = t; live = was; shown = shown_as u s region_earlier t.implicit t.region (HasStarted t.progress) (subst (λ (x : Task). MatchBool x.implicit (IsVisibleRegion u x.region) (HasStarted x.progress)) same seen.shown) }, xs, same)
@@ -147,7 +147,7 @@ module _ (s : State) (k : Tid) (zs : List Item) where
     tasks = λ n seen.
         let (was, xs, same) = task_earlier n seen in
         let right = o.tasks n was in
-        subst (IsTaskRight u) (sym same) (task_right (relisted xs was.task) (record {
+        subst (IsTaskRight u) (sym same) (task_right (relisted_to xs was.task) (record {
           region = right.region;
           generating = right.generating;
           scheduling = right.scheduling;

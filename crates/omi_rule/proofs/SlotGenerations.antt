@@ -20,7 +20,7 @@ use Rattle.omi_model.specs.State.{State}
 use Rattle.omi_model.specs.Teams.{member_task, with_members}
 use Rattle.omi_model.proofs.EachObject.{over_events}
 use Rattle.omi_model.proofs.SlotEffects.{OfSlots, slots_effect}
-use Rattle.omi_model.proofs.Slots.{each_slot, on_generations}
+use Rattle.omi_model.proofs.Slots.{each_slot, on_generations, gone_generations}
 use Rattle.omi_model.proofs.Steps.{from_some, list_moves, move_of, moved_on}
 use Rattle.omi_rule_words.proofs.MadeMembers.{all_at}
 
@@ -79,9 +79,10 @@ module _ (p : Program) (z : State) (i : ℕ) (all : AllFew z) where
   effect_few : OfSlots p z i (λ e regions tasks. MakesBelow e → AreFew regions × AreFew tasks)
   effect_few = record {
     stays = λ e same below. all;
-    tasks = λ e same n f below. (all.0, by_task n f);
-    defers = λ task x below. (all.0, few_made z.tasks task.0 x below all.1);
-    starts_now = λ task x below. (all.0, few_made z.tasks task.0 x below all.1);
+    tasks = λ e same slots q n f below. (all.0, few_on slots n.0 f (q below).1);
+    frees = λ task below. (all.0, λ c k. subst (λ g. g ≤ 2 ^ 32) (sym (gone_generations z.tasks task.0 c k)) (all.1 c k));
+    defers = λ task x fresh below. (all.0, few_made z.tasks task.0 x below all.1);
+    starts_now = λ task x fresh below. (all.0, few_made z.tasks task.0 x below all.1);
     forks = λ region team f k t r may below. (
       few_made z.regions region.0 _ may.region_new.below all.0,
       few_members (member_task p region k t r f) 0 team z.tasks (λ n m at. (all_at (λ (x : Tid × ℕ). IsFresh z.tasks i x.0.0) team may.tasks_new n m at).below) all.1,

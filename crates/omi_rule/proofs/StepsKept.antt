@@ -37,5 +37,5 @@ module _ (p : Program) (w : List ℕ) (m : Memory) (events : List (ℕ × Event)
 pub steps_keep : StepsKeepRule
 steps_keep = λ p w m events s actors i valid suits rule known few kept.
     by_family p w m events s actors i
-    (record { valid = valid; suits = suits; rule = rule; known = known; few = few; barriers = λ e u step j there other c at row. barrier_rows_stay p w m events s actors rule i known e u step j there other c at row })
+    (record { valid = valid; suits = suits; rule = rule; known = known; few = few; barriers = λ e u held step j there other c at row. barrier_rows_stay p w m events s actors rule i known e u held step j there other c at row })
     (actors i).counter refl kept

@@ -1,5 +1,5 @@
 -- What an event of a thread leaves to the other threads: their parts of the state, and the tasks that run on them.
-use Rattle.std.specs.Prelude.{◌≡◌, ◌≢◌, ℕ, List, slice_get, slice_index, Some}
+use Rattle.std.specs.Prelude.{◌≡◌, ◌≢◌, ℕ, List, slice_get, slice_index, Some, false}
 use Rattle.omi_script.specs.declared.program.Program.{Program}
 use Rattle.omi_model.specs.declared.event.Event.{Event}
 use Rattle.omi_model.specs.declared.id.Id.{Id}
@@ -12,6 +12,7 @@ use Rattle.omi_model.specs.declared.thread.Thread.{Thread}
 use Rattle.omi_model.specs.Fresh.{IsFresh}
 use Rattle.omi_model.specs.Reached.{Reached, Step}
 use Rattle.omi_model.specs.State.{State, region_of, task_of}
+use Rattle.omi_model.specs.LawStays.{is_free}
 
 -- a thread that another one leaves as it is, but for its claim
 pub record IsSameThread (h g : Thread) : Type 0 where
@@ -38,7 +39,7 @@ pub record LeavesOthers (s u : State) (i : ℕ) : Type 0 where
   pub regions_fresh : (j : ℕ) (n : Id) → j ≢ i → IsFresh s.regions j n → IsFresh u.regions j n
   pub tasks_fresh : (j : ℕ) (n : Id) → j ≢ i → IsFresh s.tasks j n → IsFresh u.tasks j n
 
--- of every reached state
+-- of every reached state, for each event but those that give a record back
 abbrev pub EventsLeaveOthers : Type 0
 EventsLeaveOthers = (p : Program) (events : List (ℕ × Event)) (s : State) → Reached p events s
-    → (i : ℕ) (e : Event) (next : State) → Step p s i e next → LeavesOthers s next i
+    → (i : ℕ) (e : Event) (next : State) → is_free e ≡ false → Step p s i e next → LeavesOthers s next i

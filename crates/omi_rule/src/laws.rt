@@ -10,7 +10,7 @@ pub fn opening_keeps()
     ensures { OpeningKeepsRule }
 {}
 
-/// An event of a thread leaves the other threads' parts of the state as they are, but that it may claim a thread: what a thread wants,
+/// An event of a thread that gives no record back leaves the other threads' parts of the state as they are, but that it may claim a thread: what a thread wants,
 /// has asked and has ahead, the tasks that run on it, its members' arrivals, the releases of its regions, and what is fresh for it.
 pub fn events_leave_others()
     ensures { EventsLeaveOthers }

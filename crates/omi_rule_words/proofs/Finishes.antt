@@ -12,7 +12,7 @@ use Rattle.omi_model.specs.declared.task.Task.{Task}
 use Rattle.omi_model.specs.Changes.{on_task}
 use Rattle.omi_model.specs.LawNames.{AreNamesLive}
 use Rattle.omi_model.specs.State.{State, region_of, task_of}
-use Rattle.omi_model.specs.Tasking.{finished}
+use Rattle.omi_model.specs.Tasking.{finished, freeing}
 use Rattle.omi_model.proofs.Slots.{on_same, some_same}
 use Rattle.omi_layout.specs.declared.field.Field.TheVariants.{ThreadCurrent}
 use Rattle.omi_layout.specs.Field.{tasks, threads}
@@ -29,6 +29,7 @@ use Rattle.omi_rule_words.specs.ExplicitKinds.{FinishesKeep, IsRunning}
 use Rattle.omi_rule_words.proofs.Changed.{current_stored}
 use Rattle.omi_rule_words.proofs.OtherCounts.{owed_put}
 use Rattle.omi_rule_words.proofs.TaskMoves.{GoesTo, TeamsAlike, generating_same, some_after, task_moved, tasks_recounted}
+use Rattle.omi_rule_words.proofs.ListMoves.{freeing_keeps}
 
 module _ (w : List ℕ) (m : Memory) (s : State) (owes : ℕ → Owed) (i : ℕ) (k : Tid) (t : Task) (h : Tid)
     (keeps : KeepsWords w m s owes) (within : IsWithin w s) (names : AreNamesLive s) (known : i < s.count)
@@ -107,7 +108,8 @@ module _ (w : List ℕ) (m : Memory) (s : State) (owes : ℕ → Owed) (i : ℕ)
 
   pub task_finishes : KeepsWords w (with_word m i threads 0 (number ThreadCurrent) 0 (task_word w t.scheduling)) (finished s i k t) (replace_at owes i p)
   task_finishes =
-      current_stored w m after (replace_at owes i p) i t.scheduling
+      current_stored w m (record after { tasks = freeing (Some k) t.scheduling after.tasks }) (replace_at owes i p) i t.scheduling
+      (freeing_keeps w m after (replace_at owes i p) (Some k) t.scheduling
       (task_moved w s k t g running.live goes m owes i p keeps
       (subst (λ (o : Owed). TeamsAlike p o) (sym owed) (record { region = refl; tasks = refl; left = refl; assigns = refl; met = refl }))
       (λ n.
@@ -140,7 +142,7 @@ module _ (w : List ℕ) (m : Memory) (s : State) (owes : ℕ → Owed) (i : ℕ)
       (λ q _. sym (ap (start_owed q) owed))
       (λ j q below _ is same.
       let (u, live, deferred) = keeps.deferred.hands j q below is in
-      undeferred u (subst (λ (n : Id). task_of s (record { 0 = n }) ≡ Some u) same live) deferred))
+      undeferred u (subst (λ (n : Id). task_of s (record { 0 = n }) ≡ Some u) same live) deferred)))
       known
 
 pub finishes_keep : FinishesKeep

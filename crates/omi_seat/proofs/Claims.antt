@@ -12,7 +12,7 @@ use Rattle.omi_model.specs.declared.id.Tid.{Tid}
 use Rattle.omi_model.specs.declared.item.Item.{Item}
 use Rattle.omi_model.specs.declared.item.Item.TheVariants as item
 use Rattle.omi_model.specs.declared.thread.Thread.{Thread}
-use Rattle.omi_model.specs.Changes.{encounter, list_of, on_thread}
+use Rattle.omi_model.specs.Changes.{encounter, ahead_of, on_thread}
 use Rattle.omi_model.specs.LawClaims.{IsForking}
 use Rattle.omi_model.specs.LawStays.{Stays}
 use Rattle.omi_model.specs.Lists.{fits, stays}
@@ -184,7 +184,7 @@ module _ (p : Program) (events : List (ℕ × Event)) (s : State) (reached : Rea
   middle = moved_on s i e move.item move.behind
 
   item_fits : fits e move.item ≡ true
-  item_fits = take_fits p (encounter s i) e (list_of s i) move.item move.behind move.taken
+  item_fits = take_fits p (encounter s i) e (ahead_of s i) move.item move.behind move.taken
 
   own_asks : is_asking move.item ≡ true → (next.threads i).asks ≡ asks_after (s.threads i).asks e
   own_asks asking =

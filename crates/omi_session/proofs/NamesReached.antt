@@ -25,6 +25,7 @@ RegionFits n r = n.0.generation < 2 ^ 32
 task_law : (p : Program) (s : State) (i : ℕ) (e : Event) (y : Item) (next : State)
     → IsTaskLaw p s i e y next TaskFits
 task_law p s i e y next = record {
+  frees = λ k t free how h. h;
   shows = λ k t enter h. h;
   tools = λ k t x h. h;
   sets = λ k t icv value v is at h. h;

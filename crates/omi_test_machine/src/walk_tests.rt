@@ -222,7 +222,8 @@ fn propose(
     }
 }
 
-/// Proposes the events that fit the head of a thread's list, and those behind it that may be passed over to.
+/// Proposes that a finished task is given back, where one may be, and the events that fit the head of a thread's list, and
+/// those behind it that may be passed over to.
 fn propose_thread(
     s: &State,
     i: u8,
@@ -231,7 +232,10 @@ fn propose_thread(
 ) -> Result<(), OutOfMemory>
     requires { i < (state_of s.now).count }
 {
-    let items = s.list_of(i as usize);
+    let (frees, items) = s.ahead_of(i as usize);
+    if let Some(task) = frees {
+        list.push((i, Event::FreeTask { task }))?;
+    }
     for k in 0..items.len() {
         let x = *items.get(k);
         propose(s, i, head_item(s.encounter(i as usize), x), dice, list)?;

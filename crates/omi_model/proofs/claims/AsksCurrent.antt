@@ -14,7 +14,7 @@ use Rattle.omi_model.specs.declared.item.Item.TheVariants as item
 use Rattle.omi_model.specs.declared.progress.Progress.TheVariants.{Begun, Deferred, Finished}
 use Rattle.omi_model.specs.declared.task.Task.{Task}
 use Rattle.omi_model.specs.declared.thread.Thread.{Thread}
-use Rattle.omi_model.specs.Changes.{IsCurrent, encounter, list_of, on_thread, with_list}
+use Rattle.omi_model.specs.Changes.{IsCurrent, encounter, ahead_of, in_front, on_thread, with_list}
 use Rattle.omi_model.specs.Fresh.{IsFresh}
 use Rattle.omi_model.specs.LawClaims.{IsForking, asks_next}
 use Rattle.omi_model.specs.Lists.{fits, stays, take_item}
@@ -23,24 +23,27 @@ use Rattle.omi_model.specs.Reached.{Reached, Step}
 use Rattle.omi_model.specs.Rules.{Rule, effect}
 use Rattle.omi_model.specs.State.{State, task_of}
 use Rattle.omi_model.specs.Teams.{asked}
-use Rattle.omi_model.proofs.claims.AsksPlaced.{StartsPlaced, asks_at_head, asks_taken, is_asking, is_forking, main_plain, member_plain, start_plain, stays_asking, stays_placed, take_placed, task_plain}
+use Rattle.omi_model.proofs.claims.AsksPlaced.{StartsPlaced, asks_at_head, asks_taken, is_asking, is_forking, main_plain, member_plain, start_plain, stays_asking, stays_placed, take_placed, task_plain, Placed}
 use Rattle.omi_model.proofs.BarrierSteps.{current_after}
-use Rattle.omi_model.proofs.ChainsKept.{current_begun, current_kept}
-use Rattle.omi_model.proofs.EachObject.{EachTask, IsTaskLaw, list_of_current, task_step_from}
-use Rattle.omi_model.proofs.ListLaws.{take_fits}
+use Rattle.omi_model.proofs.ChainsKept.{current_begun, current_kept, have_chains}
+use Rattle.omi_model.proofs.EachObject.{EachTask, IsTaskLaw, ahead_of_current, task_step_from, IsFreeing}
+use Rattle.omi_model.proofs.ListLaws.{take_fits, by_taken, is_frees, taken_plain}
 use Rattle.omi_model.proofs.NamesLive.{names_live}
 use Rattle.omi_model.proofs.OpeningObjects.{each_first_task}
 use Rattle.omi_model.proofs.ReachedStates.{over_reached}
 use Rattle.omi_model.proofs.Slots.{each_put, false_true, found_live, none_some, put_same, some_same}
 use Rattle.omi_model.proofs.StaysKept.{fresh_empty, list_keeps}
-use Rattle.omi_model.proofs.Steps.{IsMove, IsRelisted, from_some, is_relisted, move_of, moved_on}
+use Rattle.omi_model.proofs.Steps.{IsMove, IsRelisted, from_some, is_relisted, move_of, moved_on, relisted}
 use Rattle.omi_model.proofs.claims.WorkerLists.{have_places, taken_at}
+use Rattle.omi_model.specs.LawChains.{IsApart}
+use Rattle.omi_model.proofs.Chains.{top_of}
 
 -- the asks stand in their places; where they are next, the task is current, and runs
 pub record HasAsks (s : State) (k : Tid) (t : Task) : Type 0 where
   pub placed : StartsPlaced t.list
   pub first : t.progress ≡ Deferred → asks_next t.list ≡ false
   pub top : asks_next t.list ≡ true → (s.threads t.thread).current ≡ Some k
+  pub alone : asks_next t.list ≡ true → t.frees ≡ None
 
 -- the same after an event of thread i that takes an item, by the state before
 pub record AreNext (s : State) (i : ℕ) (y : Item) (k : Tid) (t : Task) : Type 0 where
@@ -53,6 +56,7 @@ pub record HadAsks (s : State) (i : ℕ) (y : Item) (k : Tid) (t : Task) : Type 
   pub placed : StartsPlaced t.list
   pub first : t.progress ≡ Deferred → asks_next t.list ≡ false
   pub top : asks_next t.list ≡ true → AreNext s i y k t
+  pub alone : asks_next t.list ≡ true → t.frees ≡ None
 
 -- a task that was there, and that this thread does not run, has its asks next still
 abbrev pub KeepsAsks : State → ℕ → Tid → Task → Type 0
@@ -97,18 +101,22 @@ new_name s i zs n v fresh found =
     none_some (fresh_empty next.tasks i n.0 fresh)
     (found_live n.0.generation (next.tasks n.0.creator n.0.slot) w found_w)
 
+forking_plain : (y : Item) → is_forking y ≡ true → is_frees y ≡ false
+forking_plain (item.Frees n) forks = absurd (false_true forks)
+forking_plain y forks = refl
+
 -- an ask or a fork is taken where a fork is in the making
 pub forking_taken : (p : Program) (events : List (ℕ × Event)) (s : State) → Reached p events s
     → (i : ℕ) (e : Event) → EachTask (HasAsks s) s → (y : Item) (ys : List Item)
-    → take_item p (encounter s i) e (list_of s i) ≡ Some (y, ys) → is_forking y ≡ true → IsForking s i
+    → take_item p (encounter s i) e (ahead_of s i) ≡ Some (y, ys) → is_forking y ≡ true → IsForking s i
 forking_taken p events s reached i e all y ys is_taken forks = of_current (s.threads i).current refl
   where
     of_current : (o : Option Tid) → (s.threads i).current ≡ o → IsForking s i
     of_current None none =
         let place = have_places p events s reached i in
-        let list : list_of s i ≡ (s.threads i).list =
+        let list : ahead_of s i ≡ (s.threads i).list =
         ap
-        (λ (o : Option Tid). option_map_or (λ (u : Task). u.list) (option_and_then (task_of s) o) (s.threads i).list) none in
+        (λ (o : Option Tid). option_map_or (λ (u : Task). in_front u.frees u.list) (option_and_then (task_of s) o) (s.threads i).list) none in
         let t =
         taken_at p (encounter s i) e y ys place.place
         (ap (take_item p (encounter s i) e) (sym (list ∙ place.list)) ∙ is_taken) in
@@ -116,7 +124,9 @@ forking_taken p events s reached i e all y ys is_taken forks = of_current (s.thr
     of_current (Some k) name =
         let (t, live, un) = (names_live p events s reached).currents i k name in
         let is : IsCurrent s i k t = record { name = name; live = live } in
-        let taken = ap (take_item p (encounter s i) e) (sym (list_of_current s i k t is)) ∙ is_taken in
+        let taken =
+        taken_plain p (encounter s i) e t.frees t.list y ys (forking_plain y forks)
+        (ap (take_item p (encounter s i) e) (sym (ahead_of_current s i k t is)) ∙ is_taken) in
         record { name = k; task = t; current = is; next = asks_at_head p (encounter s i) e y ys t.list (all k t live).placed taken forks }
 
 module _ (p : Program) (events : List (ℕ × Event)) (s : State) (reached : Reached p events s) (i : ℕ)
@@ -131,7 +141,7 @@ module _ (p : Program) (events : List (ℕ × Event)) (s : State) (reached : Rea
   before = is_relisted s i (stays (encounter s i) e m.item m.behind)
 
   item_fits : fits e m.item ≡ true
-  item_fits = take_fits p (encounter s i) e (list_of s i) m.item m.behind m.taken
+  item_fits = take_fits p (encounter s i) e (ahead_of s i) m.item m.behind m.taken
 
   current_undeferred : (k : Tid) (t : Task) → IsCurrent s i k t → t.progress ≡ Deferred → ⊥
   current_undeferred k t is d =
@@ -142,10 +152,10 @@ module _ (p : Program) (events : List (ℕ × Event)) (s : State) (reached : Rea
   had_asks = task_step_from p (HasAsks s) (HadAsks s i m.item) s i e next m moves others law all
     where
       moves : (k : Tid) (t : Task) → IsCurrent s i k t
-          → take_item p (encounter s i) e t.list ≡ Some (m.item, m.behind) → HasAsks s k t
-          → HadAsks s i m.item k (record t { list = stays (encounter s i) e m.item m.behind })
+          → take_item p (encounter s i) e (in_front t.frees t.list) ≡ Some (m.item, m.behind) → HasAsks s k t
+          → HadAsks s i m.item k (relisted (stays (encounter s i) e m.item m.behind) t)
       moves k t is taken q =
-          let placed = take_placed p (encounter s i) e t.list m.item m.behind taken q.placed.0 in
+          let placed = front_placed (asks_next t.list) refl in
           record {
             placed = stays_placed (encounter s i) e m.item m.behind placed;
             first = λ d. absurd (current_undeferred k t is d);
@@ -154,7 +164,17 @@ module _ (p : Program) (events : List (ℕ × Event)) (s : State) (reached : Rea
               asking = λ name. stays_asking (encounter s i) e m.item m.behind placed asks;
               was = λ other. absurd (other is.name);
             };
+            alone = λ asks. refl;
           }
+        where
+          front_placed : (b : Bool) → asks_next t.list ≡ b → Placed (m.item ∷ m.behind)
+          front_placed true asks =
+              take_placed p (encounter s i) e t.list m.item m.behind
+              (subst (λ f. take_item p (encounter s i) e (in_front f t.list) ≡ Some (m.item, m.behind)) (q.alone asks) taken) q.placed.0
+          front_placed false asks =
+              by_taken p (encounter s i) e t.frees t.list m.item m.behind (λ f y ys. Placed (y ∷ ys)) taken
+              (λ from. take_placed p (encounter s i) e t.list m.item m.behind from q.placed.0)
+              (λ task n. ((asks, q.placed.1), q.placed.0))
 
       others : (k : Tid) (t : Task) → ((s.threads i).current ≡ Some k → ⊥) → task_of s k ≡ Some t
           → HasAsks s k t → HadAsks s i m.item k t
@@ -162,19 +182,38 @@ module _ (p : Program) (events : List (ℕ × Event)) (s : State) (reached : Rea
         placed = q.placed;
         first = q.first;
         top = λ asks. record { before = q.top asks; asking = λ name. absurd (ne name); was = λ other. (t, live, asks) };
+        alone = q.alone;
       }
 
       -- a list that begins with neither
       plain : (k : Tid) (t : Task) → StartsPlaced t.list → asks_next t.list ≡ false → HadAsks s i m.item k t
-      plain k t placed none = record { placed = placed; first = λ d. none; top = λ asks. absurd (false_true (sym none ∙ asks)) }
+      plain k t placed none = record { placed = placed; first = λ d. none; top = λ asks. absurd (false_true (sym none ∙ asks)); alone = λ asks. absurd (false_true (sym none ∙ asks)) }
+
+      -- a task that asks for threads is current, and no task in front of what it has ahead may be given back
+      no_asks : (k : Tid) (t : Task) → IsFreeing middle i e m.item k → AreNext s i m.item k t → ⊥
+      no_asks k t (inr (n, of, name)) h =
+          false_true (sym (ap is_asking of) ∙ h.asking (sym (before.currents i) ∙ name))
+      no_asks k t (inl (j, u, is, over, from)) h =
+          let (v, xs, live, same) = before.tasks j u is.live in
+          let name : (s.threads i).current ≡ Some j = sym (before.currents i) ∙ is.name in
+          let (ks, chain) = have_chains p events s reached i in
+          let (ns, v', list, apart, live', mine, begun, rest) = top_of s i (s.threads i).current ks j name chain in
+          let below : v'.scheduling ≡ Some k =
+          ap (λ (x : Task). x.scheduling) (some_same live' live) ∙ (ap (λ (x : Task). x.scheduling) (sym same) ∙ from) in
+          let (ms, w, list_k, apart_k, live_k, mine_k, begun_k, rest_k) = top_of s i v'.scheduling ns k below rest in
+          let here : t.thread ≡ i =
+          sym (current_begun p events s reached t.thread k w h.before live_k).1 ∙ mine_k in
+          let one : j ≡ k = some_same name (ap (λ c. (s.threads c).current) (sym here) ∙ h.before) in
+          (subst (IsApart j) list_k apart).0 one
 
       law : EachTask (HadAsks s i m.item) middle → IsTaskLaw p middle i e m.item next (HadAsks s i m.item)
       law of_tasks = record {
-        shows = λ k t x q. record { placed = q.placed; first = q.first; top = λ asks. let h = q.top asks in record { before = h.before; asking = h.asking; was = h.was } };
-        tools = λ k t x q. record { placed = q.placed; first = q.first; top = λ asks. let h = q.top asks in record { before = h.before; asking = h.asking; was = h.was } };
-        sets = λ k t icv value v f at_set q. record { placed = q.placed; first = q.first; top = λ asks. let h = q.top asks in record { before = h.before; asking = h.asking; was = h.was } };
-        begins = λ k t waits mine by q. record { placed = q.placed; first = λ d. absurd (begun_deferred d); top = λ asks. let h = q.top asks in record { before = h.before; asking = h.asking; was = h.was } };
-        finishes = λ k t is over q. record { placed = q.placed; first = λ d. absurd (finished_deferred d); top = λ asks. let h = q.top asks in record { before = h.before; asking = h.asking; was = h.was } };
+        frees = λ k t free how q. record { placed = q.placed; first = q.first; top = λ asks. let h = q.top asks in record { before = h.before; asking = h.asking; was = h.was }; alone = λ asks. absurd (no_asks k t how (q.top asks)) };
+        shows = λ k t x q. record { placed = q.placed; first = q.first; top = λ asks. let h = q.top asks in record { before = h.before; asking = h.asking; was = h.was }; alone = q.alone };
+        tools = λ k t x q. record { placed = q.placed; first = q.first; top = λ asks. let h = q.top asks in record { before = h.before; asking = h.asking; was = h.was }; alone = q.alone };
+        sets = λ k t icv value v f at_set q. record { placed = q.placed; first = q.first; top = λ asks. let h = q.top asks in record { before = h.before; asking = h.asking; was = h.was }; alone = q.alone };
+        begins = λ k t waits mine by q. record { placed = q.placed; first = λ d. absurd (begun_deferred d); top = λ asks. let h = q.top asks in record { before = h.before; asking = h.asking; was = h.was }; alone = q.alone };
+        finishes = λ k t is over q. record { placed = q.placed; first = λ d. absurd (finished_deferred d); top = λ asks. let h = q.top asks in record { before = h.before; asking = h.asking; was = h.was }; alone = q.alone };
         starts = λ k u j t x is live ex de may of by q. let h = start_plain x (encounter middle i) u.list ((q.first de, q.placed.1), q.placed.0) in plain k _ (h.1, h.0.1) h.0.0;
         members = λ region team f k t r is found may new of by j n at. let h = member_plain p (record { debug = p.env.debug; number = j; level = r.levels + 1; is_final = false }) f in plain n.0 _ (h.1, h.0.1) h.0.0;
         deferred = λ task f final seen k t is of fresh. let h = task_plain p f in plain task _ (h.1, h.0.1) h.0.0;
@@ -184,7 +223,7 @@ module _ (p : Program) (events : List (ℕ × Event)) (s : State) (reached : Rea
   pub asks_step : EachTask (HasAsks next) next
   asks_step k t live =
       let h = had_asks k t live in
-      record { placed = h.placed; first = h.first; top = λ asks. go asks (h.top asks) (cases_eq t.thread i) }
+      record { placed = h.placed; first = h.first; top = λ asks. go asks (h.top asks) (cases_eq t.thread i); alone = h.alone }
     where
       go : asks_next t.list ≡ true → AreNext s i m.item k t → (t.thread ≡ i) ⊎ (t.thread ≢ i)
           → (next.threads t.thread).current ≡ Some k
@@ -212,6 +251,7 @@ module _ (p : Program) (events : List (ℕ × Event)) (s : State) (reached : Rea
 
       law : EachTask (KeepsAsks s i) middle → IsTaskLaw p middle i e m.item next (KeepsAsks s i)
       law of_tasks = record {
+        frees = λ k t free how q. q;
         shows = λ k t x q. q;
         tools = λ k t x q. q;
         sets = λ k t icv value v f at_set q. q;
@@ -234,7 +274,9 @@ module _ (p : Program) (events : List (ℕ × Event)) (s : State) (reached : Rea
   pub forking_item : IsForking s i → is_forking m.item ≡ true
   forking_item f =
       let taken =
-      ap (take_item p (encounter s i) e) (sym (list_of_current s i f.name f.task f.current)) ∙ m.taken in
+      subst (λ x. take_item p (encounter s i) e (in_front x f.task.list) ≡ Some (m.item, m.behind))
+      ((all f.name f.task f.current.live).alone f.next)
+      (ap (take_item p (encounter s i) e) (sym (ahead_of_current s i f.name f.task f.current)) ∙ m.taken) in
       asks_taken p (encounter s i) e m.item m.behind f.task.list
       (all f.name f.task f.current.live).placed.0 f.next taken
 
@@ -281,7 +323,7 @@ module _ (p : Program) (events : List (ℕ × Event)) (s : State) (reached : Rea
       asks_only w got m.item (subst (λ (x : Event). fits x m.item ≡ true) of item_fits) in
       let f = forking_by (ap is_forking asks) in
       let zs : List Item = stays (encounter s i) e m.item m.behind in
-      let is : IsCurrent middle i f.name (record f.task { list = zs }) =
+      let is : IsCurrent middle i f.name (relisted zs f.task) =
       current_after s i zs f.name f.task f.current in
       let made : Some (asked middle i w got) ≡ Some next =
       subst (λ (x : Event). effect p middle i x m.item ≡ Some next) of m.effect_is in
@@ -292,7 +334,7 @@ module _ (p : Program) (events : List (ℕ × Event)) (s : State) (reached : Rea
       (asking_current p middle i e m.item item_fits (ap is_asking asks) m.rule_moved) in
       record {
         name = f.name;
-        task = record f.task { list = zs };
+        task = relisted zs f.task;
         current = record {
           name = kept ∙ is.name;
           live = ap (λ (u : State). task_of u f.name) (sym same) ∙ (of_asked got f.name ∙ is.live);
@@ -311,4 +353,5 @@ have_asks p events s reached =
     (λ first u first_reached i e next step h. asks_step p first u first_reached i e next step h) []
     (opening p) refl events s reached
     (each_first_task p (HasAsks (opening p))
-    (let h = main_plain p (record { debug = p.env.debug; number = 0; level = 0; is_final = false }) in record { placed = (h.1, h.0.1); first = λ d. h.0.0; top = λ asks. absurd (false_true (sym h.0.0 ∙ asks)) }))
+    (let h = main_plain p (record { debug = p.env.debug; number = 0; level = 0; is_final = false }) in
+    record { placed = (h.1, h.0.1); first = λ d. h.0.0; top = λ asks. absurd (false_true (sym h.0.0 ∙ asks)); alone = λ asks. refl }))

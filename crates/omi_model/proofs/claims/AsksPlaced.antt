@@ -11,7 +11,6 @@ use Rattle.omi_model.specs.declared.item.Item.{Item}
 use Rattle.omi_model.specs.declared.item.Item.TheVariants as item
 use Rattle.omi_model.specs.LawClaims.{asks_next}
 use Rattle.omi_model.specs.Lists.{fits, may_drop, opened, stays, take_item}
-use Rattle.omi_numbers.specs.declared.states.TheConstants.{WAIT_TASKWAIT}
 use Rattle.omi_model.specs.Rows.{first_of, main_items, member_items, task_items}
 use Rattle.omi_model.specs.Shapes.{shape_of}
 use Rattle.omi_model.proofs.EachObject.{start_list}
@@ -150,6 +149,7 @@ module _ (p : Program) (at : Encounter) (e : Event) (y : Item) (ys : List Item) 
   dropped_plain item.Asks xs may h = absurd (false_true (sym h.0.0))
   dropped_plain (item.Tasks state) xs may h = h.1
   dropped_plain item.OneTask xs may h = h.1
+  dropped_plain (item.Frees n) xs may h = h.1
   dropped_plain x xs may h = absurd (false_true may)
 
   -- from a list that begins with neither, neither is taken

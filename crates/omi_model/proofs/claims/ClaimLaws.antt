@@ -15,7 +15,7 @@ use Rattle.omi_model.specs.LawClaims.{AreAsksInOrder, IsClaimKept, IsForking, Is
 use Rattle.omi_model.specs.LawStays.{Stays}
 use Rattle.omi_model.specs.Opening.{initial_thread, opening, waiting_worker}
 use Rattle.omi_model.specs.Reached.{Reached, Step}
-use Rattle.omi_model.specs.Changes.{encounter, list_of}
+use Rattle.omi_model.specs.Changes.{encounter, ahead_of, in_front}
 use Rattle.omi_model.specs.Rules.{Legal}
 use Rattle.omi_model.specs.State.{State}
 use Rattle.omi_model.specs.Lists.{fits, take_item}
@@ -25,7 +25,7 @@ use Rattle.omi_model.proofs.claims.AsksPlaced.{asks_taken, is_forking}
 use Rattle.omi_model.proofs.claims.AsksOrder.{at_contains, at_got, contains_at, in_order, map_at}
 use Rattle.omi_model.proofs.claims.ClaimSteps.{ClaimIs, ask_item, by_ask, by_fork, claim_after, fork_item, forking_item_of, item_fits, offer_frees}
 use Rattle.omi_model.proofs.claims.ClaimsKept.{AreClaimsKept, other_busy, other_free, other_got, other_meant, other_waits, own_busy, own_by, own_free, own_free_kept, own_not_got, own_unmeant, same_by}
-use Rattle.omi_model.proofs.EachObject.{EachTask, IsTaskLaw, list_of_current, task_step}
+use Rattle.omi_model.proofs.EachObject.{EachTask, IsTaskLaw, ahead_of_current, task_step}
 use Rattle.omi_model.proofs.EachThread.{EachThread}
 use Rattle.omi_model.proofs.claims.FirstThread.{HasTask, RunsElsewhere, first_step}
 use Rattle.omi_model.proofs.ListLaws.{take_fits}
@@ -44,6 +44,7 @@ module _ (p : Program) (events : List (ℕ × Event)) (s : State) (reached : Rea
       law : (middle : State) (y : Item) → IsRelisted s middle → Stays middle next
           → EachTask RunsElsewhere middle → IsTaskLaw p middle i e y next RunsElsewhere
       law middle y before later of_tasks = record {
+        frees = λ k t free how q. q;
         shows = λ k t x q. q;
         tools = λ k t x q. q;
         sets = λ k t icv value v f at_set q. q;
@@ -202,8 +203,10 @@ asks_in_order p events s reached i = record {
   asks = λ w got legal. by_item (event.Ask w got) legal (λ fit. ap is_forking (ask_item w got legal.item fit));
   forks = λ region team legal. by_item (event.Fork region team) legal (fork_item region team legal.item);
   alone =
-      λ f e legal. of_item legal.item e (take_fits p (encounter s i) e (list_of s i) legal.item legal.behind legal.taken)
-      (asks_taken p (encounter s i) e legal.item legal.behind f.task.list (have_asks p events s reached f.name f.task f.current.live).placed.0 f.next (ap (take_item p (encounter s i) e) (sym (list_of_current s i f.name f.task f.current)) ∙ legal.taken));
+      λ f e legal. of_item legal.item e (take_fits p (encounter s i) e (ahead_of s i) legal.item legal.behind legal.taken)
+      (asks_taken p (encounter s i) e legal.item legal.behind f.task.list (have_asks p events s reached f.name f.task f.current.live).placed.0 f.next
+      (subst (λ x. take_item p (encounter s i) e (in_front x f.task.list) ≡ Some (legal.item, legal.behind)) ((have_asks p events s reached f.name f.task f.current.live).alone f.next)
+      (ap (take_item p (encounter s i) e) (sym (ahead_of_current s i f.name f.task f.current)) ∙ legal.taken)));
 }
   where
     of_item : (y : Item) (e : Event) → fits e y ≡ true → is_forking y ≡ true → IsOfFork e
@@ -220,4 +223,4 @@ asks_in_order p events s reached i = record {
     by_item e legal is =
         forking_taken p events s reached i e
         (have_asks p events s reached) legal.item legal.behind legal.taken
-        (is (take_fits p (encounter s i) e (list_of s i) legal.item legal.behind legal.taken))
+        (is (take_fits p (encounter s i) e (ahead_of s i) legal.item legal.behind legal.taken))

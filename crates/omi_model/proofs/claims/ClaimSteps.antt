@@ -13,7 +13,7 @@ use Rattle.omi_model.specs.declared.item.Item.TheVariants as item
 use Rattle.omi_model.specs.declared.progress.Progress.TheVariants.{Begun, Deferred, Finished, NotBegun}
 use Rattle.omi_model.specs.declared.task.Task.{Task}
 use Rattle.omi_model.specs.declared.thread.Thread.{Thread}
-use Rattle.omi_model.specs.Changes.{IsCurrent, encounter, list_of, on_thread}
+use Rattle.omi_model.specs.Changes.{IsCurrent, encounter, ahead_of, on_thread}
 use Rattle.omi_model.specs.Fresh.{IsFresh}
 use Rattle.omi_model.specs.LawClaims.{IsMeantFor}
 use Rattle.omi_model.specs.LawStays.{Stays}
@@ -91,7 +91,7 @@ module _ (p : Program) (s : State) (i : ℕ) (e : Event) (next : State) (step : 
   before = is_relisted s i (stays (encounter s i) e m.item m.behind)
 
   pub item_fits : fits e m.item ≡ true
-  item_fits = take_fits p (encounter s i) e (list_of s i) m.item m.behind m.taken
+  item_fits = take_fits p (encounter s i) e (ahead_of s i) m.item m.behind m.taken
 
   -- what is made by the event
   made_by : (of : Event) (u : State) → effect p middle i of m.item ≡ Some u → e ≡ of → u ≡ next
@@ -291,6 +291,7 @@ module _ (p : Program) (s : State) (i : ℕ) (e : Event) (next : State) (step : 
       law : (u : State) (y : Item) → IsRelisted s u → Stays u next → EachTask MeantBy u
           → IsTaskLaw p u i e y next MeantBy
       law u y relists later all = record {
+        frees = λ k t free how q. q;
         shows = λ k t x q. q;
         tools = λ k t x q. q;
         sets = λ k t icv value v f at_set q. q;
@@ -376,6 +377,7 @@ module _ (p : Program) (events : List (ℕ × Event)) (s : State) (reached : Rea
       law : EachTask StillMeant (moved_on s i e own.item own.behind)
           → IsTaskLaw p (moved_on s i e own.item own.behind) i e own.item next StillMeant
       law all = record {
+        frees = λ k t free how q. q;
         shows = λ k t x q. q;
         tools = λ k t x q. q;
         sets = λ k t icv value v f at_set q. q;

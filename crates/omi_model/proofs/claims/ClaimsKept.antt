@@ -15,7 +15,7 @@ use Rattle.omi_model.specs.declared.item.Item.{Item}
 use Rattle.omi_model.specs.declared.item.Item.TheVariants as item
 use Rattle.omi_model.specs.declared.progress.Progress.TheVariants.{Begun, NotBegun}
 use Rattle.omi_model.specs.declared.task.Task.{Task}
-use Rattle.omi_model.specs.Changes.{encounter, list_of}
+use Rattle.omi_model.specs.Changes.{encounter, ahead_of, in_front}
 use Rattle.omi_model.specs.LawClaims.{IsClaimKept, IsForking, IsGot, IsMeantFor, WaitsForTeam}
 use Rattle.omi_model.specs.Lists.{fits, take_item}
 use Rattle.omi_model.specs.Opening.{opening}
@@ -85,7 +85,7 @@ module _ (p : Program) (events : List (ℕ × Event)) (s : State) (reached : Rea
   begins_meant : WaitsForTeam s i → (task : Tid) × (e ≡ event.ImplicitBegin task) × IsMeantFor s task i
   begins_meant waits =
       let place = have_places p events s reached i in
-      let list : list_of s i ≡ (s.threads i).list = idle_list in
+      let list : ahead_of s i ≡ (s.threads i).list = idle_list in
       let t =
       taken_at p (encounter s i) e m.item m.behind place.place
       (ap (take_item p (encounter s i) e) (sym (list ∙ place.list)) ∙ m.taken) in
@@ -95,10 +95,10 @@ module _ (p : Program) (events : List (ℕ × Event)) (s : State) (reached : Rea
       let may : MayBeginTask s i task = rule_of (event.ImplicitBegin task) of in
       (task, of, record { task = may.member; live = may.live; waiting = may.waiting; thread = may.mine })
     where
-      idle_list : list_of s i ≡ (s.threads i).list
+      idle_list : ahead_of s i ≡ (s.threads i).list
       idle_list =
           ap
-          (λ (o : Option Tid). option_map_or (λ (u : Task). u.list) (option_and_then (task_of s) o) (s.threads i).list) waits.idle
+          (λ (o : Option Tid). option_map_or (λ (u : Task). in_front u.frees u.list) (option_and_then (task_of s) o) (s.threads i).list) waits.idle
 
   waits_still : (w : ℕ) → w ≢ i → WaitsForTeam s w → WaitsForTeam next w
   waits_still w ne is = record { idle = current_kept p s i e next step w ne ∙ is.idle; ahead = list_kept p s i e next step w ne ∙ is.ahead }

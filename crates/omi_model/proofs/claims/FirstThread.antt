@@ -13,7 +13,7 @@ use Rattle.omi_model.specs.declared.region.Region.{Region}
 use Rattle.omi_model.specs.declared.task.Task.{Task}
 use Rattle.omi_model.specs.declared.thread.Thread.{Thread}
 use Rattle.omi_model.specs.Changes.{IsCurrent, encounter}
-use Rattle.omi_model.specs.LawStays.{Stays}
+use Rattle.omi_model.specs.LawStays.{Stays, is_free}
 use Rattle.omi_model.specs.Lists.{fits, take_item}
 use Rattle.omi_model.specs.Opening.{opening}
 use Rattle.omi_model.specs.Reached.{Reached, Step}
@@ -22,14 +22,14 @@ use Rattle.omi_model.specs.Teams.{master_of}
 use Rattle.omi_model.proofs.ChainsKept.{current_begun}
 use Rattle.omi_model.proofs.members.ClosingItems.{IsIt, closing_of, last_items}
 use Rattle.omi_model.proofs.LastItems.{Closes, take_closes}
-use Rattle.omi_model.proofs.EachObject.{EachTask, IsTaskLaw, list_of_current, task_step}
+use Rattle.omi_model.proofs.EachObject.{EachTask, IsTaskLaw, ahead_of_current, task_step}
 use Rattle.omi_model.proofs.EachThread.{EachThread, IsThreadLaw, thread_step}
-use Rattle.omi_model.proofs.ListLaws.{take_fits}
+use Rattle.omi_model.proofs.ListLaws.{take_fits, passes_front}
 use Rattle.omi_model.proofs.MembersKnown.{members_known}
 use Rattle.omi_model.proofs.OpeningObjects.{each_first_task}
 use Rattle.omi_model.proofs.ReachedStates.{over_reached}
 use Rattle.omi_model.proofs.Slots.{false_true}
-use Rattle.omi_model.proofs.Steps.{IsMove, IsRelisted, move_of}
+use Rattle.omi_model.proofs.Steps.{IsMove, IsRelisted, move_of, relisted_to}
 
 -- ---- an explicit task that has started is scheduled from one
 
@@ -51,6 +51,7 @@ scheduling_step p events s reached i e next step all =
     law : (middle : State) (y : Item) → IsRelisted s middle → Stays middle next
         → EachTask HasScheduling middle → IsTaskLaw p middle i e y next HasScheduling
     law middle y before later of_tasks = record {
+      frees = λ k t free how q. q;
       shows = λ k t x q. q;
       tools = λ k t x q. q;
       sets = λ k t icv value v f at_set q. q;
@@ -103,7 +104,9 @@ module _ (p : Program) (events : List (ℕ × Event)) (s : State) (reached : Rea
   encountered k t r is im found n of = go r.encountering refl
     where
       taken : take_item p (encounter s i) e t.list ≡ Some (m.item, m.behind)
-      taken = ap (take_item p (encounter s i) e) (sym (list_of_current s i k t is)) ∙ m.taken
+      taken =
+          sym (passes_front p (encounter s i) e t.frees t.list (ap is_free of))
+          ∙ (ap (take_item p (encounter s i) e) (sym (ahead_of_current s i k t is)) ∙ m.taken)
 
       joins : m.item ≡ item.Join
       joins =
@@ -151,7 +154,7 @@ module _ (p : Program) (events : List (ℕ × Event)) (s : State) (reached : Rea
       }
         where
           was : (k : Tid) (t : Task) → IsCurrent middle i k t
-              → (v : Task) × (xs : List Item) × IsCurrent s i k v × (t ≡ record v { list = xs })
+              → (v : Task) × (xs : Option Tid × List Item) × IsCurrent s i k v × (t ≡ relisted_to xs v)
           was k t is =
               let (v, xs, live, same) = before.tasks k t is.live in
               let current : IsCurrent s i k v = record { name = sym (before.currents i) ∙ is.name; live = live } in

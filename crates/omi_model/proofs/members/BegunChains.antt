@@ -278,6 +278,7 @@ module _ (p : Program) (events : List (ℕ × Event)) (s : State) (reached : Rea
     where
       law : EachTask OnChainNow middle → IsTaskLaw p middle i e m.item next OnChainNow
       law of_tasks = record {
+        frees = λ k t free how q. q;
         shows = λ k t x q. q;
         tools = λ k t x q. q;
         sets = λ k t icv value v f at_set q. q;

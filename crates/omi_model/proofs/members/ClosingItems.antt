@@ -9,7 +9,7 @@ use Rattle.omi_model.specs.declared.item.Item.{Item}
 use Rattle.omi_model.specs.declared.item.Item.TheVariants as item
 use Rattle.omi_model.specs.declared.progress.Progress.TheVariants.{Begun, Deferred, Finished, NotBegun}
 use Rattle.omi_model.specs.declared.task.Task.{Task}
-use Rattle.omi_model.specs.Changes.{IsCurrent, encounter, list_of}
+use Rattle.omi_model.specs.Changes.{IsCurrent, ahead_of, encounter, in_front}
 use Rattle.omi_model.specs.LawLists.{IsListRight}
 use Rattle.omi_model.specs.Lists.{fits, stays, take_item}
 use Rattle.omi_model.specs.Opening.{opening}
@@ -22,11 +22,11 @@ use Rattle.omi_model.proofs.ChainsKept.{current_begun}
 use Rattle.omi_model.proofs.EachObject.{EachTask, IsTaskLaw, is_end, start_list, task_step_from}
 use Rattle.omi_model.proofs.members.FirstLists.{first_lists}
 use Rattle.omi_model.proofs.LastItems.{Closes, main_closes, member_closes, start_closes, stays_closes, take_closes, task_closes}
-use Rattle.omi_model.proofs.ListLaws.{take_fits}
+use Rattle.omi_model.proofs.ListLaws.{take_fits, by_taken}
 use Rattle.omi_model.proofs.OpeningObjects.{each_first_task}
 use Rattle.omi_model.proofs.ReachedStates.{over_reached}
 use Rattle.omi_model.proofs.Slots.{false_true}
-use Rattle.omi_model.proofs.Steps.{IsMove, IsRelisted, is_relisted, move_of, moved_on}
+use Rattle.omi_model.proofs.Steps.{IsMove, IsRelisted, is_relisted, move_of, moved_on, relisted}
 
 -- it is this one
 abbrev pub IsIt : Item → Item → Type 0
@@ -107,14 +107,15 @@ module _ (p : Program) (events : List (ℕ × Event)) (s : State) (reached : Rea
       (λ k t ne live h. still k t ne h) law all
     where
       moves : (k : Tid) (t : Task) → IsCurrent s i k t
-          → take_item p (encounter s i) e t.list ≡ Some (m.item, m.behind) → HasLastItem t
-          → IsLastTaken k (record t { list = stays (encounter s i) e m.item m.behind })
+          → take_item p (encounter s i) e (in_front t.frees t.list) ≡ Some (m.item, m.behind) → HasLastItem t
+          → IsLastTaken k (relisted (stays (encounter s i) e m.item m.behind) t)
       moves k t is taken h =
           let z = closing_of t.implicit t.generating t.number in
-          let closes = take_closes (IsIt z) p (encounter s i) e t.list m.item m.behind taken h.closes in
+          let closes = by_taken p (encounter s i) e t.frees t.list m.item m.behind (λ f y ys. Closes (IsIt z) (y ∷ ys)) taken
+          (λ from. take_closes (IsIt z) p (encounter s i) e t.list m.item m.behind from h.closes) (λ task n. h.closes) in
           record {
             is = record { closes = stays_closes (IsIt z) (encounter s i) e m.item m.behind closes; finished = λ f. absurd (begun_finished (sym (current_begun p events s reached i k t is.name is.live).0 ∙ f)) };
-            over = λ name over. end_takes_last z (encounter s i) e m.item m.behind over (take_fits p (encounter s i) e t.list m.item m.behind taken) closes;
+            over = λ name over. end_takes_last z (encounter s i) e m.item m.behind over (take_fits p (encounter s i) e (in_front t.frees t.list) m.item m.behind taken) closes;
           }
 
       before : IsRelisted s (moved_on s i e m.item m.behind)
@@ -128,6 +129,7 @@ module _ (p : Program) (events : List (ℕ × Event)) (s : State) (reached : Rea
       law : EachTask IsLastTaken (moved_on s i e m.item m.behind)
           → IsTaskLaw p (moved_on s i e m.item m.behind) i e m.item next IsLastTaken
       law of_tasks = record {
+        frees = λ k t free how q. record { is = record { closes = q.is.closes; finished = q.is.finished }; over = q.over };
         shows = λ k t x q. record { is = record { closes = q.is.closes; finished = q.is.finished }; over = q.over };
         tools = λ k t x q. record { is = record { closes = q.is.closes; finished = q.is.finished }; over = q.over };
         sets = λ k t icv value v f at_set q. record { is = record { closes = q.is.closes; finished = q.is.finished }; over = q.over };
@@ -145,7 +147,7 @@ module _ (p : Program) (events : List (ℕ × Event)) (s : State) (reached : Rea
           no_end : (x : Item) → m.item ≡ x → is_closing x ≡ false → is_end e ≡ true → ⊥
           no_end x of plain over =
               false_true
-              (sym plain ∙ (ap is_closing (sym of) ∙ closing_item e m.item over (take_fits p (encounter s i) e (list_of s i) m.item m.behind m.taken)))
+              (sym plain ∙ (ap is_closing (sym of) ∙ closing_item e m.item over (take_fits p (encounter s i) e (ahead_of s i) m.item m.behind m.taken)))
 
           no_end_now : (f : ℕ) (final : Bool)
               → (m.item ≡ item.StartNow f final) ⊎ ((seen : ℕ) × (m.item ≡ item.Defer seen f final))

@@ -1,5 +1,6 @@
 -- Regions, the tasks that encountered them and their explicit tasks, in every reached state.
-use Rattle.std.proofs.Common.{◌≡◌, ℕ, Bool, true, false, List, Some, None, if◌then◌else◌, refl, sym, ap, ◌∙◌, subst, eq-eqb}
+use Rattle.std.proofs.Common.{◌≡◌, ℕ, Bool, true, false, List, get_or, Some, None, is_some, if◌then◌else◌, refl, sym, ap, ◌∙◌, subst, arith, eq-eqb}
+use Rattle.std.proofs.lemmas.Option.{slice_get-get_or}
 use Rattle.omi_script.specs.declared.program.Program.{Program}
 use Rattle.omi_model.specs.declared.event.Event.{Event}
 use Rattle.omi_model.specs.declared.id.Rid.{Rid}
@@ -12,12 +13,12 @@ use Rattle.omi_model.specs.LawEncounters.{AreEncounters, IsEncountering, IsOpen}
 use Rattle.omi_model.specs.LawProgress.{HasEnded}
 use Rattle.omi_model.specs.Reached.{Reached}
 use Rattle.omi_model.specs.State.{State, region_of, task_of}
+use Rattle.omi_model.specs.Visible.{IsVisibleRegion}
 use Rattle.omi_model.proofs.members.BegunChains.{scheduling_begun}
 use Rattle.omi_model.proofs.members.Encounters.{are_made}
 use Rattle.omi_model.proofs.members.MembersInStep.{members_in_step}
 use Rattle.omi_model.proofs.MembersKnown.{first_at, members_known}
 use Rattle.omi_model.proofs.NamesLive.{names_live}
-use Rattle.omi_model.proofs.ReachedWellFormed.{visible_region}
 use Rattle.omi_model.proofs.RegionEnds.{rests}
 use Rattle.omi_model.proofs.Slots.{false_true, some_same}
 
@@ -35,8 +36,18 @@ joined_first : (r : Region) (n : ℕ) → n ≡ 0 → HasEnded r n → r.joined 
 joined_first r n first is = subst (HasEnded r) first is
 
 module _ (p : Program) (events : List (ℕ × Event)) (s : State) (reached : Reached p events s) where
+  -- the members of a region that is not joined are live
+  pub visible_open : (n : Rid) (r : Region) → region_of s n ≡ Some r → r.joined ≡ false → IsVisibleRegion s n
+  visible_open n r live unjoined = record {
+    region = r;
+    live = live;
+    team = λ j d within.
+        let at = slice_get-get_or r.team j d within in
+        ap is_some (((names_live p events s reached).regions n r live).team unjoined j (get_or r.team j d) at).live;
+  }
+
   -- the region of a task that is not finished is not joined
-  open_around : (k : Tid) (t : Task) → task_of s k ≡ Some t → (t.progress ≡ Finished → ⊥) → IsOpen s t.region
+  pub open_around : (k : Tid) (t : Task) → task_of s k ≡ Some t → (t.progress ≡ Finished → ⊥) → IsOpen s t.region
   open_around k t live not =
       let (r, found) = ((names_live p events s reached).tasks k t live).region in
       (r, found, go r found t.implicit refl r.joined refl)
@@ -47,15 +58,15 @@ module _ (p : Program) (events : List (ℕ × Event)) (s : State) (reached : Rea
       go r found true im true j =
           (((members_in_step p events s reached).members k t r live im found).going not).1
       go r found false ex true j =
-          absurd
-          (not (rests p events s reached k t live ex r found ((members_in_step p events s reached).joined t.region r found j)))
+          let stood = (members_in_step p events s reached).joined t.region r found j in
+          absurd (not (rests p events s reached k t live ex r found (omega (arith, stood))))
 
   -- member 0 of a region that is not joined has begun, and so has the task that encountered the region
   encountering_begun : (n : Rid) (r : Region) (k : Tid) → region_of s n ≡ Some r → r.encountering ≡ Some k
       → r.joined ≡ false → (u : Task) × (task_of s k ≡ Some u) × (u.progress ≡ Begun)
   encountering_begun n r k found met unjoined =
       let (a, at) = first_at r.team ((members_known p events s reached).regions n r found).some in
-      let is = ((names_live p events s reached).regions n r found).team 0 a at in
+      let is = ((names_live p events s reached).regions n r found).team unjoined 0 a at in
       let here : region_of s is.task.region ≡ Some r = ap (region_of s) is.region ∙ found in
       let member = (members_in_step p events s reached).members a.0 is.task r is.live is.implicit here in
       let begun : is.task.progress ≡ Begun =
@@ -66,10 +77,10 @@ module _ (p : Program) (events : List (ℕ × Event)) (s : State) (reached : Rea
       ∙ ap (λ b. if b then r.encountering else None) (eq-eqb is.task.number 0 is.number) in
       scheduling_begun p events s reached a.0 is.task is.live begun k (from ∙ met)
 
-  encountering : (n : Rid) (r : Region) (k : Tid) → region_of s n ≡ Some r → r.encountering ≡ Some k
-      → IsEncountering s n r k
-  encountering n r k found met =
-      let (t, live, un, thread, enclosing) = (are_made p events s reached).met n r found k met in
+  encountering : (n : Rid) (r : Region) (k : Tid) (t : Task) → region_of s n ≡ Some r → r.encountering ≡ Some k
+      → task_of s k ≡ Some t → IsEncountering s n r k
+  encountering n r k t found met live =
+      let (un, thread, enclosing) = (are_made p events s reached).met n r found k met t live in
       let begun : r.joined ≡ false → t.progress ≡ Begun = λ unjoined. let (u, live_u, is) = encountering_begun n r k found met unjoined in ap (λ (x : Task). x.progress) (some_same live live_u) ∙ is in
       record {
         task = t;
@@ -77,7 +88,9 @@ module _ (p : Program) (events : List (ℕ × Event)) (s : State) (reached : Rea
         thread = thread;
         enclosing = enclosing;
         begun = begun;
-        around = λ unjoined. let (q, found_q, open_q) = open_around k t live (λ f. begun_finished (sym (begun unjoined) ∙ f)) in (visible_region p events s reached t.region q found_q, (q, found_q, open_q));
+        around = λ unjoined.
+            let (q, found_q, open_q) = open_around k t live (λ f. begun_finished (sym (begun unjoined) ∙ f)) in
+            (visible_open t.region q found_q open_q, (q, found_q, open_q));
       }
 
 pub encounters : (p : Program) (events : List (ℕ × Event)) (s : State) → Reached p events s → AreEncounters s
@@ -85,7 +98,8 @@ encounters p events s reached =
     let made = are_made p events s reached in
     record {
       named = made.named;
-      encountered = λ n r k found met. encountering p events s reached n r k found met;
-      initial = made.initial;
+      encountered = λ n r k t found met live. encountering p events s reached n r k t found met live;
+      initial = λ n r found. (made.initial n r found).0;
+      outermost = λ n r found. (made.initial n r found).1;
       explicit = λ k t live ex. record { creator = (made.members k t live ex).0; thread = (made.members k t live ex).1; inside = open_around p events s reached k t live };
     }

@@ -14,7 +14,7 @@ use Rattle.omi_model.specs.declared.task.Task.{Task}
 use Rattle.omi_model.specs.Changes.{IsCurrent}
 use Rattle.omi_model.specs.LawEncounters.{IsNamedByFirst, IsThreadOf}
 use Rattle.omi_model.specs.LawLineage.{IsLineage}
-use Rattle.omi_model.specs.LawStays.{Stays}
+use Rattle.omi_model.specs.LawStays.{IsNeededRegion, Stays}
 use Rattle.omi_numbers.specs.declared.states.TheConstants.{WAIT_TASKWAIT}
 use Rattle.omi_model.specs.Opening.{initial_region, opening, opening_region}
 use Rattle.omi_model.specs.Reached.{Reached, Step}
@@ -26,21 +26,21 @@ use Rattle.omi_model.proofs.ChainsKept.{current_begun}
 use Rattle.omi_model.proofs.EachObject.{EachRegion, EachTask, IsRegionLaw, IsTaskLaw, region_step, task_step}
 use Rattle.omi_model.proofs.members.Lineages.{have_lines, was}
 use Rattle.omi_model.proofs.MembersKnown.{members_known}
-use Rattle.omi_model.proofs.NamesLive.{names_live}
-use Rattle.omi_model.proofs.NeededTasks.{needed_current, needed_encountering}
+use Rattle.omi_model.proofs.NamesKept.{names_kept}
 use Rattle.omi_model.proofs.OpeningObjects.{each_first_region, each_first_task}
 use Rattle.omi_model.proofs.ReachedStates.{over_reached}
 use Rattle.omi_model.proofs.Slots.{false_true, none_some, some_same}
-use Rattle.omi_model.proofs.StaysKept.{stays_step}
+use Rattle.omi_model.proofs.StaysKept.{needed_region, stays_step}
 use Rattle.omi_model.proofs.Steps.{IsRelisted}
+use Rattle.omi_model.proofs.TeamsMade.{names_made}
 
--- the encountering task of a region
+-- the encountering task of a region, where it lives
 abbrev pub IsMetBy : State → Rid → Region → Type 0
-IsMetBy s n r =
-    (k : Tid) → r.encountering ≡ Some k → (t : Task) × (task_of s k ≡ Some t) × (t.progress ≡ Deferred → ⊥) × (t.thread ≡ n.0.creator) × (r.enclosing ≡ Some t.region)
+IsMetBy s n r = (k : Tid) → r.encountering ≡ Some k → (t : Task) → task_of s k ≡ Some t
+    → (t.progress ≡ Deferred → ⊥) × (t.thread ≡ n.0.creator) × (r.enclosing ≡ Some t.region)
 
 abbrev pub IsFirstAlone : Rid → Region → Type 0
-IsFirstAlone n r = r.encountering ≡ None → n ≡ initial_region
+IsFirstAlone n r = (r.encountering ≡ None → n ≡ initial_region) × (r.enclosing ≡ None → n ≡ initial_region)
 
 -- the threads of an explicit task
 abbrev pub IsOnMembers : State → Tid → Task → Type 0
@@ -53,9 +53,10 @@ pub record AreMade (s : State) : Type 0 where
   pub initial : EachRegion IsFirstAlone s
   pub members : EachTask (IsOnMembers s) s
 
-thread_later : (s u : State) → Stays s u → (n : Rid) (j w : ℕ) → IsThreadOf s n j w → IsThreadOf u n j w
-thread_later s u stay n j w (r, m, found, at, same) =
-    let (q, found_q, kept) = stay.regions n r found in
+thread_later : (s u : State) → Stays s u → (n : Rid) (j w : ℕ) → ((r : Region) → IsNeededRegion s n r)
+    → IsThreadOf s n j w → IsThreadOf u n j w
+thread_later s u stay n j w need (r, m, found, at, same) =
+    let (q, found_q, kept) = stay.regions n r found (need r) in
     (q, m, found_q, ap (λ xs. slice_get xs j) kept.team ∙ at, same)
 
 begun_deferred : Begun ≡ Deferred → ⊥
@@ -65,7 +66,7 @@ waits_not : (t : Task) → t.progress ≡ NotBegun → t.progress ≡ Deferred �
 waits_not t a d = cc
 
 -- an explicit task is of the region of its generating task
-child_region : (s : State) (u v : Task) (k : Tid) (gs : List Tid)
+pub child_region : (s : State) (u v : Task) (k : Tid) (gs : List Tid)
     → IsLineage s u.implicit u.region u.generating gs → u.implicit ≡ false → u.generating ≡ Some k
     → task_of s k ≡ Some v → v.region ≡ u.region
 child_region s u v k [] im ex by found = absurd (false_true (sym ex ∙ im))
@@ -114,7 +115,12 @@ module _ (p : Program) (events : List (ℕ × Event)) (s : State) (reached : Rea
 
   met_step : EachRegion (IsMetBy next) next
   met_step = region_step p (IsMetBy next) s i e next step law
-      (λ n r live k met. let (t, found, un, thread, enclosing) = all.met n r live k met in let (v, found_v, kept) = stay.tasks k t found (needed_encountering p events s reached n r live ((names_live p events s reached).regions n r live) k t met) in (v, found_v, kept.started un, kept.thread un ∙ thread, enclosing ∙ ap (λ (x : Rid). Some x) (sym kept.region)))
+      (λ n r live k met v found_v.
+      let made = (names_made p events s reached n r live).encountering k met in
+      let (t, found) = (names_kept p s i e next step).1.back k.0 v made found_v in
+      let (un, thread, enclosing) = all.met n r live k met t found in
+      let kept = stay.alike k t v found found_v in
+      (kept.started un, kept.thread un ∙ thread, enclosing ∙ ap (λ (x : Rid). Some x) (sym kept.region)))
     where
       law : (middle : State) → IsRelisted s middle → Stays middle next
           → IsRegionLaw p middle i next (IsMetBy next)
@@ -123,14 +129,12 @@ module _ (p : Program) (events : List (ℕ × Event)) (s : State) (reached : Rea
         releases = λ k t r is found may q. q;
         ends = λ k t r is found im other q. q;
         joins = λ k t r is found may q. q;
-        forks = λ region team f k t r is found may new n met.
+        forks = λ region team f k t r is found may new n met u found_u.
             let (v, xs, cur, same) = was p events s reached i e next step middle before k t is in
-            let (u, found_u, kept) = stay.tasks k v cur.live (needed_current p events s reached i k v cur.name cur.live) in
+            let one : k ≡ n = some_same refl met in
+            let kept = stay.alike k v u cur.live (ap (task_of next) one ∙ found_u) in
             let runs = current_begun p events s reached i k v cur.name cur.live in
-            let un : v.progress ≡ Deferred → ⊥ = λ d. begun_deferred (sym runs.0 ∙ d) in
-            let one : k ≡ n = some_same refl met in (
-              u,
-              ap (task_of next) (sym one) ∙ found_u,
+            let un : v.progress ≡ Deferred → ⊥ = λ d. begun_deferred (sym runs.0 ∙ d) in (
               kept.started un,
               kept.thread un ∙ (runs.1 ∙ sym may.region_new.creator),
               ap (λ (x : Rid). Some x) (ap (λ (x : Task). x.region) same ∙ sym kept.region),
@@ -147,7 +151,7 @@ module _ (p : Program) (events : List (ℕ × Event)) (s : State) (reached : Rea
         releases = λ k t r is found may q. q;
         ends = λ k t r is found im other q. q;
         joins = λ k t r is found may q. q;
-        forks = λ region team f k t r is found may new none. absurd (none_some none refl);
+        forks = λ region team f k t r is found may new. (λ none. absurd (none_some none refl), λ none. absurd (none_some none refl));
       }
 
   -- the thread of the event is a member's, of the region of its current task
@@ -157,7 +161,7 @@ module _ (p : Program) (events : List (ℕ × Event)) (s : State) (reached : Rea
       let (v, xs, cur, same) = was p events s reached i e next step middle before k t is in
       let runs = current_begun p events s reached i k v cur.name cur.live in
       subst (λ (x : Task). IsThreadOf next x.region x.number i) (sym same)
-      (thread_later s next stay v.region v.number i (go v cur.live runs.0 runs.1 v.implicit refl))
+      (thread_later s next stay v.region v.number i (needed_region s k v cur.live) (go v cur.live runs.0 runs.1 v.implicit refl))
     where
       go : (v : Task) → task_of s k ≡ Some v → v.progress ≡ Begun → v.thread ≡ i → (b : Bool) → v.implicit ≡ b
           → IsThreadOf s v.region v.number i
@@ -169,11 +173,16 @@ module _ (p : Program) (events : List (ℕ × Event)) (s : State) (reached : Rea
 
   members_step : EachTask (IsOnMembers next) next
   members_step = task_step p (IsOnMembers next) s i e next step (λ k t y ys is taken q. q) law
-      (λ k t live ex. let h = all.members k t live ex in let (j, at) = h.0 in ((j, thread_later s next stay t.region j k.0.creator at), λ un. thread_later s next stay t.region t.number t.thread (h.1 un)))
+      (λ k t live ex.
+      let h = all.members k t live ex in
+      let (j, at) = h.0 in
+      let need = needed_region s k t live in
+      ((j, thread_later s next stay t.region j k.0.creator need at), λ un. thread_later s next stay t.region t.number t.thread need (h.1 un)))
     where
       law : (middle : State) (y : Item) → IsRelisted s middle → Stays middle next
           → EachTask (IsOnMembers next) middle → IsTaskLaw p middle i e y next (IsOnMembers next)
       law middle y before later of_tasks = record {
+        frees = λ k t free how q. q;
         shows = λ k t x q. q;
         tools = λ k t x q. q;
         sets = λ k t icv value v f at_set q. q;
@@ -223,8 +232,8 @@ are_made p events s reached =
     (opening p) refl events s reached
     (record {
       named = each_first_region p (λ n r. IsNamedByFirst n r.team) (record { first = λ m at. ap (λ (a : Tid × ℕ). a.1) (sym (some_same refl at)); tasks = λ j m at. first_task j m at });
-      met = each_first_region p (IsMetBy (opening p)) (λ k met. absurd (none_some refl met));
-      initial = each_first_region p IsFirstAlone (λ none. refl);
+      met = each_first_region p (IsMetBy (opening p)) (λ k met t live. absurd (none_some refl met));
+      initial = each_first_region p IsFirstAlone (λ none. refl, λ none. refl);
       members = each_first_task p (IsOnMembers (opening p)) (λ ex. absurd (false_true (sym ex)));
     })
   where

@@ -60,11 +60,10 @@ module _ (p : Program) (events : List (ℕ × Event)) (s : State) (reached : Rea
     deferred = h.deferred;
     waiting = λ w q found_q.
         let (r, found) = ((names_live p events s reached).tasks k t live).region in
-        let (q', found', same) = (stays_step p s i e next step).regions t.region r found in
-        let one : q' ≡ q = some_same found' found_q in
+        let same = (stays_step p s i e next step).alike_regions t.region r q found found_q in
         h.waiting w r found
-        ∙ (ap (λ n. member_items p (record { debug = p.env.debug; number = t.number; level = n; is_final = false }) r.function) (sym same.levels ∙ ap (λ (x : Region). x.levels) one)
-        ∙ ap (λ f. member_items p (record { debug = p.env.debug; number = t.number; level = q.levels; is_final = false }) f) (sym same.function ∙ ap (λ (x : Region). x.function) one));
+        ∙ (ap (λ n. member_items p (record { debug = p.env.debug; number = t.number; level = n; is_final = false }) r.function) (sym same.levels)
+        ∙ ap (λ f. member_items p (record { debug = p.env.debug; number = t.number; level = q.levels; is_final = false }) f) (sym same.function));
   }
 
   pub lists_step : EachTask (λ k t. HasFirstList p next t) next
@@ -75,6 +74,7 @@ module _ (p : Program) (events : List (ℕ × Event)) (s : State) (reached : Rea
       law : EachTask (λ k t. HasFirstList p next t) (moved_on s i e m.item m.behind)
           → IsTaskLaw p (moved_on s i e m.item m.behind) i e m.item next (λ k t. HasFirstList p next t)
       law of_tasks = record {
+        frees = λ k t free how q. record { deferred = q.deferred; waiting = q.waiting };
         shows = λ k t x q. record { deferred = q.deferred; waiting = q.waiting };
         tools = λ k t x q. record { deferred = q.deferred; waiting = q.waiting };
         sets = λ k t icv value v f at_set q. record { deferred = q.deferred; waiting = q.waiting };

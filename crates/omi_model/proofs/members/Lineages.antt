@@ -27,7 +27,7 @@ use Rattle.omi_model.proofs.ReachedStates.{over_reached}
 use Rattle.omi_model.proofs.SchedulingChains.{scheduling_right}
 use Rattle.omi_model.proofs.Slots.{false_true, none_some, some_same}
 use Rattle.omi_model.proofs.StaysKept.{needed_generating, stays_step}
-use Rattle.omi_model.proofs.Steps.{IsRelisted}
+use Rattle.omi_model.proofs.Steps.{IsRelisted, relisted_to}
 
 -- ---- chains of generating tasks
 
@@ -82,7 +82,7 @@ module _ (p : Program) (events : List (ℕ × Event)) (s : State) (reached : Rea
 
   -- the current task, before and after
   pub was : (middle : State) → IsRelisted s middle → (k : Tid) (t : Task) → IsCurrent middle i k t
-      → (v : Task) × (xs : List Item) × IsCurrent s i k v × (t ≡ record v { list = xs })
+      → (v : Task) × (xs : Option Tid × List Item) × IsCurrent s i k v × (t ≡ relisted_to xs v)
   was middle before k t is =
       let (v, xs, live, same) = before.tasks k t is.live in
       let current : IsCurrent s i k v = record { name = sym (before.currents i) ∙ is.name; live = live } in
@@ -114,6 +114,7 @@ module _ (p : Program) (events : List (ℕ × Event)) (s : State) (reached : Rea
       law : (middle : State) (y : Item) → IsRelisted s middle → Stays middle next
           → EachTask (HasLine next) middle → IsTaskLaw p middle i e y next (HasLine next)
       law middle y before later of_tasks = record {
+        frees = λ k t free how q. q;
         shows = λ k t x q. q;
         tools = λ k t x q. q;
         sets = λ k t icv value v f at_set q. q;
@@ -142,6 +143,7 @@ module _ (p : Program) (events : List (ℕ × Event)) (s : State) (reached : Rea
       law : (middle : State) (y : Item) → IsRelisted s middle → Stays middle next
           → EachTask (RunsAbove next) middle → IsTaskLaw p middle i e y next (RunsAbove next)
       law middle y before later of_tasks = record {
+        frees = λ k t free how q. q;
         shows = λ k t x q. q;
         tools = λ k t x q. q;
         sets = λ k t icv value v f at_set q. q;

@@ -14,7 +14,6 @@ use Rattle.omi_model.specs.Changes.{encounter}
 use Rattle.omi_model.specs.LawOrder.{Arrived, AreBarriersInOrder, HasNoBarrier, IsInOrder, Outside, Released, Stage, Waiting}
 use Rattle.omi_model.specs.LawStays.{Stays}
 use Rattle.omi_model.specs.Lists.{may_drop, stays, take_item}
-use Rattle.omi_numbers.specs.declared.states.TheConstants.{WAIT_TASKWAIT}
 use Rattle.omi_model.specs.Opening.{opening}
 use Rattle.omi_model.specs.Reached.{Reached, Step}
 use Rattle.omi_model.specs.Rows.{behind, first_of, main_items, member_items, shown}
@@ -24,7 +23,7 @@ use Rattle.omi_model.proofs.BarrierCounts.{barriers_of}
 use Rattle.omi_model.proofs.BarrierLaw.{number_met, placed}
 use Rattle.omi_model.proofs.BarrierOrder.{Outside as Clear, left, order, wrong}
 use Rattle.omi_model.proofs.EachObject.{EachTask, IsTaskLaw, over_events, task_step}
-use Rattle.omi_model.proofs.ListLaws.{take_keeps}
+use Rattle.omi_model.proofs.ListLaws.{take_keeps, by_taken}
 use Rattle.omi_model.proofs.OpeningObjects.{each_first_task}
 use Rattle.omi_model.proofs.RowLaws.{KeepsPlain, KeepsRows, barrier_keeps, critical_keeps, last_keeps, main_keeps, member_keeps, row_keeps, shown_keeps}
 use Rattle.omi_model.proofs.Slots.{false_true}
@@ -81,6 +80,10 @@ module _ (n : ℕ) where
     drop_ordered item.OneTask xs may (Arrived, h) = absurd h
     drop_ordered item.OneTask xs may (Waiting, h) = absurd h
     drop_ordered item.OneTask xs may (Released, h) = absurd h
+    drop_ordered (item.Frees m) xs may (Outside, h) = (Outside, h)
+    drop_ordered (item.Frees m) xs may (Arrived, h) = absurd h
+    drop_ordered (item.Frees m) xs may (Waiting, h) = absurd h
+    drop_ordered (item.Frees m) xs may (Released, h) = absurd h
     drop_ordered x xs may h = absurd (false_true may)
 
     take_ordered : (at : Encounter) → at.number ≡ n → (e : Event) (xs : List Item) (y : Item) (ys : List Item)
@@ -152,11 +155,14 @@ IsOrdered k t = t.implicit ≡ true → Ordered t.number t.list
 ordered_step : (p : Program) (s : State) (i : ℕ) (e : Event) (next : State) → Step p s i e next
     → EachTask IsOrdered s → EachTask IsOrdered next
 ordered_step p s i e next step all = task_step p IsOrdered s i e next step
-    (λ k t y ys is taken h im. stays_ordered t.number (encounter s i) e y ys (take_ordered t.number p (encounter s i) (number_met s i k t is) e t.list y ys taken (h im))) law all
+    (λ k t y ys is taken h im.
+    by_taken p (encounter s i) e t.frees t.list y ys (λ f z zs. Ordered t.number (stays (encounter s i) f z zs)) taken
+    (λ from. stays_ordered t.number (encounter s i) e y ys (take_ordered t.number p (encounter s i) (number_met s i k t is) e t.list y ys from (h im))) (λ task n. h im)) law all
   where
     law : (middle : State) (y : Item) → IsRelisted s middle → Stays middle next → EachTask IsOrdered middle
         → IsTaskLaw p middle i e y next IsOrdered
     law middle y before later of_tasks = record {
+      frees = λ k t free how q. q;
       shows = λ k t x q. q;
       tools = λ k t x q. q;
       sets = λ k t icv value v f at_set q. q;

@@ -19,7 +19,7 @@ use Rattle.omi_model.specs.Opening.{initial_region, opening}
 use Rattle.omi_model.specs.Reached.{Reached, Step}
 use Rattle.omi_model.specs.Rules.{Rule, effect}
 use Rattle.omi_model.specs.State.{State, region_of, task_of}
-use Rattle.omi_model.specs.Tasking.{finished}
+use Rattle.omi_model.specs.Tasking.{finished, freeing}
 use Rattle.omi_model.specs.Teams.{joined, task_ended}
 use Rattle.omi_model.proofs.BarrierSteps.{current_after}
 use Rattle.omi_model.proofs.EachObject.{EachTask, IsTaskLaw, is_end, task_step_from}
@@ -28,8 +28,9 @@ use Rattle.omi_model.proofs.MembersKnown.{members_known}
 use Rattle.omi_model.proofs.NamesLive.{names_live}
 use Rattle.omi_model.proofs.OpeningObjects.{each_first_task}
 use Rattle.omi_model.proofs.ReachedStates.{over_reached}
-use Rattle.omi_model.proofs.Slots.{false_true, map_some, none_some, on_same, same_or_not, some_same}
+use Rattle.omi_model.proofs.Slots.{false_true, map_some, none_some, on_same, same_or_not, some_same, each_on}
 use Rattle.omi_model.proofs.Steps.{IsMove, IsRelisted, at_current, at_region, is_relisted, move_of, moved_on, relisted}
+use Rattle.omi_model.specs.Put.{Slots, named, on}
 
 -- the end of a member, or of member 0 the join
 abbrev pub ended_of : Region → ℕ → Bool
@@ -97,8 +98,7 @@ module _ (p : Program) (events : List (ℕ × Event)) (s : State) (reached : Rea
   was k t live im q found_q =
       let known = members_known p events s reached in
       let (r, found, at) = known.tasks k t live im in
-      let (w, found_w, change) = region_ended p s i e next m t.region r found in
-      (r, found, subst (λ (x : Region). EndsBy s i e t.region r x) (some_same found_w found_q) change, at)
+      (r, found, region_ended p s i e next m t.region r q found found_q, at)
 
   -- another member of the region has another number
   apart : (k0 : Tid) (t0 : Task) → IsCurrent s i k0 t0 → t0.implicit ≡ true
@@ -213,6 +213,7 @@ module _ (p : Program) (events : List (ℕ × Event)) (s : State) (reached : Rea
 
       law : EachTask EndsNow middle → IsTaskLaw p middle i e m.item next EndsNow
       law of_tasks = record {
+        frees = λ k t free how q. record { over = q.over; still = q.still };
         shows = λ k t x q. record { over = q.over; still = q.still };
         tools = λ k t x q. record { over = q.over; still = q.still };
         sets = λ k t icv value v f at_set q. record { over = q.over; still = q.still };
@@ -243,6 +244,14 @@ module _ (p : Program) (events : List (ℕ × Event)) (s : State) (reached : Rea
       (sym (on_same middle.tasks k.0 (λ (x : Task). record x { progress = Finished })) ∙ found) in
       ap (λ (x : Task). x.progress) is
 
+  -- which task may be given back next leaves the progress of a task
+  freeing_was : (slots : Slots Task) (x o : Option Tid) (k : Tid) (v : Task)
+      → named (freeing x o slots) k.0 ≡ Some v → (u : Task) × (named slots k.0 ≡ Some u) × (v.progress ≡ u.progress)
+  freeing_was slots x None k v found = (v, found, refl)
+  freeing_was slots x (Some n) k v found =
+      each_on (λ m y. (u : Task) × (named slots m ≡ Some u) × (y.progress ≡ u.progress)) slots n.0
+      (λ u. record u { frees = x }) (λ m y e. (y, e, refl)) (λ y e h. h) k.0 v found
+
   -- a task that ends is finished
   pub over_finished : (of : Event) (y : Item) → is_end of ≡ true → Rule middle i of y → (k : Tid) (t : Task)
       → IsCurrent middle i k t → effect p middle i of y ≡ Some next → (v : Task) → task_of next k ≡ Some v
@@ -260,7 +269,10 @@ module _ (p : Program) (events : List (ℕ × Event)) (s : State) (reached : Rea
   over_finished (event.Finish task) y over rule k t is made v found =
       let same : finished middle i k t ≡ next =
       some_same (at_current middle i k t (finished middle i) is) made in
-      finished_here k t is.live v (ap (λ (u : State). task_of u k) same ∙ found)
+      let (u, found_u, alike) =
+      freeing_was (on middle.tasks k.0 (λ (x : Task). record x { progress = Finished })) (Some k) t.scheduling k v
+      (ap (λ (u : State). task_of u k) same ∙ found) in
+      alike ∙ finished_here k t is.live u found_u
   over_finished of y over rule k t is made v found = absurd (false_true over)
 
   pub ends_step : EachTask (EndsAsFinished next) next

@@ -6,33 +6,43 @@ use Rattle.std.proofs.lemmas.Bool.{cases_eq}
 use Rattle.std.proofs.lemmas.Option.{get_or_from_slice_get, slice_get-get_or, slice_get_within}
 use Rattle.omi_script.specs.declared.program.Program.{Program}
 use Rattle.omi_model.specs.declared.event.Event.{Event}
+use Rattle.omi_model.specs.declared.event.Event.TheVariants as event
+use Rattle.omi_model.specs.declared.id.Id.{Id}
 use Rattle.omi_model.specs.declared.id.Rid.{Rid}
 use Rattle.omi_model.specs.declared.id.Tid.{Tid}
+use Rattle.omi_model.specs.declared.item.Item.{Item}
 use Rattle.omi_model.specs.declared.progress.Progress.{Progress}
-use Rattle.omi_model.specs.declared.progress.Progress.TheVariants.{Finished, NotBegun}
+use Rattle.omi_model.specs.declared.progress.Progress.TheVariants.{Begun, Finished, NotBegun}
 use Rattle.omi_model.specs.declared.region.Region.{Region}
 use Rattle.omi_model.specs.declared.task.Task.{Task}
+use Rattle.omi_model.specs.Changes.{IsCurrent}
+use Rattle.omi_model.specs.LawEnds.{IsLast}
 use Rattle.omi_model.specs.LawProgress.{AreMembersInStep, HasEnded, IsMemberInStep}
 use Rattle.omi_model.specs.LawStays.{Stays}
 use Rattle.omi_model.specs.Opening.{opening}
 use Rattle.omi_model.specs.Reached.{Reached, Step}
+use Rattle.omi_model.specs.Rules.{Rule}
 use Rattle.omi_model.specs.State.{State, region_of, task_of}
 use Rattle.omi_model.proofs.BarrierCounts.{barriers_of, counted}
 use Rattle.omi_model.proofs.BarrierLaw.{Stands, placed}
 use Rattle.omi_model.proofs.BarrierOrder.{left, member_ready, order}
 use Rattle.omi_model.proofs.BarriersAhead.{barriers_ahead}
+use Rattle.omi_model.proofs.BarrierSteps.{Changes, region_changed}
+use Rattle.omi_model.proofs.ChainsKept.{current_begun}
 use Rattle.omi_model.proofs.members.ClosingItems.{last_items}
 use Rattle.omi_model.proofs.EachObject.{EachRegion, IsRegionLaw, over_events, region_step}
+use Rattle.omi_model.proofs.members.EndSteps.{EndsBy, region_ended}
 use Rattle.omi_model.proofs.members.FirstLists.{first_lists}
 use Rattle.omi_model.proofs.JoinsLast.{joins_last}
 use Rattle.omi_model.proofs.members.MemberEnds.{ended_of, ends_as_finished, finished_is, is_finished}
-use Rattle.omi_model.proofs.MembersKnown.{first_at, members_known}
-use Rattle.omi_model.proofs.NamesLive.{names_live}
+use Rattle.omi_model.proofs.MembersKnown.{members_known}
 use Rattle.omi_model.proofs.OpeningObjects.{each_first_region}
-use Rattle.omi_model.proofs.RegionEnds.{outside_is}
+use Rattle.omi_model.proofs.ReachedStates.{over_reached}
+use Rattle.omi_model.proofs.RegionEnds.{last_rested, outside_is, rests}
 use Rattle.omi_model.proofs.ReleaseAmong.{arrivals_near}
-use Rattle.omi_model.proofs.Slots.{false_true, some_same}
-use Rattle.omi_model.proofs.Steps.{IsRelisted}
+use Rattle.omi_model.proofs.Slots.{false_true, same_or_not, some_same}
+use Rattle.omi_model.proofs.StaysKept.{stays_step}
+use Rattle.omi_model.proofs.Steps.{IsRelisted, move_of}
 
 -- ---- member 0 never ends, but joins
 
@@ -165,20 +175,105 @@ module _ (p : Program) (events : List (ℕ × Event)) (s : State) (reached : Rea
       ended = λ is. finished_is t.progress (sym ends ∙ ended_has r t.number is);
     }
 
-  -- a region is joined by member 0, at its end
-  last_release : (n : Rid) (r : Region) → region_of s n ≡ Some r → r.joined ≡ true
-      → r.released ≡ barriers_of p r.function + 1
-  last_release n r found joined =
-      let (a, at) = first_at r.team ((members_known p events s reached).regions n r found).some in
-      let is = ((names_live p events s reached).regions n r found).team 0 a at in
-      let here : region_of s is.task.region ≡ Some r = ap (region_of s) is.region ∙ found in
-      let over : is.task.progress ≡ Finished =
-      finished_is is.task.progress
-      (sym (ends a.0 is.task r is.live is.implicit here) ∙ (ended_first r is.task.number is.number ∙ joined)) in
-      let none : is.task.list ≡ [] = (last_items p events s reached a.0 is.task is.live).finished over in
-      let sum = (barriers_ahead p events s reached).members a.0 is.task r is.live is.implicit here in
-      omega
-      (arith, at_the_last a.0 is.task r is.live is.implicit here over, sum, ap (left (barriers_of p)) none)
+-- ---- joined regions
+
+abbrev IsLastReleased : Program → Rid → Region → Type 0
+IsLastReleased p n r = r.joined ≡ true → r.released ≡ barriers_of p r.function + 1
+
+true_false : {b : Bool} → b ≡ true → b ≡ false → ⊥
+true_false is not = false_true (sym not ∙ is)
+
+begun_finished : Begun ≡ Finished → ⊥
+begun_finished e = cc
+
+module _ (p : Program) (events : List (ℕ × Event)) (s : State) (reached : Reached p events s) (i : ℕ)
+    (e : Event) (next : State) (step : Step p s i e next) (all : EachRegion (IsLastReleased p) s) where
+  -- a joined region was there before
+  was_there : EachRegion (λ n q. q.joined ≡ true → (r : Region) × (region_of s n ≡ Some r)) next
+  was_there = region_step p (λ n q. q.joined ≡ true → (r : Region) × (region_of s n ≡ Some r)) s i e next step law
+      (λ n r found joined. (r, found))
+    where
+      law : (middle : State) → IsRelisted s middle → Stays middle next
+          → IsRegionLaw p middle i next (λ n q. q.joined ≡ true → (r : Region) × (region_of s n ≡ Some r))
+      law middle before later = record {
+        arrives = λ k t r is found q. q;
+        releases = λ k t r is found may q. q;
+        ends = λ k t r is found im other q. q;
+        joins = λ k t r is found may q joined. (r, sym (before.regions t.region) ∙ found);
+        forks = λ region team f k t r is found may new joined. absurd (false_true joined);
+      }
+
+  -- the region of a current task is not joined
+  current_open : (k : Tid) (t : Task) → IsCurrent s i k t → (r : Region) → region_of s t.region ≡ Some r
+      → r.joined ≡ true → ⊥
+  current_open k t is r found joined = go t.implicit refl
+    where
+      runs : t.progress ≡ Finished → ⊥
+      runs f = begun_finished (sym (current_begun p events s reached i k t is.name is.live).0 ∙ f)
+
+      go : (b : Bool) → t.implicit ≡ b → ⊥
+      go true im = true_false joined (going p events s reached k t r is.live im found runs).1
+      go false ex =
+          let stood = all t.region r found joined in
+          runs (rests p events s reached k t is.live ex r found (omega (arith, stood)))
+
+  module _ (n : Rid) (r q : Region) (found : region_of s n ≡ Some r) where
+    -- what the event did to the region: it was joined and nothing was released, or it is joined now
+    abbrev IsLeft : Type 0
+    IsLeft = (r.joined ≡ true) × (q.released ≡ r.released)
+
+    abbrev HasLast : Type 0
+    HasLast = r.released ≡ barriers_of p r.function + 1
+
+    here : (t : Task) → t.region.0 ≡ n.0 → t.region ≡ n
+    here t same = ap (λ (a : Id). record { 0 = a }) same
+
+    by_event : (of : Event) (y : Item) → Rule s i of y → e ≡ of → Changes s i of n r q → EndsBy s i of n r q
+        → q.joined ≡ true → IsLeft ⊎ (HasLast × (q.released ≡ r.released))
+    by_event event.Arrive y (k, t, r0, is, found0, im) same change end joined =
+        inl (sym end.1 ∙ joined, (change k t is).2)
+    by_event event.Release y (k, t, r0, is, found0, may) same change end joined = go (same_or_not t.region.0 n.0)
+      where
+        go : (t.region.0 ≡ n.0) ⊎ (t.region.0 ≡ n.0 → ⊥) → IsLeft ⊎ (HasLast × (q.released ≡ r.released))
+        go (inl at) =
+            absurd (current_open k t is r (ap (region_of s) (here t at) ∙ found) (sym end.1 ∙ joined))
+        go (inr other) = inl (sym end.1 ∙ joined, (change k t is).1 (λ h. other (ap (λ (a : Rid). a.0) h)))
+    by_event (event.ImplicitEnd task) y (k, t, r0, is, found0, may) same change end joined =
+        inl (sym (end k t is).2 ∙ joined, change.1)
+    by_event (event.Join region) y (k, t, r0, is, found0, may) same change end joined =
+        go (same_or_not t.region.0 n.0)
+      where
+        go : (t.region.0 ≡ n.0) ⊎ (t.region.0 ≡ n.0 → ⊥) → IsLeft ⊎ (HasLast × (q.released ≡ r.released))
+        go (inl at) =
+            let (w, found_w, stood) = last_rested p events s reached i e k t (subst IsLast (sym same) tt) step.legal is in
+            let one : w ≡ r = some_same found_w (ap (region_of s) (here t at) ∙ found) in
+            inr (subst (λ (x : Region). x.released ≡ barriers_of p x.function + 1) one stood, change.1)
+        go (inr other) = inl (sym ((end k t is).1 (λ h. other (ap (λ (a : Rid). a.0) h))) ∙ joined, change.1)
+    by_event of y rule same change end joined = inl (sym end.1 ∙ joined, change.1)
+
+  last_step : EachRegion (IsLastReleased p) next
+  last_step n q found_q joined =
+      let (r, found) = was_there n q found_q joined in
+      let m = move_of p s i e next step in
+      let same = (stays_step p s i e next step).alike_regions n r q found found_q in
+      let function : barriers_of p q.function ≡ barriers_of p r.function = ap (barriers_of p) same.function in
+      go r found function (by_event n r q found e m.item m.rule refl (region_changed p s i e next m n r q found found_q)
+      (region_ended p s i e next m n r q found found_q) joined)
+    where
+      go : (r : Region) → region_of s n ≡ Some r → barriers_of p q.function ≡ barriers_of p r.function
+          → ((r.joined ≡ true) × (q.released ≡ r.released)) ⊎ ((r.released ≡ barriers_of p r.function + 1) × (q.released ≡ r.released))
+          → q.released ≡ barriers_of p q.function + 1
+      go r found function (inl (was, same)) = let stood = all n r found was in omega (arith, stood, same, function)
+      go r found function (inr (stood, same)) = omega (arith, stood, same, function)
+
+-- a region is joined by member 0, at its end
+last_release : (p : Program) (events : List (ℕ × Event)) (s : State) → Reached p events s
+    → EachRegion (IsLastReleased p) s
+last_release p events s reached =
+    over_reached p (EachRegion (IsLastReleased p))
+    (λ first u first_reached i e next step h. last_step p first u first_reached i e next step h) []
+    (opening p) refl events s reached
+    (each_first_region p (IsLastReleased p) (λ joined. absurd (false_true joined)))
 
 pub members_in_step : (p : Program) (events : List (ℕ × Event)) (s : State) → Reached p events s
     → AreMembersInStep p s

@@ -1,5 +1,5 @@
 -- Arrivals at barriers: a region's are no more than the events so far; a member that has its release ahead has arrived at one barrier more than were released; and where all arrivals are so many, each member has arrived.
-use Rattle.std.proofs.Common.{◌≡◌, ◌<◌, ◌≤◌, ◌+◌, ◌*◌, ℕ, zero, suc, true, List, [], ◌∷◌, length, replicate, slice_get, slice_index, slice_set, sum, Some, refl, sym, ap, ◌∙◌, subst, arith}
+use Rattle.std.proofs.Common.{◌≡◌, ◌<◌, ◌≤◌, ◌+◌, ◌*◌, ℕ, zero, suc, false, true, List, [], ◌∷◌, length, replicate, slice_get, slice_index, slice_set, sum, Some, refl, sym, ap, ◌∙◌, subst, arith}
 use Rattle.std.specs.List.{All}
 use Rattle.std.proofs.lemmas.List.Sums.{sum_by-cons}
 use Rattle.omi_script.specs.declared.program.Program.{Program}
@@ -129,9 +129,9 @@ full (x ∷ xs) b most enough n below =
     go (suc k) within is later = later k (omega (arith, within))
 
 pub all_arrived : (p : Program) (events : List (ℕ × Event)) (s : State) → Reached p events s
-    → (n : Rid) (r : Region) → region_of s n ≡ Some r → length r.team * (r.released + 1) ≤ sum r.arrivals
+    → (n : Rid) (r : Region) → region_of s n ≡ Some r → r.joined ≡ false → length r.team * (r.released + 1) ≤ sum r.arrivals
     → HaveArrived r
-all_arrived p events s reached n r found enough =
+all_arrived p events s reached n r found unjoined enough =
     let sizes = (members_known p events s reached).regions n r found in
     let whole : length r.arrivals * (r.released + 1) ≤ sum r.arrivals =
     subst (λ k. k * (r.released + 1) ≤ sum r.arrivals) (sym sizes.arrivals) enough in
@@ -146,7 +146,7 @@ all_arrived p events s reached n r found enough =
     near : (j : ℕ) → j < length r.team → slice_index r.arrivals j ≤ r.released + 1
     near j below =
         let (x, there) = member r.team j below in
-        let o = ((names_live p events s reached).regions n r found).team j x there in
+        let o = ((names_live p events s reached).regions n r found).team unjoined j x there in
         let most =
         (arrivals_near p events s reached x.0 o.task r o.live o.implicit (ap (region_of s) o.region ∙ found)).1 in
         subst (λ k. slice_index r.arrivals k ≤ r.released + 1) o.number most

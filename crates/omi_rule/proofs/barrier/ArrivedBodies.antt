@@ -60,7 +60,7 @@ module _ (p : Program) (events : List (ℕ × Event)) (s : State) (reached : Rea
       → KeepsContext s i saved → level_of s saved.region + 1 ≡ level_of s c.region
   master_below saved c o master from under =
       let met : o.region.encountering ≡ Some saved.task = met_by saved c o master from in
-      let is = (encounters p events s reached).encountered c.region o.region saved.task o.found met in
+      let is = (encounters p events s reached).encountered c.region o.region saved.task under.task o.found met under.live in
       let around : o.region.enclosing ≡ Some saved.region =
       is.enclosing
       ∙ ap (λ (t : Task). Some t.region) (some_same {x = is.task} is.live under.live)

@@ -7,7 +7,7 @@ use Rattle.omi_model.specs.declared.encounter.Encounter.{Encounter}
 use Rattle.omi_model.specs.declared.event.Event.{Event}
 use Rattle.omi_model.specs.declared.item.Item.{Item}
 use Rattle.omi_model.specs.declared.item.Item.TheVariants as item
-use Rattle.omi_model.specs.Changes.{list_of, on_task, with_list}
+use Rattle.omi_model.specs.Changes.{ahead_of, on_task, with_list}
 use Rattle.omi_model.specs.Lists.{stays, take_item}
 use Rattle.omi_model.specs.Reached.{Step}
 use Rattle.omi_model.specs.Rules.{Rule, effect, moved, taken_by}
@@ -34,7 +34,7 @@ use Rattle.omi_rule.proofs.Assembly.{Before, plain_event_keeps}
 use Rattle.omi_rule.proofs.NewMembers.{waiting_step}
 use Rattle.omi_rule.proofs.NothingNew.{Makes}
 use Rattle.omi_rule.proofs.Own.{ChangesTask}
-use Rattle.omi_rule.proofs.OwnTask.{list_moved, own_changes, own_encounter, own_list, own_stands, relisted_ahead, relisted_alike}
+use Rattle.omi_rule.proofs.OwnTask.{list_moved, own_changes, own_encounter, own_taken, own_stands, relisted_ahead, relisted_alike}
 use Rattle.omi_rule.proofs.RowsStay.{Spares}
 use Rattle.omi_rule.proofs.barrier.AtCounter.{IsOfMember, at_counter, body, here, own, owes_now, sees, stands}
 use Rattle.omi_model.specs.LawStays.{Stays}
@@ -69,11 +69,9 @@ module _ (p : Program) (w : List ℕ) (m : Memory) (events : List (ℕ × Event)
   takes : (e : Event) (y : Item) (zs : List Item) → take_item p At e list_at ≡ Some (y, zs)
       → taken_by p s i e ≡ Some (y, zs)
   takes e y zs taken =
-      ap (λ (x : Encounter). take_item p x e (list_of s i))
+      ap (λ (x : Encounter). take_item p x e (ahead_of s i))
       (own_encounter p s i a (stands p w m events s actors i before standing at of_member))
-      ∙ ap (λ (xs : List Item). take_item p At e xs)
-      (own_list p s i a (stands p w m events s actors i before standing at of_member))
-      ∙ taken
+      ∙ own_taken p s i a (stands p w m events s actors i before standing at of_member) events before.rule.reached At e y zs taken
 
   -- in whose place these items stand afterwards
   pub steps_to : (e : Event) (y : Item) (behind zs : List Item) (u : State)

@@ -43,6 +43,7 @@ use Rattle.omi_rule.proofs.barrier.Arrivals.{all_arrived, before_release}
 use Rattle.omi_rule.proofs.barrier.AtBarrier.{fits_barrier, list_is, row}
 use Rattle.omi_rule.proofs.barrier.AtCounter.{GoesTo, at_counter, here, is_context, keeps_region, load_quiet, load_waits, of_own_region, region_record, region_there, region_word, sees, sees_number, word_of}
 use Rattle.omi_rule.proofs.Named.{task_named}
+use Rattle.omi_rule.proofs.OwnRow.{is_open}
 
 -- ---- lists
 
@@ -190,7 +191,7 @@ module _ (p : Program) (w : List ℕ) (m : Memory) (events : List (ℕ × Event)
           placed = tt;
           ahead = is;
           owes = refl;
-          row = (o.region, o.found, all_arrived p events s before.rule.reached a.context.region o.region o.found (subst (λ n. n * (o.region.released + 1) ≤ sum o.region.arrivals) (sym o.size) whole));
+          row = (o.region, o.found, all_arrived p events s before.rule.reached a.context.region o.region o.found (is_open p events s before.rule.reached i a.context o) (subst (λ n. n * (o.region.released + 1) ≤ sum o.region.arrivals) (sym o.size) whole));
           ended = tt;
         })
 

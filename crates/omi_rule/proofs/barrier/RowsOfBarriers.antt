@@ -28,14 +28,14 @@ use Rattle.omi_model.proofs.BarrierOrder.{Phase, order, wrong}
 use Rattle.omi_model.proofs.BarrierOrder as phase
 use Rattle.omi_model.proofs.BarrierSteps.{Changes, region_changed}
 use Rattle.omi_model.proofs.ChainsKept.{current_begun}
-use Rattle.omi_model.proofs.EachObject.{EachTask, IsTaskLaw, list_of_current, task_step_from}
-use Rattle.omi_model.proofs.ListLaws.{take_keeps}
+use Rattle.omi_model.proofs.EachObject.{EachTask, IsTaskLaw, ahead_of_current, task_step_from}
+use Rattle.omi_model.proofs.ListLaws.{take_keeps, is_frees, taken_plain}
 use Rattle.omi_model.proofs.members.ListOrder.{barriers_ordered}
 use Rattle.omi_model.proofs.MembersKnown.{members_known}
 use Rattle.omi_model.proofs.ReleaseAmong.{arrivals_near}
 use Rattle.omi_model.proofs.ReachedStates.{leads_on}
 use Rattle.omi_model.proofs.Slots.{false_true, found_live, same_or_not, some_same}
-use Rattle.omi_model.proofs.StaysKept.{stays_step}
+use Rattle.omi_model.proofs.StaysKept.{needed_begun, stays_step}
 use Rattle.omi_model.proofs.Steps.{IsMove, is_relisted, move_of, moved_on}
 use Rattle.omi_pc.specs.declared.actor.Actor.{Actor}
 use Rattle.omi_pc.specs.declared.counter.Counter.TheVariants as counter
@@ -50,6 +50,7 @@ use Rattle.omi_rule.specs.Rule.{Rule}
 use Rattle.omi_rule.proofs.Others.{events_leave_others}
 use Rattle.omi_rule.proofs.RowsStay.{context_of}
 use Rattle.omi_rule.proofs.Named.{task_named}
+use Rattle.omi_model.specs.LawStays.{is_free}
 
 -- ---- lists between an arrival and its pass
 
@@ -83,6 +84,9 @@ drops n item.Asks xs may (inr (inr h)) = absurd h
 drops n item.OneTask xs may (inl h) = absurd h
 drops n item.OneTask xs may (inr (inl h)) = absurd h
 drops n item.OneTask xs may (inr (inr h)) = absurd h
+drops n (item.Frees m) xs may (inl h) = absurd h
+drops n (item.Frees m) xs may (inr (inl h)) = absurd h
+drops n (item.Frees m) xs may (inr (inr h)) = absurd h
 drops n x xs may h = absurd (false_true may)
 
 no_statement : (n : ℕ) (s : Stmt) (xs : List Item) (P : Type 0) → IsInside n (item.Do s ∷ xs) → P
@@ -135,9 +139,9 @@ module _ (p : Program) (events : List (ℕ × Event)) (s : State) (reached : Rea
       (below, arrived t.number 0 below)
 
   -- a member of the region takes an item of its barrier
-  takes_inside : (k : Tid) (t : Task) → IsCurrent s i k t → t.implicit ≡ true → t.region ≡ n
-      → IsInside t.number (m.item ∷ m.behind)
-  takes_inside k t is im same =
+  takes_inside : (k : Tid) (t : Task) → IsCurrent s i k t → is_frees m.item ≡ false → t.implicit ≡ true
+      → t.region ≡ n → IsInside t.number (m.item ∷ m.behind)
+  takes_inside k t is makes im same =
       let (q, found_q, member) = ((placed p events s reached).places k t is.live).0 im in
       let one : q ≡ r = some_same found_q (ap (region_of s) same ∙ found) in
       let here : slice_index q.arrivals t.number ≡ q.released + 1 =
@@ -148,7 +152,8 @@ module _ (p : Program) (events : List (ℕ × Event)) (s : State) (reached : Rea
       let (stage, in_order) = (barriers_ordered p events s reached k t is.live).member im in
       take_keeps p (encounter s i) (IsInside t.number) (drops t.number)
       (λ x xs h. no_statement t.number x xs _ h) e t.list m.item m.behind
-      (ap (take_item p (encounter s i) e) (sym (list_of_current s i k t is)) ∙ m.taken)
+      (taken_plain p (encounter s i) e t.frees t.list m.item m.behind makes
+      (ap (take_item p (encounter s i) e) (sym (ahead_of_current s i k t is)) ∙ m.taken))
       (inside t.number t.list (subst (λ (ph : phase.Phase). order t.number ph t.list ≡ true) in_barrier member.ready.in_order) stage in_order)
 
   -- ---- arrivals
@@ -160,8 +165,8 @@ module _ (p : Program) (events : List (ℕ × Event)) (s : State) (reached : Rea
       → q.released ≡ r.released → ⊥
   none_arrives k t is im same q found_q set released =
       let (below, was) = member_arrived k t is.live im same in
-      let (v, live, alike) = (stays_step p s i e next step).tasks k t is.live (inl im) in
       let begun = (current_begun p events s reached i k t is.name is.live).0 in
+      let (v, live, alike) = (stays_step p s i e next step).tasks k t is.live (needed_begun s k t begun) in
       let region : v.region ≡ n = alike.region ∙ same in
       let place : v.number ≡ t.number = alike.number (λ d. cc (sym begun, d)) in
       let near =
@@ -187,10 +192,8 @@ module _ (p : Program) (events : List (ℕ × Event)) (s : State) (reached : Rea
 
   pub still_arrived : (q : Region) → region_of next n ≡ Some q → q.released ≡ r.released → HaveArrived q
   still_arrived q found_q released =
-      let (w, found_w, change) = region_changed p s i e next m n r found in
-      let one : w ≡ q = some_same found_w found_q in
       let same : q.arrivals ≡ r.arrivals =
-      arrivals_stay e m.item m.rule q found_q (subst (λ (x : Region). Changes s i e n r x) one change) in
+      arrivals_stay e m.item m.rule q found_q (region_changed p s i e next m n r q found found_q) in
       subst (λ (xs : List ℕ). All (λ x. x ≡ q.released + 1) xs) (sym same)
       (subst (λ c. All (λ x. x ≡ c + 1) r.arrivals) (sym released) arrived)
 
@@ -208,9 +211,9 @@ module _ (p : Program) (events : List (ℕ × Event)) (s : State) (reached : Rea
     middle = moved_on s i e m.item m.behind
 
     -- a task of the region makes none
-    makes_none : (y : Item) → ((j : ℕ) → IsInside j (y ∷ m.behind) → ⊥) → m.item ≡ y → (k : Tid) (t : Task)
-        → IsCurrent middle i k t → t.region ≡ n → ⊥
-    makes_none y never of k t is same =
+    makes_none : (y : Item) → is_frees y ≡ false → ((j : ℕ) → IsInside j (y ∷ m.behind) → ⊥) → m.item ≡ y
+        → (k : Tid) (t : Task) → IsCurrent middle i k t → t.region ≡ n → ⊥
+    makes_none y makes never of k t is same =
         let before = is_relisted s i _ in
         let (v, xs, live, alike) = before.tasks k t is.live in
         let current : IsCurrent s i k v = record { name = sym (before.currents i) ∙ is.name; live = live } in
@@ -219,7 +222,7 @@ module _ (p : Program) (events : List (ℕ × Event)) (s : State) (reached : Rea
         go : (v : Task) → IsCurrent s i k v → v.region ≡ n → (kind : Bool) → v.implicit ≡ kind → ⊥
         go v current region true im =
             never v.number
-            (subst (λ (x : Item). IsInside v.number (x ∷ m.behind)) of (takes_inside k v current im region))
+            (subst (λ (x : Item). IsInside v.number (x ∷ m.behind)) of (takes_inside k v current (ap is_frees of ∙ makes) im region))
         go v current region false ex =
             begun_over
             (sym (current_begun p events s reached i k v current.name current.live).0 ∙ over k v current.live ex region)
@@ -228,12 +231,13 @@ module _ (p : Program) (events : List (ℕ × Event)) (s : State) (reached : Rea
         → (m.item ≡ item.StartNow f final) ⊎ ((seen : ℕ) × (m.item ≡ item.Defer seen f final)) → t.region ≡ n
         → ⊥
     none_now f final k t is (inl of) same =
-        makes_none (item.StartNow f final) (λ j h. no_start j f final m.behind h) of k t is same
+        makes_none (item.StartNow f final) refl (λ j h. no_start j f final m.behind h) of k t is same
     none_now f final k t is (inr (seen, of)) same =
-        makes_none (item.Defer seen f final) (λ j h. no_defer j seen f final m.behind h) of k t is same
+        makes_none (item.Defer seen f final) refl (λ j h. no_defer j seen f final m.behind h) of k t is same
 
     law : EachTask IsOver middle → IsTaskLaw p middle i e m.item next IsOver
     law of_tasks = record {
+      frees = λ k t free how h. h;
       shows = λ k t x h. h;
       tools = λ k t x h. h;
       sets = λ k t icv value v at_set of h. h;
@@ -241,7 +245,7 @@ module _ (p : Program) (events : List (ℕ × Event)) (s : State) (reached : Rea
       finishes = λ k t is end h ex same. refl;
       starts = λ k u j t x is live ex de may of by h ex' same. absurd (cc (sym de, h ex' same));
       members = λ region team f k t r0 is found0 may new of by j m at ex. absurd (false_true (sym ex));
-      deferred = λ task f final seen k t is of fresh ex same. absurd (makes_none (item.Defer seen f final) (λ j h. no_defer j seen f final m.behind h) of k t is same);
+      deferred = λ task f final seen k t is of fresh ex same. absurd (makes_none (item.Defer seen f final) refl (λ j h. no_defer j seen f final m.behind h) of k t is same);
       made = λ task f final k t is of fresh by ex same. absurd (none_now f final k t is of same);
     }
 
@@ -254,10 +258,11 @@ module _ (p : Program) (events : List (ℕ × Event)) (s : State) (reached : Rea
 -- ---- the rows
 
 module _ (p : Program) (w : List ℕ) (m : Memory) (events : List (ℕ × Event)) (s : State) (actors : ℕ → Actor)
-    (rule : Rule p w m events s actors) (i : ℕ) (e : Event) (u : State) (step : Step p s i e u) (j : ℕ)
+    (rule : Rule p w m events s actors) (i : ℕ) (e : Event) (u : State) (held : is_free e ≡ false)
+    (step : Step p s i e u) (j : ℕ)
     (known : j < s.count) (other : j ≢ i) where
   leaves : LeavesOthers s u i
-  leaves = events_leave_others p events s rule.reached i e u step
+  leaves = events_leave_others p events s rule.reached i e u held step
 
   top : (c : BarrierCounter) → (actors j).counter ≡ counter.Barrier c → KeepsContext s j (actors j).context
   top c at = context_of p s j (actors j) (λ d f. cc (sym at, f)) (rule.threads j known).stands
@@ -304,7 +309,8 @@ module _ (p : Program) (w : List ℕ) (m : Memory) (events : List (ℕ × Event)
       released_stays (barrier.LoadReleased b) at (actors j).context.number refl o
 
 pub barrier_rows_stay : (p : Program) (w : List ℕ) (m : Memory) (events : List (ℕ × Event)) (s : State) (actors : ℕ → Actor)
-    → Rule p w m events s actors → (i : ℕ) → i < s.count → (e : Event) (u : State) → Step p s i e u
+    → Rule p w m events s actors → (i : ℕ) → i < s.count → (e : Event) (u : State) → is_free e ≡ false
+    → Step p s i e u
     → (j : ℕ) → j < s.count → j ≢ i → (c : BarrierCounter) → (actors j).counter ≡ counter.Barrier c → KeepsBarrierRow s (actors j) c → KeepsBarrierRow u (actors j) c
-barrier_rows_stay p w m events s actors rule i there e u step j known other c at o =
-    row_of_barrier_stays p w m events s actors rule i e u step j known other c at o
+barrier_rows_stay p w m events s actors rule i there e u held step j known other c at o =
+    row_of_barrier_stays p w m events s actors rule i e u held step j known other c at o

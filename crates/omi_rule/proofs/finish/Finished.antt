@@ -14,11 +14,11 @@ use Rattle.omi_model.specs.declared.task.Task.{Task}
 use Rattle.omi_model.specs.declared.thread.Thread.{Thread}
 use Rattle.omi_model.specs.Changes.{IsCurrent}
 use Rattle.omi_model.specs.Lists.{take_item}
-use Rattle.omi_model.specs.Put.{on, put}
+use Rattle.omi_model.specs.Put.{on, put, Slots, named}
 use Rattle.omi_model.specs.Reached.{Step}
-use Rattle.omi_model.specs.State.{State}
-use Rattle.omi_model.specs.Tasking.{finished}
-use Rattle.omi_model.proofs.Slots.{on_other, on_same, put_same, some_same}
+use Rattle.omi_model.specs.State.{State, task_of}
+use Rattle.omi_model.specs.Tasking.{finished, freeing}
+use Rattle.omi_model.proofs.Slots.{on_other, on_same, put_same, some_same, later_on}
 use Rattle.omi_model.proofs.Steps.{at_current, current_moved, relisted}
 use Rattle.omi_layout.specs.declared.field.Field.TheVariants.{ThreadCurrent}
 use Rattle.omi_layout.specs.Field.{threads}
@@ -105,10 +105,26 @@ module _ (p : Program) (w : List ℕ) (m : Memory) (events : List (ℕ × Event)
 
   -- ---- what stays
 
+  -- the tasks are as behind the end, but that another one may be given back next
+  freeing_later : (slots : Slots Task) (x o : Option Tid) (n : Tid) (t : Task) → named slots n.0 ≡ Some t
+      → (free : Option Tid) × (named (freeing x o slots) n.0 ≡ Some (record t { frees = free }))
+  freeing_later slots x None n t live = (t.frees, live)
+  freeing_later slots x (Some m) n t live =
+      let (v, there, same) =
+      later_on (λ (y z : Task). (free : Option Tid) × (z ≡ record y { frees = free })) (λ y. (y.frees, refl)) slots m.0
+      (λ u. record u { frees = x }) (λ y e. (x, refl)) n.0 t live in
+      (same.0, there ∙ ap (λ (z : Task). Some z) same.1)
+
+  later_task : (n : Tid) (t : Task) → named (on listed.tasks a.context.task.0 ending) n.0 ≡ Some t
+      → (free : Option Tid) × (task_of next n ≡ Some (record t { frees = free }))
+  later_task = freeing_later (on listed.tasks a.context.task.0 ending) (Some a.context.task) ended_task.scheduling
+
   leaves : LeavesUnder s next a.context.task
   leaves = record {
     environment = refl;
-    others = λ n other. on_other listed.tasks a.context.task.0 ending n.0 other ∙ on_other s.tasks a.context.task.0 (relisted []) n.0 other;
+    others = λ n other t live.
+        later_task n t
+        (on_other listed.tasks a.context.task.0 ending n.0 other ∙ on_other s.tasks a.context.task.0 (relisted []) n.0 other ∙ live);
     regions = λ n r live. (r, live, refl, refl, refl);
   }
 
@@ -232,8 +248,8 @@ module _ (p : Program) (w : List ℕ) (m : Memory) (events : List (ℕ × Event)
           current = ap (λ (h : Thread). h.current) (put_same s.threads i (record (s.threads i) { current = mine.task.scheduling })) ∙ met;
           bodies = under_kept p s next i a.context.task leaves saved fs apart below under;
           ahead = λ t live.
-              let one : suspended.task ≡ t =
-              some_same suspended.live (sym (task_kept p s next i a.context.task leaves saved apart) ∙ live) in
+              let (free, there) = task_kept p s next i a.context.task leaves saved apart suspended.task suspended.live in
+              let one : record suspended.task { frees = free } ≡ t = some_same there live in
               subst (λ (e : Encounter). IsAhead p e fs back.counter t.list) (sym sees_same) (ap (λ (u : Task). u.list) (sym one) ∙ suspended.list_is);
         }
 
@@ -252,10 +268,15 @@ module _ (p : Program) (w : List ℕ) (m : Memory) (events : List (ℕ × Event)
         by None (undeferred, final, is) = (stmt.Task f.function undeferred final, is, tt)
         by (Some y) (less, waits) = waits
 
+    ended_there : (free : Option Tid) × (task_of next a.context.task ≡ Some (record (ending ended_task) { frees = free }))
+    ended_there =
+        later_task a.context.task (ending ended_task)
+        (on_same listed.tasks a.context.task.0 ending ∙ ap (option_map ending) current_listed.live)
+
     ended_under : HasEndedUnder next back a.context.task (λ g. Unit {0})
     ended_under = record {
-      task = ending ended_task;
-      live = on_same listed.tasks a.context.task.0 ending ∙ ap (option_map ending) current_listed.live;
+      task = record (ending ended_task) { frees = ended_there.0 };
+      live = ended_there.1;
       explicit = explicit;
       progress = refl;
       region = same_region;

@@ -20,25 +20,29 @@ use Rattle.omi_rule.specs.Ahead.{leaving, resuming}
 use Rattle.omi_rule.specs.Chains.{IsScheduledFrom, IsSuspended, KeepsBodies, KeepsBody, KeepsContext, encounter_of}
 use Rattle.omi_rule.proofs.OthersStand.{of_innermost}
 use Rattle.omi_rule.proofs.Own.{AreBelow, IsBelow}
+use Rattle.omi_model.specs.declared.task.Task.{Task}
 
 -- a state in which one task has ended, or a region was joined
 pub record LeavesUnder (s u : State) (k : Tid) : Type 0 where
   pub environment : u.environment ≡ s.environment
-  pub others : (n : Tid) → (n.0 ≡ k.0 → ⊥) → task_of u n ≡ task_of s n
+  pub others : (n : Tid) → (n.0 ≡ k.0 → ⊥) → (t : Task) → task_of s n ≡ Some t
+      → (free : Option Tid) × (task_of u n ≡ Some (record t { frees = free }))
   pub regions : (n : Rid) (r : Region) → region_of s n ≡ Some r
       → (q : Region) × (region_of u n ≡ Some q) × (q.team ≡ r.team) × (q.levels ≡ r.levels) × (q.arrivals ≡ r.arrivals)
 
 module _ (p : Program) (s u : State) (i : ℕ) (k : Tid) (leaves : LeavesUnder s u k) where
-  pub task_kept : (c : Context) → (c.task ≡ k → ⊥) → task_of u c.task ≡ task_of s c.task
+  pub task_kept : (c : Context) → (c.task ≡ k → ⊥) → (t : Task) → task_of s c.task ≡ Some t
+      → (free : Option Tid) × (task_of u c.task ≡ Some (record t { frees = free }))
   task_kept c apart =
       leaves.others c.task (λ (e : c.task.0 ≡ k.0). apart (ap (λ (d : Id). record { 0 = d }) e))
 
   context_kept : (c : Context) → (c.task ≡ k → ⊥) → KeepsContext s i c → KeepsContext u i c
   context_kept c apart o =
       let (q, found, team, levels, arrivals) = leaves.regions c.region o.region o.found in
+      let (free, there) = task_kept c apart o.task o.live in
       record {
-        task = o.task;
-        live = task_kept c apart ∙ o.live;
+        task = record o.task { frees = free };
+        live = there;
         begun = o.begun;
         thread = o.thread;
         implicit = o.implicit;
@@ -62,7 +66,7 @@ module _ (p : Program) (s u : State) (i : ℕ) (k : Tid) (leaves : LeavesUnder s
       ap (λ (x : Option Region). option_map_or (λ r. r.levels) x 0) found
       ∙ levels
       ∙ sym (ap (λ (x : Option Region). option_map_or (λ r. r.levels) x 0) found_task) in
-      ap (encounter_by u) (task_kept c apart ∙ o.live)
+      ap (encounter_by u) (task_kept c apart o.task o.live).1
       ∙ ap
       (λ (b : Bool). record { debug = b; number = o.task.number; level = level_of u o.task.region; is_final = o.task.is_final })
       (ap (λ (e : Env). e.debug) leaves.environment)
@@ -72,11 +76,13 @@ module _ (p : Program) (s u : State) (i : ℕ) (k : Tid) (leaves : LeavesUnder s
 
   scheduled_kept : (saved c : Context) → (c.task ≡ k → ⊥) → IsScheduledFrom s saved c
       → IsScheduledFrom u saved c
-  scheduled_kept saved c apart x = record { task = x.task; live = task_kept c apart ∙ x.live; scheduling = x.scheduling }
+  scheduled_kept saved c apart x =
+      let (free, there) = task_kept c apart x.task x.live in record { task = record x.task { frees = free }; live = there; scheduling = x.scheduling }
 
   suspended_kept : (c : Context) (list new : List Item) → (c.task ≡ k → ⊥) → new ≡ list → IsSuspended s c list
       → IsSuspended u c new
-  suspended_kept c list new apart same x = record { task = x.task; live = task_kept c apart ∙ x.live; list_is = x.list_is ∙ sym same }
+  suspended_kept c list new apart same x =
+      let (free, there) = task_kept c apart x.task x.live in record { task = record x.task { frees = free }; live = there; list_is = x.list_is ∙ sym same }
 
   -- the task under a body is not the one that has ended
   under_apart : (c : Context) (o : Opened) → (c.task ≡ k → ⊥) → IsBelow k o → (context_under c o).task ≡ k → ⊥

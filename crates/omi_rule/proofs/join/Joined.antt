@@ -126,9 +126,11 @@ module _ (p : Program) (w : List ℕ) (m : Memory) (events : List (ℕ × Event)
   leaves : LeavesUnder s next a.context.task
   leaves = record {
     environment = refl;
-    others = λ n other.
-        on_other listed.tasks a.context.task.0 (λ t. record t { progress = Finished }) n.0 other
-        ∙ on_other s.tasks a.context.task.0 (relisted []) n.0 other;
+    others = λ n other t live. (
+      t.frees,
+      on_other listed.tasks a.context.task.0 (λ t. record t { progress = Finished }) n.0 other
+          ∙ on_other s.tasks a.context.task.0 (relisted []) n.0 other ∙ live,
+    );
     regions = regions_go_on;
   }
 
@@ -216,8 +218,8 @@ module _ (p : Program) (w : List ℕ) (m : Memory) (events : List (ℕ × Event)
           current = ap (λ (h : Thread). h.current) (put_same s.threads i (record (s.threads i) { current = mine.region.encountering })) ∙ met;
           bodies = under_kept p s next i a.context.task leaves saved fs apart below under;
           ahead = λ t live.
-              let one : suspended.task ≡ t =
-              some_same suspended.live (sym (task_kept p s next i a.context.task leaves saved apart) ∙ live) in
+              let (free, there) = task_kept p s next i a.context.task leaves saved apart suspended.task suspended.live in
+              let one : record suspended.task { frees = free } ≡ t = some_same there live in
               subst (λ (e : Encounter). IsAhead p e fs y t.list) (sym sees_same)
               (subst (λ (xs : List Item). IsAhead p (encounter_of s saved) fs y xs) (sym suspended.list_is ∙ ap (λ (v : Task). v.list) one) ahead);
         }

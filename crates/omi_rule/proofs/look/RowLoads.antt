@@ -34,6 +34,7 @@ use Rattle.omi_rule.specs.Rows.{place_of}
 use Rattle.omi_rule.specs.Steps.{RecordWord, StepKeeps}
 use Rattle.omi_rule.proofs.Assembly.{Before}
 use Rattle.omi_rule.proofs.KeptObjects.{task_there}
+use Rattle.omi_rule.proofs.OwnRow.{is_open}
 use Rattle.omi_rule.proofs.barrier.AtCounter.{GoesTo, ahead_is, context_placed, fits_counter, here, is_context, keeps_region, load_quiet}
 
 module _ (p : Program) (w : List ℕ) (m : Memory) (events : List (ℕ × Event)) (s : State) (actors : ℕ → Actor)
@@ -72,7 +73,7 @@ module _ (p : Program) (w : List ℕ) (m : Memory) (events : List (ℕ × Event)
   member_task : IsMemberTask s a.context.region (member_at n) member
   member_task =
       ((names_live p events s before.rule.reached).regions a.context.region known.region known.found).team
-      (member_at n) member member_there
+      (is_open p events s before.rule.reached i a.context known) (member_at n) member member_there
 
   has_task : HasTask w member.0
   has_task = task_there p w m events s actors before.rule member.0 member_task.task member_task.live

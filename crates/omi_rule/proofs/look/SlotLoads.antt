@@ -5,6 +5,7 @@ use Rattle.omi_word.specs.declared.op.Op.TheVariants as op
 use Rattle.omi_script.specs.declared.program.Program.{Program}
 use Rattle.omi_model.specs.declared.event.Event.{Event}
 use Rattle.omi_model.specs.declared.id.Tid.{Tid}
+use Rattle.omi_model.specs.declared.region.Region.{Region}
 use Rattle.omi_model.specs.declared.task.Task.{Task}
 use Rattle.omi_model.specs.Reached.{Reached}
 use Rattle.omi_model.specs.State.{State, task_of}
@@ -27,11 +28,14 @@ use Rattle.omi_step_words.specs.Moving.{to_look}
 use Rattle.omi_step_words.specs.Placed.{HasTaskPlace}
 use Rattle.omi_task.specs.LookSteps.{behind_code, look_moved, look_next, look_outcome, looking_on, member_at, next_look, of_slot}
 use Rattle.omi_rule.specs.Ahead as Ahead
+use Rattle.omi_rule.specs.Chains.{KeepsContext}
 use Rattle.omi_rule.specs.Rows.{IsRowOf, OfRegion, WasMade, place_of}
 use Rattle.omi_rule.specs.Steps.{KeepsRule, RecordWord, StepKeeps}
 use Rattle.omi_rule.proofs.Assembly.{Before}
 use Rattle.omi_rule.proofs.barrier.AtCounter.{GoesTo, ahead_is, fits_counter, here, load_quiet, placed_counter, row_is, sees}
 use Rattle.omi_model.proofs.NamesLive.{names_live}
+use Rattle.omi_model.proofs.Slots.{some_same}
+use Rattle.omi_rule.proofs.OwnRow.{is_open}
 use Rattle.omi_layout.specs.Table.{width}
 use Rattle.omi_layout.specs.Valid.{IsValid}
 use Rattle.omi_rule_words.specs.Objects.{IsDeferredIn}
@@ -53,9 +57,10 @@ pub record IsRowTask (s : State) (a : Actor) (row : Place) : Type 0 where
   pub region : task.region ≡ a.context.region
 
 pub row_task : (p : Program) (events : List (ℕ × Event)) (s : State) (a : Actor) (row : Place) (n : ℕ)
-    → Reached p events s → OfRegion s a (IsRowOf row n) → IsRowTask s a row
-row_task p events s a row n reached (r, found, (x, there, is)) =
-    let o = ((names_live p events s reached).regions a.context.region r found).team (member_at n) x there in
+    → Reached p events s → (i : ℕ) → KeepsContext s i a.context → OfRegion s a (IsRowOf row n) → IsRowTask s a row
+row_task p events s a row n reached i known (r, found, (x, there, is)) =
+    let unjoined : r.joined ≡ false = subst (λ (q : Region). q.joined ≡ false) (some_same known.found found) (is_open p events s reached i a.context known) in
+    let o = ((names_live p events s reached).regions a.context.region r found).team unjoined (member_at n) x there in
     record { name = x.0; place = is; task = o.task; live = o.live; implicit = o.implicit; region = o.region }
 
 -- a code in a slot is that of a deferred task
@@ -127,7 +132,7 @@ module _ (p : Program) (w : List ℕ) (m : Memory) (events : List (ℕ × Event)
 
   was_made : code ≢ 0 → WasMade w s code
   was_made some =
-      let o = row_task p events s a row n before.rule.reached row_of in
+      let o = row_task p events s a row n before.rule.reached i (here p w m events s actors i before standing at tt) row_of in
       let same : m o.name.0.creator tasks o.name.0.slot (number TaskSlots) (n % OWN_SLOTS) ≡ code =
       ap (λ (q : Place). m q.creator tasks q.slot (number TaskSlots) (n % OWN_SLOTS)) o.place in
       let coded =

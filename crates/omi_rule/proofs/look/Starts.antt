@@ -253,7 +253,7 @@ module _ (p : Program) (w : List ℕ) (m : Memory) (events : List (ℕ × Event)
   live_next = on_same listed.tasks t.0 (starting F) ∙ ap (option_map (starting F)) deferred.live
 
   leaves : LeavesUnder listed next t
-  leaves = record { environment = refl; others = λ k other. on_other listed.tasks t.0 (starting F) k.0 other; regions = λ k r live. (r, live, refl, refl, refl) }
+  leaves = record { environment = refl; others = λ k other x live. (x.frees, on_other listed.tasks t.0 (starting F) k.0 other ∙ live); regions = λ k r live. (r, live, refl, refl, refl) }
 
   -- ---- the bodies
 

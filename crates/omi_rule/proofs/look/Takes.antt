@@ -83,7 +83,7 @@ module _ (p : Program) (w : List ℕ) (m : Memory) (events : List (ℕ × Event)
 
   module _ (same : found ≡ code) where
     o : IsRowTask s a row
-    o = row_task p events s a row n before.rule.reached found_row.0
+    o = row_task p events s a row n before.rule.reached i (here p w m events s actors i before standing at tt) found_row.0
 
     found_there : m o.name.0.creator tasks o.name.0.slot (number TaskSlots) (n % OWN_SLOTS) ≡ code
     found_there =

@@ -9,7 +9,7 @@ use Rattle.omi_model.specs.declared.event.Event.{Event}
 use Rattle.omi_model.specs.declared.item.Item.{Item}
 use Rattle.omi_model.specs.declared.item.Item.TheVariants as item
 use Rattle.omi_model.specs.declared.task.Task.{Task}
-use Rattle.omi_model.specs.Changes.{encounter_by, list_of, on_task, with_list}
+use Rattle.omi_model.specs.Changes.{encounter_by, ahead_of, on_task, with_list}
 use Rattle.omi_model.specs.Lists.{stays, take_item}
 use Rattle.omi_model.specs.Opening.{opening}
 use Rattle.omi_model.specs.Reached.{Reached, Step}
@@ -43,9 +43,9 @@ use Rattle.omi_rule.specs.Steps.{KeepsRule, RecordWord, left_in}
 use Rattle.omi_rule.proofs.Assembly.{Before, plain_event_keeps}
 use Rattle.omi_rule.proofs.NewMembers.{waiting_step}
 use Rattle.omi_rule.proofs.NothingNew.{Makes}
-use Rattle.omi_rule.proofs.Others.{events_leave_others}
+use Rattle.omi_rule.proofs.Others.{step_environment}
 use Rattle.omi_rule.proofs.Own.{ChangesTask, context_kept}
-use Rattle.omi_rule.proofs.OwnTask.{in_task, list_moved, own_ahead, own_encounter, own_list, own_stands, top}
+use Rattle.omi_rule.proofs.OwnTask.{in_task, list_moved, own_ahead, own_encounter, own_taken, own_stands, top}
 use Rattle.omi_rule.proofs.RowsStay.{Spares}
 use Rattle.omi_rule.proofs.plain.Firsts.{IsGrounded, some_frame}
 use Rattle.omi_model.specs.LawStays.{Stays}
@@ -57,7 +57,7 @@ pub environment_stays : (p : Program) (events : List (ℕ × Event)) (s : State)
     → s.environment ≡ p.env
 environment_stays p events s reached =
     over_reached p (λ v. v.environment ≡ p.env)
-    (λ before u was i e next step h. (events_leave_others p before u was i e next step).environment ∙ h) []
+    (λ before u was i e next step h. step_environment p before u was i e next step ∙ h) []
     (opening p) refl events s reached refl
 
 -- where a thread goes on from a plain counter: with this ahead of its task
@@ -116,8 +116,9 @@ module _ (p : Program) (w : List ℕ) (m : Memory) (events : List (ℕ × Event)
   pub takes : (e : Event) (y : Item) (zs : List Item)
       → take_item p at e (plain_ahead p at a.stack c) ≡ Some (y, zs) → taken_by p s i e ≡ Some (y, zs)
   takes e y zs taken =
-      ap (λ (x : Encounter). take_item p x e (list_of s i)) (own_encounter p s i a stands)
-      ∙ ap (λ (xs : List Item). take_item p at e xs) (own_list p s i a stands ∙ list_is) ∙ taken
+      ap (λ (x : Encounter). take_item p x e (ahead_of s i)) (own_encounter p s i a stands)
+      ∙ own_taken p s i a stands events before.rule.reached at e y zs
+      (ap (λ (xs : List Item). take_item p at e xs) list_is ∙ taken)
 
   pub steps : (e : Event) (y : Item) (zs : List Item) (u : State)
       → take_item p at e (plain_ahead p at a.stack c) ≡ Some (y, zs) → Rule s i e y → stays at e y zs ≡ zs

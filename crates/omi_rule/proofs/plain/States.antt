@@ -14,7 +14,6 @@ use Rattle.omi_model.specs.declared.event.Event.{Event}
 use Rattle.omi_model.specs.declared.event.Event.TheVariants as event
 use Rattle.omi_model.specs.declared.id.Id.{Id}
 use Rattle.omi_model.specs.declared.id.Rid.{Rid}
-use Rattle.omi_model.specs.declared.id.Tid.{Tid}
 use Rattle.omi_model.specs.declared.item.Item.{Item}
 use Rattle.omi_model.specs.declared.item.Item.TheVariants as item
 use Rattle.omi_model.specs.declared.region.Region.{Region}
@@ -32,7 +31,7 @@ use Rattle.omi_model.specs.State.{State, region_of}
 use Rattle.omi_model.proofs.LevelsCount.{levels_count}
 use Rattle.omi_model.proofs.members.EncounterLaws.{encounters}
 use Rattle.omi_model.proofs.Slots.{id_same, some_same}
-use Rattle.omi_model.proofs.StaysKept.{stay}
+use Rattle.omi_model.proofs.StaysLater.{stay}
 use Rattle.omi_model.proofs.Steps.{relisted}
 use Rattle.omi_layout.specs.declared.field.Field.TheVariants.{ThreadState}
 use Rattle.omi_layout.specs.Field.{threads}
@@ -79,9 +78,7 @@ initial_level p events s reached n r live = go (is_initial n) refl
   where
     first_level : region_of s initial_region ≡ Some r → r.levels ≡ 0
     first_level there =
-        let (q, now, same) =
-        (stay p [] events (opening p) s refl reached).regions initial_region (opening_region p) refl in
-        ap (λ (x : Region). x.levels) (some_same there now) ∙ same.levels
+        ((stay p [] events (opening p) s refl reached).alike_regions initial_region (opening_region p) r refl there).levels
 
     is_first : is_initial n ≡ true → n ≡ initial_region
     is_first e =
@@ -90,14 +87,13 @@ initial_level p events s reached n r live = go (is_initial n) refl
         let generation : n.0.generation ≡ 0 = grind (arith, nat_tests, e) in
         ap (λ (d : Id). record { 0 = d }) (id_same n.0 initial_region.0 creator slot generation)
 
-    deeper : (o : Option Tid) → r.encountering ≡ o → is_initial n ≡ false → r.levels == 0 ≡ false
+    deeper : (o : Option Rid) → r.enclosing ≡ o → is_initial n ≡ false → r.levels == 0 ≡ false
     deeper None e other =
-        absurd (false≢true (sym other ∙ ap is_initial ((encounters p events s reached).initial n r live e)))
-    deeper (Some k) e other =
-        let o = (encounters p events s reached).encountered n r k live e in
-        let chain : MatchOption (Some o.task.region) ((r.levels ≡ 0) × (r.active ≡ 0)) (λ x. (q : Region) × (region_of s x ≡ Some q) × IsEnclosedIn r q) =
+        absurd (false≢true (sym other ∙ ap is_initial ((encounters p events s reached).outermost n r live e)))
+    deeper (Some o) e other =
+        let chain : MatchOption (Some o) ((r.levels ≡ 0) × (r.active ≡ 0)) (λ x. (q : Region) × (region_of s x ≡ Some q) × IsEnclosedIn r q) =
         subst
-        (λ (x : Option Rid). MatchOption x ((r.levels ≡ 0) × (r.active ≡ 0)) (λ y. (q : Region) × (region_of s y ≡ Some q) × IsEnclosedIn r q)) o.enclosing
+        (λ (x : Option Rid). MatchOption x ((r.levels ≡ 0) × (r.active ≡ 0)) (λ y. (q : Region) × (region_of s y ≡ Some q) × IsEnclosedIn r q)) e
         (levels_count p events s reached n r live).levels in
         let (q, found, inside) = chain in
         let more : r.levels ≡ q.levels + 1 = inside.levels in
@@ -108,7 +104,7 @@ initial_level p events s reached n r live = go (is_initial n) refl
         e
         ∙ sym
         (eq-eqb r.levels 0 (first_level (subst (λ (x : Rid). region_of s x ≡ Some r) (is_first e) live)))
-    go false e = e ∙ sym (deeper r.encountering refl e)
+    go false e = e ∙ sym (deeper r.enclosing refl e)
 
 module _ (p : Program) (w : List ℕ) (m : Memory) (events : List (ℕ × Event)) (s : State) (actors : ℕ → Actor)
     (i : ℕ) (before : Before p w m events s actors i) (c : PlainCounter)

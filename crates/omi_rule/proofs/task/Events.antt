@@ -8,7 +8,7 @@ use Rattle.omi_model.specs.declared.event.Event.{Event}
 use Rattle.omi_model.specs.declared.item.Item.{Item}
 use Rattle.omi_model.specs.declared.item.Item.TheVariants as item
 use Rattle.omi_model.specs.declared.task.Task.{Task}
-use Rattle.omi_model.specs.Changes.{encounter_by, list_of, on_task, with_list}
+use Rattle.omi_model.specs.Changes.{encounter_by, ahead_of, on_task, with_list}
 use Rattle.omi_model.specs.Lists.{stays, take_item}
 use Rattle.omi_model.specs.Reached.{Step}
 use Rattle.omi_model.specs.Rules.{Rule, effect, moved, taken_by}
@@ -29,7 +29,7 @@ use Rattle.omi_rule.specs.Chains.{encounter_of}
 use Rattle.omi_rule.specs.Rule.{AreNewMembers}
 use Rattle.omi_rule.proofs.Assembly.{Before}
 use Rattle.omi_rule.proofs.NewMembers.{waiting_step}
-use Rattle.omi_rule.proofs.OwnTask.{list_moved, own_encounter, own_list}
+use Rattle.omi_rule.proofs.OwnTask.{list_moved, own_encounter, own_taken}
 use Rattle.omi_rule.proofs.Settling.{in_work_is}
 use Rattle.omi_rule.proofs.task.Within.{context, list_is, stands}
 
@@ -62,11 +62,10 @@ module _ (p : Program) (w : List ℕ) (m : Memory) (events : List (ℕ × Event)
       → take_item p (encounter_of s (actors i).context) e (task_ahead p (encounter_of s (actors i).context) (actors i).stack c) ≡ Some (y, ys)
       → taken_by p s i e ≡ Some (y, ys)
   takes e y ys taken =
-      ap (λ (x : Encounter). take_item p x e (list_of s i))
+      ap (λ (x : Encounter). take_item p x e (ahead_of s i))
       (own_encounter p s i (actors i) (stands p w m events s actors i before c at))
-      ∙ ap (λ (xs : List Item). take_item p At e xs)
-      (own_list p s i (actors i) (stands p w m events s actors i before c at) ∙ list_is p w m events s actors i before c at)
-      ∙ taken
+      ∙ own_taken p s i (actors i) (stands p w m events s actors i before c at) events before.rule.reached At e y ys
+      (ap (λ (xs : List Item). take_item p At e xs) (list_is p w m events s actors i before c at) ∙ taken)
 
   pub step : (e : Event) (y : Item) (ys zs : List Item) (u : State)
       → take_item p (encounter_of s (actors i).context) e (task_ahead p (encounter_of s (actors i).context) (actors i).stack c) ≡ Some (y, ys)

@@ -64,7 +64,7 @@ deferred_explicit p events s reached k t live is = go t.implicit refl
     go true e =
         let (r, found, there) = (members_known p events s reached).tasks k t live e in
         let member =
-        ((names_live p events s reached).regions t.region r found).team t.number (k, t.thread) there in
+        ((names_live p events s reached).regions t.region r found).members t.number (k, t.thread) there t live in
         absurd (member.undeferred (ap (λ (x : Task). x.progress) (some_same member.live live) ∙ is))
 
 module _ (p : Program) (w : List ℕ) (m : Memory) (events : List (ℕ × Event)) (s : State) (actors : ℕ → Actor)

@@ -7,7 +7,7 @@ use Rattle.omi_model.specs.declared.encounter.Encounter.{Encounter}
 use Rattle.omi_model.specs.declared.event.Event.{Event}
 use Rattle.omi_model.specs.declared.item.Item.{Item}
 use Rattle.omi_model.specs.declared.item.Item.TheVariants as item
-use Rattle.omi_model.specs.Changes.{list_of, on_task, with_list}
+use Rattle.omi_model.specs.Changes.{ahead_of, on_task, with_list}
 use Rattle.omi_model.specs.Lists.{stays, take_item}
 use Rattle.omi_model.specs.Put.{on}
 use Rattle.omi_model.specs.Reached.{Step}
@@ -39,7 +39,7 @@ use Rattle.omi_rule.proofs.Assembly.{Before, plain_event_keeps}
 use Rattle.omi_rule.proofs.NewMembers.{waiting_step}
 use Rattle.omi_rule.proofs.NothingNew.{Makes}
 use Rattle.omi_rule.proofs.Own.{ChangesTask}
-use Rattle.omi_rule.proofs.OwnTask.{list_moved, own_encounter, own_list, own_stands, relisted_ahead, top}
+use Rattle.omi_rule.proofs.OwnTask.{list_moved, own_encounter, own_taken, own_stands, relisted_ahead, top}
 use Rattle.omi_rule.proofs.RowsStay.{Spares}
 use Rattle.omi_rule.proofs.team.Within.{going, own, standing}
 use Rattle.omi_model.proofs.StaysKept.{stays_step}
@@ -70,8 +70,9 @@ module _ (p : Program) (w : List ℕ) (m : Memory) (events : List (ℕ × Event)
       → take_item p (encounter_of s (actors i).context) e (team_ahead p (encounter_of s (actors i).context) (actors i).stack c) ≡ Some (y, ys)
       → taken_by p s i e ≡ Some (y, ys)
   takes e y ys taken =
-      ap (λ (x : Encounter). take_item p x e (list_of s i)) (own_encounter p s i (actors i) stands)
-      ∙ ap (λ (xs : List Item). take_item p At e xs) (own_list p s i (actors i) stands ∙ list_is) ∙ taken
+      ap (λ (x : Encounter). take_item p x e (ahead_of s i)) (own_encounter p s i (actors i) stands)
+      ∙ own_taken p s i (actors i) stands events before.rule.reached At e y ys
+      (ap (λ (xs : List Item). take_item p At e xs) list_is ∙ taken)
 
   pub step : (e : Event) (y : Item) (ys zs : List Item) (u : State)
       → take_item p (encounter_of s (actors i).context) e (team_ahead p (encounter_of s (actors i).context) (actors i).stack c) ≡ Some (y, ys)

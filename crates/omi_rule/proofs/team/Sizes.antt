@@ -79,6 +79,7 @@ sizes_step p events s reached i e next step all =
     law : (middle : State) (y : Item) → IsRelisted s middle → Stays middle next → EachTask HasSizes middle
         → IsTaskLaw p middle i e y next HasSizes
     law middle y before later of_tasks = record {
+      frees = λ k t free how q. q;
       shows = λ k t x q. q;
       tools = λ k t x q. q;
       begins = λ k t waits mine by q. q;

@@ -14,7 +14,7 @@ use Rattle.omi_model.specs.declared.item.Item.TheVariants as item
 use Rattle.omi_model.specs.declared.region.Region.{Region}
 use Rattle.omi_model.specs.declared.task.Task.{Task}
 use Rattle.omi_model.specs.declared.thread.Thread.{Thread}
-use Rattle.omi_model.specs.Changes.{IsCurrent, encounter, list_of, on_task}
+use Rattle.omi_model.specs.Changes.{IsCurrent, encounter, on_task, ahead_of}
 use Rattle.omi_model.specs.Lists.{take_item}
 use Rattle.omi_numbers.specs.declared.states.TheConstants.{IDLE}
 use Rattle.omi_model.specs.Reached.{Step}
@@ -67,7 +67,7 @@ use Rattle.omi_rule.proofs.Assembly.{Before, plain_event_keeps, quiet_keeps, spa
 use Rattle.omi_rule.proofs.KeptObjects.{region_kept, region_there}
 use Rattle.omi_rule.proofs.NewMembers.{waiting_step}
 use Rattle.omi_rule.proofs.Owing.{owed_after, step_of}
-use Rattle.omi_rule.proofs.OwnTask.{is_current, list_moved, own_ahead, own_list, top}
+use Rattle.omi_rule.proofs.OwnTask.{is_current, list_moved, own_ahead, own_taken, top}
 use Rattle.omi_rule.proofs.WorkerLists.{worker_lists}
 use Rattle.omi_rule.proofs.plain.OwnEvents.{environment_stays}
 use Rattle.omi_rule.proofs.join.Departures.{ended_few}
@@ -234,16 +234,22 @@ module _ (p : Program) (w : List ℕ) (m : Memory) (events : List (ℕ × Event)
       on_same s.tasks k.0 (relisted [])
       ∙ ap (λ (x : Option Task). option_map {T = Task} (relisted []) x) ctx.live
 
-  list : list_of s i ≡ item.ImplicitEnd ∷ []
+  list : t.list ≡ item.ImplicitEnd ∷ []
   list =
-      own_list p s i (actors i) stands
-      ∙ subst (λ c. IsAhead p (encounter_of s (actors i).context) (actors i).stack c t.list) at
+      subst (λ c. IsAhead p (encounter_of s (actors i).context) (actors i).stack c t.list) at
       (own_ahead p s i (actors i) stands)
+
+  abbrev ends_last : Item × List Item
+  ends_last = (item.ImplicitEnd, [])
+
+  taken : take_item p (encounter s i) (event.ImplicitEnd k) (ahead_of s i) ≡ Some ends_last
+  taken =
+      own_taken p s i (actors i) stands events before.rule.reached (encounter s i) (event.ImplicitEnd k) item.ImplicitEnd []
+      (ap (take_item p (encounter s i) (event.ImplicitEnd k)) list)
 
   step : Step p s i (event.ImplicitEnd k) u
   step =
-      step_of p s i (event.ImplicitEnd k) u item.ImplicitEnd [] before.known
-      (ap (take_item p (encounter s i) (event.ImplicitEnd k)) list)
+      step_of p s i (event.ImplicitEnd k) u item.ImplicitEnd [] before.known taken
       (k, t, r, current, found, record { current = refl; implicit = implicit; other = other })
       (ap (λ (x : State). effect p x i (event.ImplicitEnd k) item.ImplicitEnd) (list_moved p s i (actors i) stands [])
       ∙ at_current z i k (relisted [] t) (task_ended z i) (record { name = current.name; live = live }))
@@ -327,7 +333,7 @@ module _ (p : Program) (w : List ℕ) (m : Memory) (events : List (ℕ × Event)
       (b, outcome.Event (event.ImplicitEnd k)) (event.ImplicitEnd k) u (λ x. x) refl step
       (ap (λ x. op.Store x 0) (own_thread p w m events s actors i before ThreadCurrent))
       (waiting_step p s i (event.ImplicitEnd k) u step
-      (λ y there h fork. let same : item.ImplicitEnd ≡ y.0 = ap (λ (x : Item × List Item). x.0) (some_same (ap (take_item p (encounter s i) (event.ImplicitEnd k)) list) there) in absurd (cc (same, fork))) before.rule.waiting)
+      (λ y there h fork. let same : item.ImplicitEnd ≡ y.0 = ap (λ (x : Item × List Item). x.0) (some_same taken there) in absurd (cc (same, fork))) before.rule.waiting)
       (owed_after w stored u actors i b (record nothing { left = Some t.region }) owes_left words)
       (λ j apart. spares_threads m s i ThreadCurrent 0 j (actors j) (λ same. absurd (omega (arith, same))))
       own

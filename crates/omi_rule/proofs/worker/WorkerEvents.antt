@@ -8,7 +8,7 @@ use Rattle.omi_model.specs.declared.event.Event.TheVariants as event
 use Rattle.omi_model.specs.declared.item.Item.{Item}
 use Rattle.omi_model.specs.declared.item.Item.TheVariants as item
 use Rattle.omi_model.specs.declared.thread.Thread.{Thread}
-use Rattle.omi_model.specs.Changes.{encounter, list_of, on_thread, with_list}
+use Rattle.omi_model.specs.Changes.{encounter, ahead_of, on_thread, with_list}
 use Rattle.omi_model.specs.Lists.{stays, take_item}
 use Rattle.omi_numbers.specs.declared.states.TheConstants.{IDLE}
 use Rattle.omi_numbers.specs.Words.{state_word}
@@ -79,7 +79,7 @@ module _ (p : Program) (w : List ℕ) (m : Memory) (events : List (ℕ × Event)
       pub worker_list : (s.threads i).list ≡ worker_ahead s c
       worker_list = subst (λ x. IsWorkerAhead s x (s.threads i).list) at stands_alone.ahead
 
-      pub taken_list : list_of s i ≡ worker_ahead s c
+      pub taken_list : ahead_of s i ≡ worker_ahead s c
       taken_list = idle_list s i stands_alone.current ∙ worker_list
 
       -- the thread's part afterwards, at another counter of a worker without a task

@@ -1,4 +1,4 @@
-use Rattle.omi_model.proofs.StaysKept.{stay, stay_over_an_event}
+use Rattle.omi_model.proofs.StaysLater.{stay, stay_over_an_event}
 use Rattle.omi_model.proofs.machine_laws.what_stays.Goals as goal
 
 pub returns-clause-event : goal.returns-clause-event
