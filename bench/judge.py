@@ -27,10 +27,13 @@ class Core:
 
     def __init__(self, data):
         self.data, self.at = data[:MOST_BYTES], 0
-        for fault, place, wanted in (('BadMagic', 0, b'OMPDCOR1'), ('Version', 8, b'\x01'),
-                                     ('Order', 9, b'\x00')):
+        for fault, place, wanted in (('BadMagic', 0, b'OMPDCOR1'), ('Version', 8, b'\x01')):
             if self.take(len(wanted)) != wanted:
                 self.refuse(place, fault)
+        order = self.number(1)
+        if order > 1:
+            self.refuse(9, 'Order')
+        self.form = ('<Q', '>Q')[order]
         count = self.number(2)
         if count > 64:
             self.refuse(10, 'BadContext')
@@ -80,7 +83,7 @@ class Core:
         if addr % 8 == 0:
             for start, end, place in self.segments:
                 if start <= addr < end:
-                    return struct.unpack_from('<Q', self.data, place + addr - start)[0]
+                    return struct.unpack_from(self.form, self.data, place + addr - start)[0]
         return None
 
 

@@ -4,35 +4,12 @@ use Rattle.std.specs.Prelude.{Result, IfOk, IfErr, nat_le}
 use Rattle.std.proofs.lemmas.Bool.{leb-true}
 use Rattle.omi_corefile.specs.Spelling.{Core, spelling}
 use Rattle.omi_corefile.specs.declared.core_image.CoreImage.{CoreImage}
-use Rattle.omi_corefile.proofs.Bounds.{bounds}
-use Rattle.omi_corefile.proofs.Fronts.{front_enough}
-use Rattle.omi_corefile.proofs.Lengths.{length-spelling_of}
+use Rattle.omi_corefile.proofs.Fronts.{front_core, front_enough}
 use Rattle.omi.specs.declared.limits.TheConstants.{CORE_FRONT}
 use Rattle.omi.specs.declared.opened.OpenCore.{OpenCore}
 use Rattle.omi.specs.declared.opened.OpenError.{OpenError}
 use Rattle.omi.specs.declared.opened.OpenError.TheVariants as error
 use Rattle.omi.specs.Opened.{IsNoCore, IsNotOpened, IsOpened, IsOpenedFrom}
-
--- a core has at most 8,390,160 bytes
-core_short : (bytes : List ℕ) (c : CoreImage) → Core bytes c → length bytes ≤ 8390160
-core_short bytes c is =
-    let b = bounds c in
-    let same : length bytes ≡ length (spelling c) = ap (λ (xs : List ℕ). length xs) is in
-    let long = length-spelling_of c.order c.contexts c.segments in
-    omega (arith, same, long, b.few_contexts, b.few_segments, b.few_words)
-
--- so the first 8,390,161 bytes say whether a file is a core, and which
-front_core : (bytes : List ℕ) (c : CoreImage) → Core (take CORE_FRONT bytes) c → Core bytes c
-front_core bytes c is = go (nat_le (length bytes) CORE_FRONT) refl
-  where
-    go : (b : Bool) → nat_le (length bytes) CORE_FRONT ≡ b → Core bytes c
-    go true e = sym (take_all CORE_FRONT bytes (leb-true (length bytes) CORE_FRONT e)) ∙ is
-    go false e =
-        let long : CORE_FRONT < length bytes = leb-false (length bytes) CORE_FRONT e in
-        let front : length (take CORE_FRONT bytes) ≡ CORE_FRONT =
-        length-take-le CORE_FRONT bytes (omega arith) in
-        let short = core_short (take CORE_FRONT bytes) c is in
-        absurd (omega (arith, front, short))
 
 front_opened : {F : Type 0} (bytes : List ℕ) (o : OpenCore F) → IsOpenedFrom (take CORE_FRONT bytes) o
     → IsOpenedFrom bytes o

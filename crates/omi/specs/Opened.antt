@@ -3,7 +3,7 @@ use Rattle.std.specs.Prelude.{◌≡◌, ℕ, List, Option, Some, None, Result, 
 use Rattle.omi_calls.specs.CoreCalls.{told_of_core}
 use Rattle.omi_calls.specs.CoreWords.{words_of_segments}
 use Rattle.omi_calls.specs.Memory.{told_by}
-use Rattle.omi_calls.specs.Told.{aligned_word_at}
+use Rattle.omi_calls.specs.Told.{Told, aligned_word_at}
 use Rattle.omi_corefile.specs.Refusals.{CoreRefused}
 use Rattle.omi_corefile.specs.Spelling.{Core}
 use Rattle.omi_corefile.specs.declared.core_image.CoreImage.{CoreImage}
@@ -19,12 +19,16 @@ use Rattle.omi.specs.declared.opened.OpenError.TheVariants.{NoFile, NotRead, NoC
 abbrev pub words_of_core : CoreImage → Words
 words_of_core core = aligned_word_at (words_of_segments core.segments)
 
+-- what is told of a core that was read whole: its words and its symbols, with the lowest byte of a word first whatever the core's order is
+abbrev pub told_lowest_first : CoreImage → Told
+told_lowest_first core = record (told_by core) { order = Some 0 }
+
 -- The bytes spell a core. The session's callbacks tell this core's words, its layout is the one that these give, and it holds no handle;
 -- the threads are the core's
 pub record IsOpenedFrom {F : Type 0} (bytes : List ℕ) (o : OpenCore F) : Type 0 where
   pub core : CoreImage
   pub spelled : Core bytes core
-  pub told : told_of_core o.session.table.calls ≡ told_by core
+  pub told : told_of_core o.session.table.calls ≡ told_lowest_first core
   pub layout : GivesLayout (words_of_core core) o.session.layout
   pub fresh : IsFresh o.session.handles
   pub threads : o.threads ≡ core.contexts

@@ -1,12 +1,11 @@
 -- What a tool looks into, and that it has looked.
 use Rattle.std.specs.Prelude.{◌≡◌, ℕ, List, Option, Some}
-use Rattle.omi_calls.specs.Memory.{told_by}
 use Rattle.omi_calls.specs.Told.{Told}
 use Rattle.omi_corefile.specs.Spelling.{Core}
 use Rattle.omi_corefile.specs.declared.core_image.CoreImage.{CoreImage}
 use Rattle.omi_layout.specs.Given.{GivesLayout}
 use Rattle.omi_outside.specs.Outside.{Told as FileTold}
-use Rattle.omi.specs.Opened.{words_of_core}
+use Rattle.omi.specs.Opened.{told_lowest_first, words_of_core}
 
 -- a stopped program: what is told of it, the words of its layout's table, and the native ids of its threads
 pub record Target : Type 0 where
@@ -18,7 +17,7 @@ pub record Target : Type 0 where
 pub record IsTargetOf (bytes : List ℕ) (target : Target) : Type 0 where
   pub core : CoreImage
   pub spelled : Core bytes core
-  pub told : target.told ≡ told_by core
+  pub told : target.told ≡ told_lowest_first core
   pub layout : GivesLayout (words_of_core core) target.layout
   pub threads : target.threads ≡ core.contexts
 

@@ -65,12 +65,13 @@ impl From<AllocError> for OpenError {
     }
 }
 
-/// A session with the words of a core, by a conversion of the bytes of a word.
+/// A session with the words of a core of order 0, by a conversion of the bytes of a word.
 fn session_over<F: ToHost>(
     alloc: Global,
     core: CoreImage,
     to_host: F,
 ) -> Result<Session<CoreCalls, F>, OpenError>
+    requires order { core.order ≡ 0 }
     requires takes { TakesAll (F.takes to_host) }
     requires gives { GivesNumbers (F.gives to_host) 0 }
     ensures layout { IfOk result (λ s. GivesLayout (words_of_core core) s.layout) }
@@ -109,12 +110,12 @@ fn opened<F: ToHost>(alloc: Global, front: &[u8], to_host: F) -> Result<OpenCore
 {
     let core = core_in(alloc, front)?;
     let threads = core.contexts.same(alloc)?;
-    let session = session_over(alloc, core, to_host)?;
+    let session = session_over(alloc, core.with_order(0), to_host)?;
     Ok(OpenCore { session, threads })
 }
 
 /// Opens the core in a file: reads the file, and opens a session with the target whose words it holds. `to_host` makes a number of a
-/// word's bytes, the lowest of which comes first.
+/// word's bytes, the lowest of which comes first, whatever the order of the core is: its words are turned where they are read.
 pub fn open_core<F: Files, H: ToHost>(
     alloc: Global,
     files: &mut F,

@@ -1,6 +1,7 @@
 -- What a table of callbacks keeps, and what it knows of it.
 use Rattle.std.specs.Prelude.{◌≡◌, ℕ, ◌<◌, List, length, slice_index, Some, ◌≤◌}
-use Rattle.omi_calls.specs.Told.{Told, number_of}
+use Rattle.omi_corefile.specs.ByteOrder.{number_of}
+use Rattle.omi_calls.specs.Told.{Told}
 
 -- the callbacks, the order of the bytes of a word, and the conversion
 pub record Kept (C F : Type 0) : Type 0 where

@@ -1,6 +1,5 @@
 -- What callbacks may tell of a target: the order of a word's bytes, its words and its symbols.
 use Rattle.std.specs.Prelude.{◌==◌, ℕ, ◌%◌, List, Option, None, if◌then◌else◌}
-use Rattle.std.specs.Int.{w64, from_le_bytes, from_be_bytes}
 use Rattle.omi_word.specs.Words.{Words}
 use Rattle.omi_calls.specs.declared.callbacks.Sizes.{Sizes}
 
@@ -19,7 +18,3 @@ pub record Told : Type 0 where
 -- the word at an address, which is a multiple of 8
 abbrev pub aligned_word_at : Words → ℕ → Option ℕ
 aligned_word_at words addr = if addr % 8 == 0 then words addr else None
-
--- the number of eight bytes in this order
-abbrev pub number_of : ℕ → List ℕ → ℕ
-number_of order bytes = if order == 0 then from_le_bytes w64 bytes else from_be_bytes w64 bytes

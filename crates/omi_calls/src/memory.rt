@@ -4,14 +4,15 @@ ghost use Rattle.std.specs.Prelude.{◌≡◌, ◌↔◌, ◌≤◌, ◌+◌, �
 ghost use Rattle.std.specs.List.{list_any};
 ghost use Rattle.omi_outside.specs.Outside.{HasCause, Rose};
 ghost use Rattle.omi_word.specs.Words.{Words};
-ghost use Rattle.omi_calls.specs.Told.{Symbols, aligned_word_at, number_of};
+ghost use Rattle.omi_corefile.specs.ByteOrder.{number_of};
+ghost use Rattle.omi_calls.specs.Told.{Symbols, aligned_word_at};
 ghost use Rattle.omi_calls.specs.Answers.{SaysMapped, SaysPlace};
 ghost use Rattle.omi_word.specs.SymbolTable.{symbol_in};
 ghost use Rattle.omi_calls.specs.Memory.{told_by, told_of, calls_made, faults_counted, is_to_fail, next_count};
 
 use crate::core_words::{CoreWords, core_word};
 use crate::{Callbacks, Got, Place, Sizes};
-use omi_corefile::CoreImage;
+use omi_corefile::{CoreImage, word_bytes};
 use omi_word::look_up;
 
 /// A debugger that has nothing but a core. Its reads and look-ups are counted together, and those
@@ -100,11 +101,7 @@ impl Callbacks for MemCalls {
         }
         match core_word(&self.core, addr) {
             Some(word) => {
-                *to = if self.core.order == 0 {
-                    word.to_le_bytes()
-                } else {
-                    word.to_be_bytes()
-                };
+                *to = word_bytes(self.core.order, word);
                 Got::Bytes
             }
             None => Got::NotMapped,

@@ -3,7 +3,8 @@
 ghost use Rattle.std.specs.Prelude.{◌≡◌, ◌≤◌, ◌+◌, ℕ, ◌↔◌, List, Some, IsErr, IfOk, IsSome};
 ghost use Rattle.omi_outside.specs.Outside.{HasCause};
 ghost use Rattle.omi_word.specs.Words.{Words};
-ghost use Rattle.omi_calls.specs.Told.{Symbols, aligned_word_at, number_of};
+ghost use Rattle.omi_corefile.specs.ByteOrder.{number_of};
+ghost use Rattle.omi_calls.specs.Told.{Symbols, aligned_word_at};
 ghost use Rattle.omi_calls.specs.Answers.{SaysPlace};
 ghost use Rattle.omi_word.specs.SymbolTable.{symbol_in};
 ghost use Rattle.omi_calls.specs.Kept.{IsOrderOf, TakesAll, GivesNumbers};

@@ -1,10 +1,10 @@
 -- The fault of a file that spells a core up to a field and holds something else there.
-use Rattle.std.proofs.Common.{◌≡◌, ◌≢◌, ◌⊎◌, ℕ, suc, ◌+◌, ◌*◌, ◌-◌, ◌^◌, ◌%◌, ◌<◌, ◌≤◌, Bool, true, false, cond, eqb, ltb, leb, List, [], ◌∷◌, ◌++◌, length, take, Result, Ok, Err, refl, sym, ap, subst, ◌∙◌, append_assoc, arith, inl, inr, length-append}
+use Rattle.std.proofs.Common.{◌≡◌, ◌≢◌, ℕ, ◌+◌, ◌*◌, ◌-◌, ◌^◌, ◌%◌, ◌<◌, ◌≤◌, Bool, true, false, cond, eqb, ltb, leb, List, [], ◌∷◌, ◌++◌, length, take, Ok, Err, refl, sym, ap, subst, ◌∙◌, append_assoc, arith, inl, inr, length-append}
 use Rattle.std.specs.Prelude.{IsTrue, ◌&&◌, codes, nat_eq}
 use Rattle.std.specs.List.{flat_map, starts_with}
 use Rattle.std.specs.Int.{Width, w16, w32, w64, to_le_bytes}
 use Rattle.std.specs.Cmp.Lexicographic.{same_text}
-use Rattle.std.proofs.lemmas.Bool.{and_parts, eqb-true, leb-true, ltb-true, ne_eqb, le-ltb, le-leb, lt-ltb, and_from, false_from_ne_true}
+use Rattle.std.proofs.lemmas.Bool.{and_parts, eqb-true, leb-true, ltb-true, ne_eqb, le-ltb, false_from_ne_true}
 use Rattle.std.proofs.lemmas.Grind.{flat_map-append}
 use Rattle.std.proofs.lemmas.List.{append-nil, take_at}
 use Rattle.std.proofs.lemmas.List.Sums.{sum_by-cons, sum_by-append}
@@ -12,18 +12,19 @@ use Rattle.omi_corefile.specs.declared.segment.Segment.{Segment}
 use Rattle.omi_corefile.specs.declared.core_image.CoreImage.{CoreImage}
 use Rattle.omi_corefile.specs.declared.fault.CoreFault.{CoreFault}
 use Rattle.omi_corefile.specs.declared.fault.CoreFault.TheVariants.{BadMagic, Version, Order, SegmentOrder, BadContext, TooLarge}
+use Rattle.omi_corefile.specs.ByteOrder.{is_order}
 use Rattle.omi_corefile.specs.Limits.{is_start, end_of, total_words}
 use Rattle.omi_word.specs.declared.limits.TheConstants.{FIRST_ADDRESS, MEMORY_END}
 use Rattle.omi_corefile.specs.declared.limits.TheConstants.{MOST_CONTEXTS, MOST_SEGMENTS, MOST_SEGMENT_WORDS}
-use Rattle.omi_corefile.specs.Spelling.{eight_bytes, numbers, header, segment_bytes, spelling}
+use Rattle.omi_corefile.specs.Spelling.{eight_bytes, numbers, words_in, header, segment_bytes, spelling}
 use Rattle.omi_corefile.specs.BadFields.{IsFaultAt, id_place, start_place, count_place, NeverStarts}
 use Rattle.omi_corefile.specs.Refusals.{ReadRefusal, ReadStep, ◌>>=◌, place_in_file, magic_at, byte_at, number_at, judged, version_at, order_at, context_count_at, segment_count_at, id_at, contexts_at, start_at, word_count_at, words_at, row_at, Left, left_after, segment_at, segments_at, Header, header_at, parts_at, reading}
-use Rattle.omi_corefile.proofs.Bounds.{Bounds, bounds}
+use Rattle.omi_corefile.proofs.Bounds.{bounds}
 use Rattle.omi_corefile.proofs.Lengths.{length-numbers, length-segments}
 use Rattle.omi_corefile.proofs.Numbers.{bind_again, HasWidth, width16, width32, width64, magic_again}
 use Rattle.omi_corefile.proofs.Readings.{Reads, Reads-number, Reads-judged, bind_failed}
 use Rattle.omi_corefile.proofs.RowLaws.{AreGood, IsId, least_then, Reads-id, good-ids, IsSegment, good-segments, Reads-segment, Reads-contexts}
-use Rattle.omi_corefile.proofs.FileLaws.{behind_name, behind_version, behind_order, behind_contexts, behind_counts, Reads-context_count, Reads-header, after_header, after_contexts, after_segments, ended}
+use Rattle.omi_corefile.proofs.FileLaws.{behind_name, behind_version, behind_order, behind_contexts, behind_counts, Reads-context_count, Reads-order, Reads-header, after_header, after_contexts, after_segments, ended}
 
 -- ---- a field
 
@@ -61,11 +62,11 @@ version_bad len at v rest other here =
     judged_bad (λ n. eqb n 1) (λ n at. Version n) (place_in_file len (v ∷ rest)) at
     (byte_at len (v ∷ rest)) v rest refl (ne_eqb v 1 other) here
 
-order_bad : (len at b : ℕ) (rest : List ℕ) → b ≢ 0 → place_in_file len (b ∷ rest) ≡ at
+order_bad : (len at b : ℕ) (rest : List ℕ) → 1 < b → place_in_file len (b ∷ rest) ≡ at
     → order_at len (b ∷ rest) ≡ Err (at, Order b)
-order_bad len at b rest other here =
-    judged_bad (λ n. eqb n 0) (λ n at. Order n) (place_in_file len (b ∷ rest)) at
-    (byte_at len (b ∷ rest)) b rest refl (ne_eqb b 0 other) here
+order_bad len at b rest over here =
+    judged_bad is_order (λ n at. Order n) (place_in_file len (b ∷ rest)) at
+    (byte_at len (b ∷ rest)) b rest refl (above b 1 over) here
 
 context_count_bad : (len at n : ℕ) (rest : List ℕ) → n < 2 ^ 16 → MOST_CONTEXTS < n
     → place_in_file len (to_le_bytes w16 n ++ rest) ≡ at
@@ -119,18 +120,16 @@ fault_at c front rest field at why spelled len bad more =
 
 -- what the header of a core says
 abbrev counts_of : CoreImage → Header
-counts_of c = record { order = 0; contexts = length c.contexts; segments = length c.segments }
+counts_of c = record { order = c.order; contexts = length c.contexts; segments = length c.segments }
 
 -- the header of a core
 abbrev header_of : CoreImage → List ℕ
-header_of c = header 0 (length c.contexts) (length c.segments)
+header_of c = header c.order (length c.contexts) (length c.segments)
 
 -- the spelling of a core, from its header on
 spelled : (c : CoreImage)
-    → spelling c ≡ header_of c ++ (numbers c.contexts ++ flat_map segment_bytes c.segments)
-spelled c =
-    let behind : List ℕ = numbers c.contexts ++ flat_map segment_bytes c.segments in
-    ap (λ (o : ℕ). header o (length c.contexts) (length c.segments) ++ behind) (bounds c).order_is
+    → spelling c ≡ header_of c ++ (numbers c.contexts ++ flat_map (segment_bytes c.order) c.segments)
+spelled c = append_assoc (header_of c) (numbers c.contexts) (flat_map (segment_bytes c.order) c.segments)
 
 -- the header of a core is read
 header_read : (c : CoreImage) (len : ℕ) (rest : List ℕ)
@@ -139,7 +138,7 @@ header_read c len rest =
     let b = bounds c in
     let contexts : ℕ = length c.contexts in
     let segments : ℕ = length c.segments in
-    (Reads-header len contexts segments b.few_contexts b.few_segments).whole rest
+    (Reads-header len c.order contexts segments b.order_is b.few_contexts b.few_segments).whole rest
 
 -- a file whose header is refused
 header_failed : (bytes : List ℕ) (r : ReadRefusal) → header_at (length bytes) bytes ≡ Err r
@@ -159,6 +158,17 @@ named_failed rest r e =
     let len : ℕ = length bytes in
     header_failed bytes r
     (bind_again (magic_at len bytes) (behind_name len) rest (magic_again len rest) ∙ e)
+
+-- and one whose version and order are good, by what follows these
+ordered_failed : (order : ℕ) (rest : List ℕ) (r : ReadRefusal) → is_order order ≡ true
+    → (let bytes = codes "OMPDCOR1" ++ (1 ∷ order ∷ rest) in
+    behind_order (length bytes) order rest ≡ Err r → reading bytes ≡ Err r)
+ordered_failed order rest r known e =
+    let text : List ℕ = order ∷ rest in
+    let len : ℕ = length (codes "OMPDCOR1" ++ (1 ∷ text)) in
+    named_failed (1 ∷ text) r
+    (bind_again (order_at len text) (λ read. behind_order len read.0 read.1) (order, rest)
+    ((Reads-order len order known).whole rest) ∙ e)
 
 pub bad_magic : (c : CoreImage) (name : List ℕ) → length name ≡ 8 → name ≢ codes "OMPDCOR1"
     → IsFaultAt c 0 name BadMagic
@@ -188,32 +198,32 @@ bad_version c v other =
     named_failed rest fault
     (bind_failed (version_at len rest) (λ version. behind_version len version.1) fault failed))
 
-pub bad_order : (c : CoreImage) (b : ℕ) → b ≢ 0 → IsFaultAt c 9 (b ∷ []) (Order b)
-bad_order c b other =
+pub bad_order : (c : CoreImage) (b : ℕ) → 1 < b → IsFaultAt c 9 (b ∷ []) (Order b)
+bad_order c b over =
     let front : List ℕ = codes "OMPDCOR1" ++ 1 ∷ [] in
     let fault : ReadRefusal = (9, Order b) in
     fault_at c front _ (b ∷ []) 9 (Order b) refl refl (λ bytes.
     let rest : List ℕ = b ∷ bytes in
     let len : ℕ = length (front ++ rest) in
     let failed : order_at len rest ≡ Err fault =
-    order_bad len 9 b bytes other (place_behind front rest) in
+    order_bad len 9 b bytes over (place_behind front rest) in
     named_failed (1 ∷ rest) fault
     (bind_failed (order_at len rest) (λ order. behind_order len order.0 order.1) fault failed))
 
 pub bad_context_count : (c : CoreImage) (n : ℕ) → MOST_CONTEXTS < n → n < 2 ^ 16
     → IsFaultAt c 10 (to_le_bytes w16 n) (BadContext 10)
 bad_context_count c n over below =
-    let front : List ℕ = codes "OMPDCOR1" ++ 1 ∷ 0 ∷ [] in
+    let front : List ℕ = codes "OMPDCOR1" ++ 1 ∷ c.order ∷ [] in
     let counted : List ℕ = to_le_bytes w16 (length c.contexts) ++ to_le_bytes w32 (length c.segments) in
-    let behind : List ℕ = counted ++ (numbers c.contexts ++ flat_map segment_bytes c.segments) in
+    let behind : List ℕ = counted ++ (numbers c.contexts ++ flat_map (segment_bytes c.order) c.segments) in
     let fault : ReadRefusal = (10, BadContext 10) in
     fault_at c front behind (to_le_bytes w16 n) 10 (BadContext 10) (spelled c) refl (λ bytes.
     let rest : List ℕ = to_le_bytes w16 n ++ bytes in
     let len : ℕ = length (front ++ rest) in
     let failed : context_count_at len rest ≡ Err fault =
     context_count_bad len 10 n bytes below over (place_behind front rest) in
-    named_failed (1 ∷ 0 ∷ rest) fault
-    (bind_failed (context_count_at len rest) (λ contexts. behind_contexts len 0 contexts.0 contexts.1)
+    ordered_failed c.order rest fault (bounds c).order_is
+    (bind_failed (context_count_at len rest) (λ contexts. behind_contexts len c.order contexts.0 contexts.1)
     fault failed))
 
 pub bad_segment_count : (c : CoreImage) (n : ℕ) → MOST_SEGMENTS < n → n < 2 ^ 32
@@ -221,8 +231,8 @@ pub bad_segment_count : (c : CoreImage) (n : ℕ) → MOST_SEGMENTS < n → n < 
 bad_segment_count c n over below =
     let contexts : ℕ = length c.contexts in
     let counted : List ℕ = to_le_bytes w16 contexts in
-    let front : List ℕ = codes "OMPDCOR1" ++ 1 ∷ 0 ∷ counted in
-    let parts : List ℕ = numbers c.contexts ++ flat_map segment_bytes c.segments in
+    let front : List ℕ = codes "OMPDCOR1" ++ 1 ∷ c.order ∷ counted in
+    let parts : List ℕ = numbers c.contexts ++ flat_map (segment_bytes c.order) c.segments in
     let behind : List ℕ = to_le_bytes w32 (length c.segments) ++ parts in
     let fault : ReadRefusal = (12, SegmentOrder 12) in
     fault_at c front behind (to_le_bytes w32 n) 12 (SegmentOrder 12) (spelled c) refl (λ bytes.
@@ -232,10 +242,10 @@ bad_segment_count c n over below =
     (Reads-context_count len contexts (bounds c).few_contexts).whole rest in
     let failed : segment_count_at len rest ≡ Err fault =
     segment_count_bad len 12 n bytes below over (place_behind front rest) in
-    named_failed (1 ∷ 0 ∷ counted ++ rest) fault
+    ordered_failed c.order (counted ++ rest) fault (bounds c).order_is
     (bind_again (context_count_at len (counted ++ rest))
-    (λ read. behind_contexts len 0 read.0 read.1) (contexts, rest) contexts_read
-    ∙ bind_failed (segment_count_at len rest) (behind_counts 0 contexts) fault failed))
+    (λ read. behind_contexts len c.order read.0 read.1) (contexts, rest) contexts_read
+    ∙ bind_failed (segment_count_at len rest) (behind_counts c.order contexts) fault failed))
 
 -- ---- a row
 
@@ -295,9 +305,9 @@ ids_are_good c ids more are =
 -- the spelling of a core, from a native id on
 spelled_ids : (c : CoreImage) (ids more : List ℕ) → c.contexts ≡ ids ++ more
     → spelling c
-    ≡ (header_of c ++ numbers ids) ++ (numbers more ++ flat_map segment_bytes c.segments)
+    ≡ (header_of c ++ numbers ids) ++ (numbers more ++ flat_map (segment_bytes c.order) c.segments)
 spelled_ids c ids more are =
-    let segments : List ℕ = flat_map segment_bytes c.segments in
+    let segments : List ℕ = flat_map (segment_bytes c.order) c.segments in
     let split : numbers c.contexts ≡ numbers ids ++ numbers more =
     ap numbers are ∙ flat_map-append eight_bytes ids more in
     spelled c
@@ -341,7 +351,7 @@ bad_id c before after last id n are low =
     let split : c.contexts ≡ ids ++ id ∷ after =
     are ∙ sym (append_assoc before (last ∷ []) (id ∷ after)) in
     let front : List ℕ = header_of c ++ numbers ids in
-    let behind : List ℕ = numbers (id ∷ after) ++ flat_map segment_bytes c.segments in
+    let behind : List ℕ = numbers (id ∷ after) ++ flat_map (segment_bytes c.order) c.segments in
     let so_long : length front ≡ at =
     omega (
       arith,
@@ -385,7 +395,7 @@ abbrev contexts_of : CoreImage → List ℕ
 contexts_of c = header_of c ++ numbers c.contexts
 
 abbrev upto : CoreImage → List Segment → List ℕ
-upto c before = contexts_of c ++ flat_map segment_bytes before
+upto c before = contexts_of c ++ flat_map (segment_bytes c.order) before
 
 -- the first segments of a core are good, each by those before it
 segments_are_good : (c : CoreImage) (before more : List Segment) → c.segments ≡ before ++ more
@@ -398,32 +408,32 @@ segments_are_good c before more are =
 
 -- the spelling of a core, from a segment on
 spelled_from : (c : CoreImage) (before behind : List Segment) → c.segments ≡ before ++ behind
-    → spelling c ≡ upto c before ++ flat_map segment_bytes behind
+    → spelling c ≡ upto c before ++ flat_map (segment_bytes c.order) behind
 spelled_from c before behind are =
-    let split : flat_map segment_bytes c.segments
-    ≡ flat_map segment_bytes before ++ flat_map segment_bytes behind =
-    ap (flat_map segment_bytes) are ∙ flat_map-append segment_bytes before behind in
+    let split : flat_map (segment_bytes c.order) c.segments
+    ≡ flat_map (segment_bytes c.order) before ++ flat_map (segment_bytes c.order) behind =
+    ap (flat_map (segment_bytes c.order)) are ∙ flat_map-append (segment_bytes c.order) before behind in
     spelled c
-    ∙ sym (append_assoc (header_of c) (numbers c.contexts) (flat_map segment_bytes c.segments))
+    ∙ sym (append_assoc (header_of c) (numbers c.contexts) (flat_map (segment_bytes c.order) c.segments))
     ∙ ap (λ (xs : List ℕ). contexts_of c ++ xs) split
-    ∙ sym (append_assoc (contexts_of c) (flat_map segment_bytes before)
-    (flat_map segment_bytes behind))
+    ∙ sym (append_assoc (contexts_of c) (flat_map (segment_bytes c.order) before)
+    (flat_map (segment_bytes c.order) behind))
 
 start_front : (c : CoreImage) (before : List Segment)
     → length (upto c before) ≡ start_place c before
 start_front c before =
     omega (
       arith,
-      length-append (contexts_of c) (flat_map segment_bytes before),
+      length-append (contexts_of c) (flat_map (segment_bytes c.order) before),
       length-append (header_of c) (numbers c.contexts),
       length-numbers c.contexts,
-      length-segments before,
+      length-segments c.order before,
     )
 
 -- a file that spells a core up to its segments, which are refused
 segments_failed : (c : CoreImage) (rest : List ℕ) (r : ReadRefusal)
     → (let bytes = contexts_of c ++ rest in
-    segments_at (length bytes) (length c.segments) rest ≡ Err r → reading bytes ≡ Err r)
+    segments_at (length bytes) c.order (length c.segments) rest ≡ Err r → reading bytes ≡ Err r)
 unfolding parts_at reading
 segments_failed c rest r failed =
     let bytes : List ℕ = contexts_of c ++ rest in
@@ -440,49 +450,50 @@ segments_failed c rest r failed =
     ∙ bind_again (header_at len text) (after_header len) (counts, behind) (header_read c len behind)
     ∙ bind_again (contexts_at len counts.contexts behind) (after_contexts len counts)
     (c.contexts, rest) ids_read
-    ∙ bind_failed (segments_at len counts.segments rest) (after_segments counts c.contexts) r failed in
+    ∙ bind_failed (segments_at len c.order counts.segments rest) (after_segments counts c.contexts) r failed in
     bind_failed (parts_at len bytes) (ended len) r parts_failed
 
 -- bytes where a segment behind these is to stand are refused, in a file of any length
 abbrev IsNoSegment : CoreImage → List Segment → List ℕ → ReadRefusal → Type 0
 IsNoSegment c before bytes r = (len : ℕ) → place_in_file len bytes ≡ start_place c before
-    → segment_at len (left_behind before) bytes ≡ Err r
+    → segment_at len c.order (left_behind before) bytes ≡ Err r
 
 -- a file that spells a core up to a segment is refused where the segment is
 segment_failed : (c : CoreImage) (before after : List Segment) (s : Segment) (rest : List ℕ)
     (r : ReadRefusal) → c.segments ≡ before ++ s ∷ after → IsNoSegment c before rest r
     → reading (upto c before ++ rest) ≡ Err r
 segment_failed c before after s rest r are failed =
-    let behind : List ℕ = flat_map segment_bytes before ++ rest in
+    let behind : List ℕ = flat_map (segment_bytes c.order) before ++ rest in
     let text : List ℕ = contexts_of c ++ behind in
     let len : ℕ = length text in
     let joined : upto c before ++ rest ≡ text =
-    append_assoc (contexts_of c) (flat_map segment_bytes before) rest in
+    append_assoc (contexts_of c) (flat_map (segment_bytes c.order) before) rest in
     let here : place_in_file len rest ≡ start_place c before =
     omega (
       arith,
       length-append (contexts_of c) behind,
-      length-append (flat_map segment_bytes before) rest,
+      length-append (flat_map (segment_bytes c.order) before) rest,
       length-append (header_of c) (numbers c.contexts),
       length-numbers c.contexts,
-      length-segments before,
+      length-segments c.order before,
     ) in
     let count : ℕ = length (before ++ s ∷ after) in
-    let row : row_at (segment_at len) left_after count no_segment behind ≡ Err r =
-    row_failed {S = Left} len IsSegment (segment_at len) left_after segment_bytes (Reads-segment len)
+    let row : row_at (segment_at len c.order) left_after count no_segment behind ≡ Err r =
+    row_failed {S = Left} len IsSegment (segment_at len c.order) left_after (segment_bytes c.order) (Reads-segment len c.order)
     no_segment before after s rest r (segments_are_good c before (s ∷ after) are) (failed len here) in
     ap reading joined
     ∙ segments_failed c behind r
-    (ap (λ (xs : List Segment). segments_at len (length xs) behind) are ∙ row)
+    (ap (λ (xs : List Segment). segments_at len c.order (length xs) behind) are ∙ row)
 
 -- what follows a segment's number of words, and its start address
-abbrev behind_word_count : ℕ → ℕ → ℕ × List ℕ → ReadStep Segment
-behind_word_count len start count =
-    words_at len count.0 count.1
+abbrev behind_word_count : ℕ → ℕ → ℕ → ℕ × List ℕ → ReadStep Segment
+behind_word_count len order start count =
+    words_at len order count.0 count.1
     >>= λ words. Ok (record { start = start; words = words.0 }, words.1)
 
-abbrev behind_start : ℕ → Left → ℕ × List ℕ → ReadStep Segment
-behind_start len left start = word_count_at len left.1 start.1 >>= behind_word_count len start.0
+abbrev behind_start : ℕ → ℕ → Left → ℕ × List ℕ → ReadStep Segment
+behind_start len order left start =
+    word_count_at len left.1 start.1 >>= behind_word_count len order start.0
 
 -- a start address that the rule refuses
 start_refused : (c : CoreImage) (before after : List Segment) (s : Segment) (n : ℕ)
@@ -493,11 +504,11 @@ start_refused c before after s n are below bad =
     let at : ℕ = start_place c before in
     let left : Left = left_behind before in
     let fault : ReadRefusal = (at, SegmentOrder at) in
-    fault_at c (upto c before) (flat_map segment_bytes (s ∷ after)) (eight_bytes n) at
+    fault_at c (upto c before) (flat_map (segment_bytes c.order) (s ∷ after)) (eight_bytes n) at
     (SegmentOrder at) (spelled_from c before (s ∷ after) are) (start_front c before) (λ bytes.
     let rest : List ℕ = eight_bytes n ++ bytes in
     segment_failed c before after s rest fault are (λ len here.
-    bind_failed (start_at len left.0 rest) (behind_start len left) fault
+    bind_failed (start_at len left.0 rest) (behind_start len c.order left) fault
     (start_bad len left.0 at n bytes below bad here)))
 
 -- what a start address that is allowed keeps
@@ -609,13 +620,13 @@ spelled_count : (c : CoreImage) (before after : List Segment) (s : Segment)
     → c.segments ≡ before ++ s ∷ after
     → spelling c
     ≡ (upto c before ++ eight_bytes s.start)
-    ++ ((eight_bytes (length s.words) ++ numbers s.words) ++ flat_map segment_bytes after)
+    ++ ((eight_bytes (length s.words) ++ words_in c.order s.words) ++ flat_map (segment_bytes c.order) after)
 spelled_count c before after s are =
     let start : List ℕ = eight_bytes s.start in
     let count : List ℕ = eight_bytes (length s.words) in
-    let words : List ℕ = numbers s.words in
-    let others : List ℕ = flat_map segment_bytes after in
-    let joined : segment_bytes s ++ others ≡ start ++ ((count ++ words) ++ others) =
+    let words : List ℕ = words_in c.order s.words in
+    let others : List ℕ = flat_map (segment_bytes c.order) after in
+    let joined : segment_bytes c.order s ++ others ≡ start ++ ((count ++ words) ++ others) =
     ap (λ (xs : List ℕ). xs ++ others) (append_assoc start count words)
     ∙ append_assoc start (count ++ words) others in
     spelled_from c before (s ∷ after) are
@@ -633,13 +644,13 @@ count_refused c before after s n why are below bad told =
     let at : ℕ = count_place c before in
     let left : Left = left_behind before in
     let start : List ℕ = eight_bytes s.start in
-    let counted : List ℕ = eight_bytes (length s.words) ++ numbers s.words in
+    let counted : List ℕ = eight_bytes (length s.words) ++ words_in c.order s.words in
     let so_long : length (upto c before ++ start) ≡ at =
     omega (arith, length-append (upto c before) start, start_front c before) in
     let good = subst (AreGood IsSegment left_after no_segment) are
     (segments_are_good c c.segments [] (sym (append-nil c.segments))) in
     let start_good : IsTrue (is_start left.0 s.start) = last_start before after s no_segment good in
-    fault_at c (upto c before ++ start) (counted ++ flat_map segment_bytes after) (eight_bytes n) at
+    fault_at c (upto c before ++ start) (counted ++ flat_map (segment_bytes c.order) after) (eight_bytes n) at
     why (spelled_count c before after s are) so_long (λ bytes.
     let rest : List ℕ = eight_bytes n ++ bytes in
     ap reading (append_assoc (upto c before) start rest)
@@ -648,9 +659,9 @@ count_refused c before after s n why are below bad told =
     let failed : word_count_at len left.1 rest ≡ Err (at, why) =
     word_count_bad len left.1 at n bytes below bad there
     ∙ ap (λ (w : CoreFault). Err (at, w)) told in
-    bind_again (start_at len left.0 (start ++ rest)) (behind_start len left) (s.start, rest)
+    bind_again (start_at len left.0 (start ++ rest)) (behind_start len c.order left) (s.start, rest)
     (start_read len left.0 s.start rest start_good)
-    ∙ bind_failed (word_count_at len left.1 rest) (behind_word_count len s.start) (at, why) failed))
+    ∙ bind_failed (word_count_at len left.1 rest) (behind_word_count len c.order s.start) (at, why) failed))
 
 pub no_words : (c : CoreImage) (before after : List Segment) (s : Segment)
     → c.segments ≡ before ++ s ∷ after

@@ -13,6 +13,7 @@ use Rattle.omi_corefile.specs.declared.fault.CoreFault.TheVariants.{Version, Ord
 use Rattle.omi_corefile.specs.declared.fault.CoreError.{CoreError}
 use Rattle.omi_corefile.specs.declared.fault.CoreError.TheVariants.{Fault, OutOfMemory}
 use Rattle.omi_corefile.specs.Outcomes.{Fails, UnlessMemory, IsCore, IsRefused}
+use Rattle.omi_corefile.specs.ByteOrder.{is_order}
 use Rattle.omi_corefile.specs.Limits.{rises_from, are_words, rise_apart_from, total_words, are_contexts, are_segments, within_limits}
 use Rattle.omi_word.specs.declared.limits.TheConstants.{FIRST_ADDRESS}
 use Rattle.omi_corefile.specs.declared.limits.TheConstants.{MOST_CONTEXTS, MOST_SEGMENTS, MOST_SEGMENT_WORDS}
@@ -47,7 +48,7 @@ behind_name len bytes = version_at len bytes >>= λ version. behind_version len 
 -- what is read of a header
 pub record TakesHeader (bytes : List ℕ) (counts : Header) (rest : List ℕ) : Type 0 where
   pub taken : Takes bytes (header counts.order counts.contexts counts.segments) rest
-  pub order_is : counts.order ≡ 0
+  pub order_is : is_order counts.order ≡ true
   pub few_contexts : counts.contexts ≤ MOST_CONTEXTS
   pub few_segments : counts.segments ≤ MOST_SEGMENTS
 
@@ -65,7 +66,7 @@ header_taken len bytes x are e =
     judged_taken (λ v. eqb v 1) (λ v at. Version v) (place_in_file len a.0) (byte_at len a.0) b.0 b.1 in
     let version_is = byte_taken len a.0 b.0 magic_is.rest_are_bytes version_judged.0 in
     let order_judged =
-    judged_taken (λ v. eqb v 0) (λ v at. Order v) (place_in_file len b.0.1) (byte_at len b.0.1) c.0 c.1 in
+    judged_taken is_order (λ v at. Order v) (place_in_file len b.0.1) (byte_at len b.0.1) c.0 c.1 in
     let order_was = byte_taken len b.0.1 c.0 version_is.rest_are_bytes order_judged.0 in
     let contexts_judged =
     judged_taken (λ n. leb n MOST_CONTEXTS) (λ n at. BadContext at) (place_in_file len c.0.1)
@@ -90,7 +91,7 @@ header_taken len bytes x are e =
     let made : Header × List ℕ = (record { order = c.0.0; contexts = d.0.0; segments = f.0.0 }, f.0.1) in
     subst (λ (y : Header × List ℕ). TakesHeader bytes y.0 y.1) {x = made} (ok_is made x f.2) (record {
       taken = whole;
-      order_is = eqb-true c.0.0 0 order_judged.1;
+      order_is = order_judged.1;
       few_contexts = leb-true d.0.0 MOST_CONTEXTS contexts_judged.1;
       few_segments = leb-true f.0.0 MOST_SEGMENTS segments_judged.1;
     })
@@ -109,21 +110,26 @@ Reads-context_count len contexts few =
     (Reads-number w16 (2 ^ 16) width16 len contexts (omega (arith, few)))
     (le-leb contexts MOST_CONTEXTS few)
 
-pub Reads-header : (len contexts segments : ℕ) → contexts ≤ MOST_CONTEXTS → segments ≤ MOST_SEGMENTS
-    → Reads len (header_at len) (header 0 contexts segments)
-    (record { order = 0; contexts = contexts; segments = segments })
+-- the order is read
+pub Reads-order : (len order : ℕ) → is_order order ≡ true → Reads len (order_at len) (order ∷ []) order
+Reads-order len order known =
+    Reads-judged len is_order (λ b at. Order b) (place_in_file len) (byte_at len) (order ∷ []) order
+    (Reads-byte len order) known
+
+pub Reads-header : (len order contexts segments : ℕ) → is_order order ≡ true → contexts ≤ MOST_CONTEXTS
+    → segments ≤ MOST_SEGMENTS
+    → Reads len (header_at len) (header order contexts segments)
+    (record { order = order; contexts = contexts; segments = segments })
 unfolding header_at
-Reads-header len contexts segments few_contexts few_segments =
-    let made : Header = record { order = 0; contexts = contexts; segments = segments } in
+Reads-header len order contexts segments known few_contexts few_segments =
+    let made : Header = record { order = order; contexts = contexts; segments = segments } in
     let name : List ℕ = codes "OMPDCOR1" in
     let counts : List ℕ = to_le_bytes w16 contexts ++ to_le_bytes w32 segments in
-    let text : List ℕ = 1 ∷ 0 ∷ counts in
+    let text : List ℕ = 1 ∷ order ∷ counts in
     let version_is =
     Reads-judged len (λ v. eqb v 1) (λ v at. Version v) (place_in_file len) (byte_at len) (1 ∷ []) 1
     (Reads-byte len 1) refl in
-    let order_is =
-    Reads-judged len (λ b. eqb b 0) (λ b at. Order b) (place_in_file len) (byte_at len) (0 ∷ []) 0
-    (Reads-byte len 0) refl in
+    let order_is = Reads-order len order known in
     let contexts_are = Reads-context_count len contexts few_contexts in
     let segments_number = Reads-number w32 (2 ^ 32) width32 len segments (omega arith) in
     let segments_are =
@@ -131,18 +137,18 @@ Reads-header len contexts segments few_contexts few_segments =
     (number_at w32 len) (to_le_bytes w32 segments) segments
     segments_number (le-leb segments MOST_SEGMENTS few_segments) in
     let from_segments =
-    Reads-map len (segment_count_at len) (λ (s : ℕ). record { order = 0; contexts = contexts; segments = s })
+    Reads-map len (segment_count_at len) (λ (s : ℕ). record { order = order; contexts = contexts; segments = s })
     (to_le_bytes w32 segments) segments segments_are in
     let from_contexts =
-    Reads-then len (context_count_at len) (λ (c : ℕ) bytes. behind_contexts len 0 c bytes)
+    Reads-then len (context_count_at len) (λ (c : ℕ) bytes. behind_contexts len order c bytes)
     (to_le_bytes w16 contexts) (to_le_bytes w32 segments)
     contexts made contexts_are from_segments in
     let from_order =
     Reads-then len (order_at len) (λ (o : ℕ) bytes. behind_order len o bytes)
-    (0 ∷ []) counts 0 made order_is from_contexts in
+    (order ∷ []) counts order made order_is from_contexts in
     let from_version : Reads len (behind_name len) text made =
     Reads-then len (version_at len) (λ (v : ℕ) bytes. behind_version len bytes) (1 ∷ [])
-    (0 ∷ counts) 1 made version_is from_order in
+    (order ∷ counts) 1 made version_is from_order in
     record {
       whole = λ rest.
           bind_again (magic_at len (name ++ (text ++ rest))) (behind_name len) (text ++ rest)
@@ -175,7 +181,7 @@ after_segments counts contexts segments =
 
 abbrev pub after_contexts : ℕ → Header → List ℕ × List ℕ → ReadStep Parts
 after_contexts len counts contexts =
-    segments_at len counts.segments contexts.1 >>= after_segments counts contexts.0
+    segments_at len counts.order counts.segments contexts.1 >>= after_segments counts contexts.0
 
 abbrev pub after_header : ℕ → Header × List ℕ → ReadStep Parts
 after_header len counts =
@@ -198,8 +204,8 @@ TakesParts bytes x =
 within : (order : ℕ) (contexts : List ℕ) (segments : List Segment) → Bounds order contexts segments
     → IsTrue (within_limits order contexts segments)
 within order contexts segments b =
-    and_from (eqb order 0 && are_contexts contexts) (are_segments segments)
-    (and_from (eqb order 0) (are_contexts contexts) (ap (λ (n : ℕ). eqb n 0) b.order_is) contexts_are) segments_are
+    and_from (is_order order && are_contexts contexts) (are_segments segments)
+    (and_from (is_order order) (are_contexts contexts) b.order_is contexts_are) segments_are
   where
     contexts_are : are_contexts contexts ≡ true
     contexts_are =
@@ -215,24 +221,39 @@ within order contexts segments b =
         (le-leb (length segments) MOST_SEGMENTS b.few_segments) b.segments_rise)
         (le-leb (total_words segments) MOST_SEGMENT_WORDS b.few_words)
 
+-- the same contexts and segments keep the limits in either order
+pub within_again : (c : CoreImage) (order : ℕ) → order ≤ 1
+    → IsTrue (within_limits order c.contexts c.segments)
+within_again c order known =
+    let b = bounds c in
+    within order c.contexts c.segments (record {
+      order_is = le-leb order 1 known;
+      few_contexts = b.few_contexts;
+      contexts_rise = b.contexts_rise;
+      contexts_are_words = b.contexts_are_words;
+      few_segments = b.few_segments;
+      segments_rise = b.segments_rise;
+      few_words = b.few_words;
+    })
+
 parts_taken : (len : ℕ) (bytes : List ℕ) (x : Parts × List ℕ) → AreBytes bytes → parts_at len bytes ≡ Ok x
     → TakesParts bytes x
 unfolding parts_at
 parts_taken len bytes x are e =
     let a = bind_ok (header_at len bytes) (after_header len) x e in
     let b = bind_ok (contexts_at len a.0.0.contexts a.0.1) (after_contexts len a.0.0) x a.2 in
-    let c = bind_ok (segments_at len a.0.0.segments b.0.1) (after_segments a.0.0 b.0.0) x b.2 in
+    let c = bind_ok (segments_at len a.0.0.order a.0.0.segments b.0.1) (after_segments a.0.0 b.0.0) x b.2 in
     let header_is = header_taken len bytes a.0 are a.1 in
     let contexts_are = contexts_taken len a.0.0.contexts a.0.1 b.0 header_is.taken.rest_are_bytes b.1 in
-    let segments_are = segments_taken len a.0.0.segments b.0.1 c.0 contexts_are.0.rest_are_bytes c.1 in
+    let segments_are = segments_taken len a.0.0.order a.0.0.segments b.0.1 c.0 contexts_are.0.rest_are_bytes c.1 in
     let header_bytes : List ℕ = header a.0.0.order a.0.0.contexts a.0.0.segments in
     let front = Takes-then bytes header_bytes a.0.1 (numbers b.0.0) b.0.1 header_is.taken contexts_are.0 in
-    let text : List ℕ = (header_bytes ++ numbers b.0.0) ++ flat_map segment_bytes c.0.0 in
+    let text : List ℕ = (header_bytes ++ numbers b.0.0) ++ flat_map (segment_bytes a.0.0.order) c.0.0 in
     let whole : Takes bytes text c.0.1 =
     Takes-then bytes (header_bytes ++ numbers b.0.0) b.0.1
-    (flat_map segment_bytes c.0.0) c.0.1 front segments_are.0 in
+    (flat_map (segment_bytes a.0.0.order) c.0.0) c.0.1 front segments_are.0 in
     let with_counts : ℕ → ℕ → List ℕ =
-    λ n m. (header a.0.0.order n m ++ numbers b.0.0) ++ flat_map segment_bytes c.0.0 in
+    λ n m. (header a.0.0.order n m ++ numbers b.0.0) ++ flat_map (segment_bytes a.0.0.order) c.0.0 in
     let counted : text ≡ spelling_of a.0.0.order b.0.0 c.0.0 =
     ap (λ (n : ℕ). with_counts n a.0.0.segments) (sym contexts_are.1)
     ∙ ap (with_counts (length b.0.0)) (sym segments_are.1) in
@@ -262,41 +283,35 @@ reading_taken bytes p are e =
     file.1.parts ∙ ap (λ (rest : List ℕ). text ++ rest) nothing ∙ append-nil text in
     subst (IsFile bytes) no_more.1 (file.0, spelled)
 
-Reads-parts_at_zero : (len : ℕ) (contexts : List ℕ) (segments : List Segment) → Bounds 0 contexts segments
-    → Reads len (parts_at len) (spelling_of 0 contexts segments)
-    (record { order = 0; contexts = contexts; segments = segments })
+Reads-parts : (len order : ℕ) (contexts : List ℕ) (segments : List Segment) → Bounds order contexts segments
+    → Reads len (parts_at len) (spelling_of order contexts segments)
+    (record { order = order; contexts = contexts; segments = segments })
 unfolding parts_at
-Reads-parts_at_zero len contexts segments b =
-    let counts : Header = record { order = 0; contexts = length contexts; segments = length segments } in
-    let parts : Parts = record { order = 0; contexts = contexts; segments = segments } in
-    let header_is = Reads-header len (length contexts) (length segments) b.few_contexts b.few_segments in
+Reads-parts len order contexts segments b =
+    let counts : Header = record { order = order; contexts = length contexts; segments = length segments } in
+    let parts : Parts = record { order = order; contexts = contexts; segments = segments } in
+    let header_is =
+    Reads-header len order (length contexts) (length segments) b.order_is b.few_contexts b.few_segments in
     let contexts_are = Reads-contexts len contexts b.contexts_rise b.contexts_are_words in
-    let segments_are = Reads-segments len segments b.segments_rise b.few_words in
+    let segments_are = Reads-segments len order segments b.segments_rise b.few_words in
     let from_segments =
-    Reads-map len (segments_at len (length segments))
-    (λ (s : List Segment). record { order = 0; contexts = contexts; segments = s })
-    (flat_map segment_bytes segments) segments segments_are in
+    Reads-map len (segments_at len order (length segments))
+    (λ (s : List Segment). record { order = order; contexts = contexts; segments = s })
+    (flat_map (segment_bytes order) segments) segments segments_are in
     let from_contexts =
     Reads-then len (contexts_at len (length contexts))
     (λ (c : List ℕ) bytes. after_contexts len counts (c, bytes))
-    (numbers contexts) (flat_map segment_bytes segments) contexts parts contexts_are from_segments in
+    (numbers contexts) (flat_map (segment_bytes order) segments) contexts parts contexts_are from_segments in
     Reads-then len (header_at len) (λ (h : Header) bytes. after_header len (h, bytes))
-    (header 0 (length contexts) (length segments))
-    (numbers contexts ++ flat_map segment_bytes segments) counts parts header_is from_contexts
+    (header order (length contexts) (length segments))
+    (numbers contexts ++ flat_map (segment_bytes order) segments) counts parts header_is from_contexts
 
 -- what a core holds, without its limits
 abbrev pub parts_of : CoreImage → Parts
 parts_of c = record { order = c.order; contexts = c.contexts; segments = c.segments }
 
 pub Reads-core : (len : ℕ) (c : CoreImage) → Reads len (parts_at len) (spelling c) (parts_of c)
-Reads-core len c =
-    let b = bounds c in
-    let at_zero : Bounds 0 c.contexts c.segments =
-    subst (λ (n : ℕ). Bounds n c.contexts c.segments) b.order_is b in
-    let parts : ℕ → Parts = λ n. record { order = n; contexts = c.contexts; segments = c.segments } in
-    subst (λ (n : ℕ). Reads len (parts_at len) (spelling_of n c.contexts c.segments) (parts n))
-    (sym b.order_is)
-    (Reads-parts_at_zero len c.contexts c.segments at_zero)
+Reads-core len c = Reads-parts len c.order c.contexts c.segments (bounds c)
 
 pub reading_again : (c : CoreImage) → reading (spelling c) ≡ Ok (parts_of c)
 unfolding reading

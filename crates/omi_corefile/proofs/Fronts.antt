@@ -2,16 +2,21 @@
 use Rattle.std.proofs.Common.{◌≡◌, ℕ, zero, suc, ◌+◌, ◌*◌, ◌-◌, ◌<◌, ◌≤◌, Bool, true, false, cond, eqb, ltb, List, [], ◌∷◌, ◌++◌, length, take, drop, Result, Ok, Err, refl, sym, ap, subst, ◌∙◌, arith, length-append, leb-false}
 use Rattle.std.specs.Prelude.{codes, nat_eq, nat_le, ◌&&◌}
 use Rattle.std.specs.List.{starts_with}
-use Rattle.std.specs.Int.{Width, w16, w32, w64, byte_len}
+use Rattle.std.specs.Int.{Width, w16, w32, w64, byte_len, from_le_bytes}
 use Rattle.std.proofs.lemmas.Bool.{and_parts, le-ltb, leb-true, ne_eqb}
 use Rattle.std.proofs.lemmas.List.{take-append-drop, take-append-le, drop-append-le, length-drop, length-take-le, take_all}
+use Rattle.omi_corefile.specs.declared.core_image.CoreImage.{CoreImage}
 use Rattle.omi_corefile.specs.declared.segment.Segment.{Segment}
 use Rattle.omi_corefile.specs.declared.fault.CoreFault.{CoreFault}
 use Rattle.omi_corefile.specs.declared.fault.CoreFault.TheVariants.{BadMagic, Version, Order, Trailing, TooLarge, SegmentOrder, BadContext}
 use Rattle.omi_corefile.specs.declared.limits.TheConstants.{MOST_BYTES, MOST_CONTEXTS, MOST_SEGMENTS}
+use Rattle.omi_corefile.specs.ByteOrder.{is_order, number_of}
 use Rattle.omi_corefile.specs.Limits.{is_start}
-use Rattle.omi_corefile.specs.Refusals.{ReadRefusal, ReadStep, ◌>>=◌, place_in_file, byte_at, number_at, judged, magic_at, id_at, row_at, contexts_at, words_at, Left, left_after, segment_at, segments_at, Header, header_at, Parts, parts_at, reading}
+use Rattle.omi_corefile.specs.Refusals.{ReadRefusal, ReadStep, ◌>>=◌, place_in_file, byte_at, value_at, number_at, word_at, judged, magic_at, id_at, row_at, contexts_at, words_at, Left, left_after, segment_at, segments_at, Header, header_at, Parts, parts_at, reading}
+use Rattle.omi_corefile.specs.Spelling.{Core, spelling}
+use Rattle.omi_corefile.proofs.Bounds.{bounds}
 use Rattle.omi_corefile.proofs.FileLaws.{ended}
+use Rattle.omi_corefile.proofs.Lengths.{length-spelling_of}
 
 -- What a step gives of a front of a file, and what it gives of the front and a tail: the same fault, or the same value. What is left of the front has enough for what comes next.
 abbrev pub Same : {A : Type 0} → (A → ℕ → Type 0) → List ℕ → ReadStep A → ReadStep A → Type 0
@@ -41,15 +46,20 @@ same_byte : (len other more : ℕ) (front tail : List ℕ) → 1 + more ≤ leng
 same_byte len other more [] tail long = absurd (omega (arith, long))
 same_byte len other more (b ∷ front) tail long = (refl, omega (arith, long))
 
-same_number : (w : Width) (len other more : ℕ) (front tail : List ℕ) → byte_len w + more ≤ length front
-    → Same (Leaves more) tail (number_at w len front) (number_at w other (front ++ tail))
-same_number w len other more front tail long =
-    let here : ltb (length front) (byte_len w) ≡ false = le-ltb _ _ (omega (arith, long)) in
-    let there : ltb (length (front ++ tail)) (byte_len w) ≡ false =
+same_value : (count : ℕ) (value : List ℕ → ℕ) (len other more : ℕ) (front tail : List ℕ)
+    → count + more ≤ length front
+    → Same (Leaves more) tail (value_at count value len front) (value_at count value other (front ++ tail))
+same_value count value len other more front tail long =
+    let here : ltb (length front) count ≡ false = le-ltb _ _ (omega (arith, long)) in
+    let there : ltb (length (front ++ tail)) count ≡ false =
     le-ltb _ _ (omega (arith, long, length-append front tail)) in
     rw
-    (here, there, take-append-le (byte_len w) front tail (omega (arith, long)), drop-append-le (byte_len w) front tail (omega (arith, long)))
-    (refl, omega (arith, long, length-drop (byte_len w) front))
+    (here, there, take-append-le count front tail (omega (arith, long)), drop-append-le count front tail (omega (arith, long)))
+    (refl, omega (arith, long, length-drop count front))
+
+same_number : (w : Width) (len other more : ℕ) (front tail : List ℕ) → byte_len w + more ≤ length front
+    → Same (Leaves more) tail (number_at w len front) (number_at w other (front ++ tail))
+same_number w = same_value (byte_len w) (from_le_bytes w)
 
 -- a number that a rule judges
 abbrev pub Allowed : (ℕ → Bool) → ℕ → ℕ → ℕ → Type 0
@@ -108,13 +118,13 @@ Numbers more count s k = 8 * count + more ≤ k
 abbrev Words : ℕ → ℕ → List ℕ → ℕ → Type 0
 Words count more row k = (length row ≡ count) × (more ≤ k)
 
-same_words : (len more count : ℕ) (front tail : List ℕ) → 8 * count + more ≤ length front
-    → Same (Words count more) tail (words_at len count front)
-    (words_at (len + length tail) count (front ++ tail))
-same_words len more count front tail long =
+same_words : (len order more count : ℕ) (front tail : List ℕ) → 8 * count + more ≤ length front
+    → Same (Words count more) tail (words_at len order count front)
+    (words_at (len + length tail) order count (front ++ tail))
+same_words len order more count front tail long =
     same_less (Ended (Numbers more) count) (Words count more) tail _ _
-    (same_row (Numbers more) (λ s. number_at w64 len) (λ s. number_at w64 (len + length tail)) (λ s word. s) tail
-    (λ rest s bytes enough. same_number w64 len (len + length tail) (8 * rest + more) bytes tail (omega (arith, enough))) count 0 front long)
+    (same_row (Numbers more) (λ s. word_at order len) (λ s. word_at order (len + length tail)) (λ s word. s) tail
+    (λ rest s bytes enough. same_value 8 (number_of order) len (len + length tail) (8 * rest + more) bytes tail (omega (arith, enough))) count 0 front long)
     (λ row k ended. (ended.0, omega (arith, ended.1.1)))
 
 pub same_contexts : (len more count : ℕ) (front tail : List ℕ) → 8 * count + more ≤ length front
@@ -136,12 +146,12 @@ Room more count left k = 16 * count + 8 * left.1 + more ≤ k
 abbrev Behind : ℕ → ℕ → Left → Segment → ℕ → Type 0
 Behind more count left s k = Room more count (left_after left s) k
 
-same_segment : (len more count : ℕ) (left : Left) (front tail : List ℕ)
+same_segment : (len order more count : ℕ) (left : Left) (front tail : List ℕ)
     → Room more (suc count) left (length front)
-    → Same (Behind more count left) tail (segment_at len left front)
-    (segment_at (len + length tail) left (front ++ tail))
+    → Same (Behind more count left) tail (segment_at len order left front)
+    (segment_at (len + length tail) order left (front ++ tail))
 unfolding segment_at
-same_segment len more count left front tail long =
+same_segment len order more count left front tail long =
     let behind : ℕ = 16 * count + 8 * left.1 + more in
     same_then (Allowed (is_start left.0) (8 + behind)) (Behind more count left) tail _ _ _ _
     (same_field w64 (is_start left.0) (λ n at. SegmentOrder at) len (8 + behind) front tail (omega (arith, long)))
@@ -151,15 +161,15 @@ same_segment len more count left front tail long =
     let within : number ≤ left.1 =
     leb-true number left.1 (and_parts (ltb 0 number) (nat_le number left.1) fits.0).1 in
     same_then (Words number (16 * count + 8 * (left.1 - number) + more)) (Behind more count left) tail _ _ _ _
-    (same_words len (16 * count + 8 * (left.1 - number) + more) number bytes tail (omega (arith, within, fits.1)))
+    (same_words len order (16 * count + 8 * (left.1 - number) + more) number bytes tail (omega (arith, within, fits.1)))
     (λ words after read. (refl, omega (arith, read.0, read.1)))))
 
-same_segments : (len more count : ℕ) (front tail : List ℕ) → 16 * count + 8388608 + more ≤ length front
-    → Same (Leaves more) tail (segments_at len count front)
-    (segments_at (len + length tail) count (front ++ tail))
-same_segments len more count front tail long =
+same_segments : (len order more count : ℕ) (front tail : List ℕ) → 16 * count + 8388608 + more ≤ length front
+    → Same (Leaves more) tail (segments_at len order count front)
+    (segments_at (len + length tail) order count (front ++ tail))
+same_segments len order more count front tail long =
     same_less (Ended (Room more) count) (Leaves more) tail _ _
-    (same_row (Room more) (segment_at len) (segment_at (len + length tail)) left_after tail (λ rest left bytes enough. same_segment len more rest left bytes tail enough) count _ front long)
+    (same_row (Room more) (segment_at len order) (segment_at (len + length tail) order) left_after tail (λ rest left bytes enough. same_segment len order more rest left bytes tail enough) count _ front long)
     (λ row k ended. omega (arith, ended.1.1))
 
 -- the same of the name of the format, which has no value
@@ -203,8 +213,8 @@ same_header len more front tail long =
     (same_magic len other (8 + more) front tail (omega (arith, long)))
     (λ a a_long. same_then (Allowed (λ v. eqb v 1) (7 + more)) (Few more) tail _ _ _ _
     (same_judged (λ v. eqb v 1) (λ v at. Version v) _ _ (7 + more) tail _ _ (same_place len a tail) (same_byte len other (7 + more) a tail (omega (arith, a_long))))
-    (λ version b b_long. same_then (Allowed (λ v. eqb v 0) (6 + more)) (Few more) tail _ _ _ _
-    (same_judged (λ v. eqb v 0) (λ v at. Order v) _ _ (6 + more) tail _ _ (same_place len b tail) (same_byte len other (6 + more) b tail (omega (arith, b_long.1))))
+    (λ version b b_long. same_then (Allowed is_order (6 + more)) (Few more) tail _ _ _ _
+    (same_judged is_order (λ v at. Order v) _ _ (6 + more) tail _ _ (same_place len b tail) (same_byte len other (6 + more) b tail (omega (arith, b_long.1))))
     (λ order c c_long. same_then (Allowed (λ n. nat_le n 64) (4 + more)) (Few more) tail _ _ _ _
     (same_field w16 (λ n. nat_le n MOST_CONTEXTS) (λ n at. BadContext at) len (4 + more) c tail (omega (arith, c_long.1)))
     (λ contexts d d_long. same_then (Allowed (λ n. nat_le n 64) more) (Few more) tail _ _ _ _
@@ -218,7 +228,7 @@ same_parts len more front tail long =
     same_then (Few (8390144 + more)) (Leaves more) tail _ _ _ _
     (same_header len (8390144 + more) front tail (omega (arith, long)))
     (λ counts a few. same_then (Leaves (8389632 + more)) (Leaves more) tail _ _ _ _ (same_contexts len (8389632 + more) counts.contexts a tail (omega (arith, few.0, few.2)))
-    (λ contexts b enough. same_then (Leaves more) (Leaves more) tail _ _ _ _ (same_segments len more counts.segments b tail (omega (arith, few.1, enough)))
+    (λ contexts b enough. same_then (Leaves more) (Leaves more) tail _ _ _ _ (same_segments len counts.order more counts.segments b tail (omega (arith, few.1, enough)))
     (λ segments c left. (refl, left))))
 
 -- what a front of more bytes than a core can have is, the whole is
@@ -251,3 +261,24 @@ front_enough bytes = go (nat_le (length bytes) (MOST_BYTES + 1)) refl
         length-take-le (MOST_BYTES + 1) bytes (omega arith) in
         front_tells (take (MOST_BYTES + 1) bytes) (drop (MOST_BYTES + 1) bytes) (omega (arith, front))
         ∙ ap reading (take-append-drop (MOST_BYTES + 1) bytes)
+
+-- a core has at most MOST_BYTES
+core_short : (bytes : List ℕ) (c : CoreImage) → Core bytes c → length bytes ≤ MOST_BYTES
+core_short bytes c is =
+    let b = bounds c in
+    let same : length bytes ≡ length (spelling c) = ap (λ (xs : List ℕ). length xs) is in
+    let long = length-spelling_of c.order c.contexts c.segments in
+    omega (arith, same, long, b.few_contexts, b.few_segments, b.few_words)
+
+-- so its first 8,390,161 bytes say whether a file is a core, and which
+pub front_core : (bytes : List ℕ) (c : CoreImage) → Core (take (MOST_BYTES + 1) bytes) c → Core bytes c
+front_core bytes c is = go (nat_le (length bytes) (MOST_BYTES + 1)) refl
+  where
+    go : (b : Bool) → nat_le (length bytes) (MOST_BYTES + 1) ≡ b → Core bytes c
+    go true e = sym (take_all (MOST_BYTES + 1) bytes (leb-true (length bytes) (MOST_BYTES + 1) e)) ∙ is
+    go false e =
+        let long : MOST_BYTES + 1 < length bytes = leb-false (length bytes) (MOST_BYTES + 1) e in
+        let front : length (take (MOST_BYTES + 1) bytes) ≡ MOST_BYTES + 1 =
+        length-take-le (MOST_BYTES + 1) bytes (omega arith) in
+        let short = core_short (take (MOST_BYTES + 1) bytes) c is in
+        absurd (omega (arith, front, short))

@@ -6,24 +6,32 @@ use Rattle.std.proofs.lemmas.List.Sums.{sum_by-cons}
 use Rattle.omi_corefile.specs.declared.segment.Segment.{Segment}
 use Rattle.omi_corefile.specs.Limits.{total_words}
 use Rattle.omi_word.specs.declared.limits.TheConstants.{FIRST_ADDRESS}
-use Rattle.omi_corefile.specs.Spelling.{eight_bytes, numbers, header, segment_bytes, spelling_of, segments_of, core_bytes}
+use Rattle.omi_corefile.specs.ByteOrder.{word_bytes}
+use Rattle.omi_corefile.specs.Spelling.{eight_bytes, numbers, words_in, header, segment_bytes, spelling_of, segments_of, core_bytes}
+use Rattle.omi_corefile.proofs.Numbers.{word_width}
+
+pub length-words_in : (order : ℕ) (ns : List ℕ) → length (words_in order ns) ≡ 8 * length ns
+length-words_in order [] = refl
+length-words_in order (n ∷ ns) =
+    omega
+    (arith, (word_width order).len n, length-append (word_bytes order n) (words_in order ns), length-words_in order ns)
 
 pub length-numbers : (ns : List ℕ) → length (numbers ns) ≡ 8 * length ns
-length-numbers [] = refl
-length-numbers (n ∷ ns) = omega (arith, length-append (eight_bytes n) (numbers ns), length-numbers ns)
+length-numbers ns = length-words_in 0 ns
 
-pub length-segments : (ss : List Segment)
-    → length (flat_map segment_bytes ss) ≡ 16 * length ss + 8 * total_words ss
-length-segments [] = refl
-length-segments (s ∷ ss) =
+pub length-segments : (order : ℕ) (ss : List Segment)
+    → length (flat_map (segment_bytes order) ss) ≡ 16 * length ss + 8 * total_words ss
+length-segments order [] = refl
+length-segments order (s ∷ ss) =
+    let front : List ℕ = eight_bytes s.start ++ eight_bytes (length s.words) in
     omega
-    (arith, length-append (segment_bytes s) (flat_map segment_bytes ss), length-numbers s.words, length-segments ss, sum_by-cons (λ (t : Segment). length t.words) s ss)
+    (arith, length-append (segment_bytes order s) (flat_map (segment_bytes order) ss), length-append front (words_in order s.words), length-words_in order s.words, length-segments order ss, sum_by-cons (λ (t : Segment). length t.words) s ss)
 
 pub length-spelling_of : (order : ℕ) (contexts : List ℕ) (segments : List Segment)
     → length (spelling_of order contexts segments) ≡ 16 + 8 * length contexts + 16 * length segments + 8 * total_words segments
 length-spelling_of order contexts segments =
     omega
-    (arith, length-append (numbers contexts) (flat_map segment_bytes segments), length-numbers contexts, length-segments segments)
+    (arith, length-append (numbers contexts) (flat_map (segment_bytes order) segments), length-numbers contexts, length-segments order segments)
 
 -- one field after another, put at the end
 pub three_fields : (out a b c : List ℕ) → ((out ++ a) ++ b) ++ c ≡ out ++ ((a ++ b) ++ c)

@@ -1,15 +1,16 @@
 -- A field that was read is the field as it is written, and what was written is read again.
-use Rattle.std.proofs.Common.{◌≡◌, ℕ, suc, ◌+◌, ◌^◌, ◌<◌, ◌≤◌, Bool, true, false, cond, ltb, List, [], ◌∷◌, ◌++◌, length, take, drop, Result, Ok, Err, refl, sym, ap, subst, ◌∙◌, append_assoc, arith, inl, inr}
+use Rattle.std.proofs.Common.{◌≡◌, ℕ, suc, ◌+◌, ◌^◌, ◌<◌, ◌≤◌, Bool, true, false, cond, eqb, ltb, List, [], ◌∷◌, ◌++◌, length, take, drop, Result, Ok, Err, refl, sym, ap, subst, ◌∙◌, append_assoc, arith, inl, inr}
 use Rattle.std.specs.Prelude.{codes, nat_eq}
 use Rattle.std.specs.List.{starts_with}
-use Rattle.std.specs.Int.{Width, w16, w32, w64, byte_len, from_le_bytes, to_le_bytes}
+use Rattle.std.specs.Int.{Width, w16, w32, w64, byte_len, from_le_bytes, from_be_bytes, to_le_bytes, to_be_bytes}
 use Rattle.std.specs.Cmp.Lexicographic.{same_text}
 use Rattle.std.proofs.lemmas.Bool.{cases_lt, ltb-false, le-ltb}
 use Rattle.std.proofs.lemmas.List.{take-append-drop, length-append, length-take, get_or-drop, get_or-take, get_or_past}
-use Rattle.std.proofs.lemmas.Nat.{le_bytes_2, le_bytes_4, le_bytes_8, from_le_bytes-to_le_bytes_2, from_le_bytes-to_le_bytes_4, from_le_bytes-to_le_bytes_8}
+use Rattle.std.proofs.lemmas.Nat.{le_bytes_2, le_bytes_4, le_bytes_8, from_le_bytes-to_le_bytes_2, from_le_bytes-to_le_bytes_4, from_le_bytes-to_le_bytes_8, be_bytes_8, from_be_bytes-to_be_bytes_8}
+use Rattle.omi_corefile.specs.ByteOrder.{word_bytes, number_of}
 use Rattle.omi_corefile.specs.declared.fault.CoreFault.{CoreFault}
 use Rattle.omi_corefile.specs.declared.fault.CoreFault.TheVariants.{BadMagic}
-use Rattle.omi_corefile.specs.Refusals.{ReadRefusal, ReadStep, ◌>>=◌, AreBytes, short, number_at, byte_at, judged, magic_at}
+use Rattle.omi_corefile.specs.Refusals.{ReadRefusal, ReadStep, ◌>>=◌, AreBytes, short, value_at, number_at, byte_at, judged, magic_at}
 
 -- ---- steps
 
@@ -64,13 +65,16 @@ Takes-drop n bytes are = record { parts = sym (take-append-drop n bytes); rest_a
 
 -- ---- numbers
 
+-- the numbers below `limit` are spelled in so many bytes, which tell them again
+pub record IsSpelled (count : ℕ) (value : List ℕ → ℕ) (spell : ℕ → List ℕ) (limit : ℕ) : Type 0 where
+  pub len : (n : ℕ) → length (spell n) ≡ count
+  pub written : (bytes : List ℕ) → length bytes ≡ count → AreBytes bytes → spell (value bytes) ≡ bytes
+  pub read : (n : ℕ) → n < limit → value (spell n) ≡ n
+  pub below : (bytes : List ℕ) → AreBytes bytes → value bytes < limit
+
 -- the numbers below `limit` are those of this width
-pub record HasWidth (w : Width) (limit : ℕ) : Type 0 where
-  pub len : (n : ℕ) → length (to_le_bytes w n) ≡ byte_len w
-  pub written : (bytes : List ℕ) → length bytes ≡ byte_len w → AreBytes bytes
-      → to_le_bytes w (from_le_bytes w bytes) ≡ bytes
-  pub read : (n : ℕ) → n < limit → from_le_bytes w (to_le_bytes w n) ≡ n
-  pub below : (bytes : List ℕ) → AreBytes bytes → from_le_bytes w bytes < limit
+abbrev pub HasWidth : Width → ℕ → Type 0
+HasWidth w limit = IsSpelled (byte_len w) (from_le_bytes w) (to_le_bytes w) limit
 
 pub width16 : HasWidth w16 (2 ^ 16)
 width16 = record {
@@ -96,21 +100,39 @@ width64 = record {
   below = λ bytes are. omega (arith, are 0, are 1, are 2, are 3, are 4, are 5, are 6, are 7);
 }
 
+-- the words of both orders
+width_by : (b : Bool)
+    → IsSpelled 8 (λ bytes. cond b (from_le_bytes w64 bytes) (from_be_bytes w64 bytes)) (λ n. cond b (to_le_bytes w64 n) (to_be_bytes w64 n)) (2 ^ 64)
+width_by true = width64
+width_by false = record {
+  len = λ n. refl;
+  written = λ bytes len are. be_bytes_8 bytes _ len are refl;
+  read = λ n below. from_be_bytes-to_be_bytes_8 n below;
+  below = λ bytes are. omega (arith, are 0, are 1, are 2, are 3, are 4, are 5, are 6, are 7);
+}
+
+pub word_width : (order : ℕ) → IsSpelled 8 (number_of order) (word_bytes order) (2 ^ 64)
+word_width order = width_by (eqb order 0)
+
+pub value_taken : (count : ℕ) (value : List ℕ → ℕ) (spell : ℕ → List ℕ) (limit : ℕ) (is : IsSpelled count value spell limit) (len : ℕ) (bytes : List ℕ) (x : ℕ × List ℕ)
+    → AreBytes bytes → value_at count value len bytes ≡ Ok x → Takes bytes (spell x.0) x.1 × (x.0 < limit)
+value_taken count value spell limit is len bytes x are e =
+    let front : List ℕ = take count bytes in
+    let got : ℕ × List ℕ = (value front, drop count bytes) in
+    let went = not_failed (ltb (length bytes) count) (short len) (Ok got) x e in
+    let long : count ≤ length bytes = ltb-false _ _ went.0 in
+    let front_are : AreBytes front = AreBytes-take count bytes are in
+    let written : spell (value front) ≡ front =
+    is.written front (omega (arith, length-take count bytes)) front_are in
+    let taken : Takes bytes (spell got.0) got.1 =
+    subst (λ (text : List ℕ). Takes bytes text (drop count bytes)) (sym written)
+    (Takes-drop count bytes are) in
+    subst (λ (y : ℕ × List ℕ). Takes bytes (spell y.0) y.1 × (y.0 < limit)) {x = got}
+    (ok_is got x went.1) (taken, is.below front front_are)
+
 pub number_taken : (w : Width) (limit : ℕ) (width : HasWidth w limit) (len : ℕ) (bytes : List ℕ) (x : ℕ × List ℕ)
     → AreBytes bytes → number_at w len bytes ≡ Ok x → Takes bytes (to_le_bytes w x.0) x.1 × (x.0 < limit)
-number_taken w limit width len bytes x are e =
-    let front : List ℕ = take (byte_len w) bytes in
-    let got : ℕ × List ℕ = (from_le_bytes w front, drop (byte_len w) bytes) in
-    let went = not_failed (ltb (length bytes) (byte_len w)) (short len) (Ok got) x e in
-    let long : byte_len w ≤ length bytes = ltb-false _ _ went.0 in
-    let front_are : AreBytes front = AreBytes-take (byte_len w) bytes are in
-    let written : to_le_bytes w (from_le_bytes w front) ≡ front =
-    width.written front (omega (arith, length-take (byte_len w) bytes)) front_are in
-    let taken : Takes bytes (to_le_bytes w got.0) got.1 =
-    subst (λ (text : List ℕ). Takes bytes text (drop (byte_len w) bytes)) (sym written)
-    (Takes-drop (byte_len w) bytes are) in
-    subst (λ (y : ℕ × List ℕ). Takes bytes (to_le_bytes w y.0) y.1 × (y.0 < limit)) {x = got}
-    (ok_is got x went.1) (taken, width.below front front_are)
+number_taken w limit width = value_taken (byte_len w) (from_le_bytes w) (to_le_bytes w) limit width
 
 pub byte_taken : (len : ℕ) (bytes : List ℕ) (x : ℕ × List ℕ) → AreBytes bytes → byte_at len bytes ≡ Ok x
     → Takes bytes (x.0 ∷ []) x.1

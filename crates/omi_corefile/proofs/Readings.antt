@@ -1,12 +1,12 @@
 -- A step that reads a text whatever follows it, and finds each proper front of the text too short.
 use Rattle.std.proofs.Common.{◌≡◌, ℕ, ◌+◌, ◌-◌, ◌<◌, Bool, true, false, ltb, List, [], ◌∷◌, ◌++◌, length, take, Result, Ok, Err, refl, ap, ◌∙◌, append_assoc, arith, inl, inr, length-append}
-use Rattle.std.specs.Int.{Width, byte_len, to_le_bytes}
+use Rattle.std.specs.Int.{Width, byte_len, from_le_bytes, to_le_bytes}
 use Rattle.std.proofs.Math.Seq.{take-append-add}
 use Rattle.std.proofs.lemmas.Bool.{cases_lt, lt-ltb, le-ltb}
 use Rattle.std.proofs.lemmas.List.{take_at, drop_at, take-append-le, length-take-le}
 use Rattle.omi_corefile.specs.declared.fault.CoreFault.{CoreFault}
-use Rattle.omi_corefile.specs.Refusals.{ReadRefusal, ReadStep, ◌>>=◌, short, number_at, byte_at, judged}
-use Rattle.omi_corefile.proofs.Numbers.{bind_again, HasWidth}
+use Rattle.omi_corefile.specs.Refusals.{ReadRefusal, ReadStep, ◌>>=◌, short, value_at, number_at, byte_at, judged}
+use Rattle.omi_corefile.proofs.Numbers.{bind_again, HasWidth, IsSpelled}
 
 pub record Reads {A : Type 0} (len : ℕ) (one : List ℕ → ReadStep A) (text : List ℕ) (x : A) : Type 0 where
   pub whole : (rest : List ℕ) → one (text ++ rest) ≡ Ok (x, rest)
@@ -53,20 +53,24 @@ Reads-map {A} {B} len one f a x p =
       cut = λ n below. bind_failed (one (take n a)) follow (short len) (p.cut n below);
     }
 
-pub Reads-number : (w : Width) (limit : ℕ) (width : HasWidth w limit) (len n : ℕ) → n < limit
-    → Reads len (number_at w len) (to_le_bytes w n) n
-Reads-number w limit width len n below =
-    let so_long = width.len n in
+pub Reads-value : (count : ℕ) (value : List ℕ → ℕ) (spell : ℕ → List ℕ) (limit : ℕ) (is : IsSpelled count value spell limit) (len n : ℕ)
+    → n < limit → Reads len (value_at count value len) (spell n) n
+Reads-value count value spell limit is len n below =
+    let so_long = is.len n in
     record {
       whole = λ rest.
-          let long : ltb (length (to_le_bytes w n ++ rest)) (byte_len w) ≡ false =
-          le-ltb _ _ (omega (arith, length-append (to_le_bytes w n) rest)) in
-          rw (long, take_at (to_le_bytes w n) rest (byte_len w) so_long, drop_at (to_le_bytes w n) rest (byte_len w) so_long, width.read n below) refl;
+          let long : ltb (length (spell n ++ rest)) count ≡ false =
+          le-ltb _ _ (omega (arith, length-append (spell n) rest)) in
+          rw (long, take_at (spell n) rest count so_long, drop_at (spell n) rest count so_long, is.read n below) refl;
       cut = λ k inside.
-          let too_short : ltb (length (take k (to_le_bytes w n))) (byte_len w) ≡ true =
-          lt-ltb _ _ (omega (arith, length-take-le k (to_le_bytes w n) (omega arith))) in
+          let too_short : ltb (length (take k (spell n))) count ≡ true =
+          lt-ltb _ _ (omega (arith, length-take-le k (spell n) (omega arith))) in
           rw too_short refl;
     }
+
+pub Reads-number : (w : Width) (limit : ℕ) (width : HasWidth w limit) (len n : ℕ) → n < limit
+    → Reads len (number_at w len) (to_le_bytes w n) n
+Reads-number w limit width = Reads-value (byte_len w) (from_le_bytes w) (to_le_bytes w) limit width
 
 pub Reads-byte : (len n : ℕ) → Reads len (byte_at len) (n ∷ []) n
 Reads-byte len n = record {

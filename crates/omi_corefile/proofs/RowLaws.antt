@@ -11,10 +11,11 @@ use Rattle.omi_corefile.specs.declared.fault.CoreFault.TheVariants.{SegmentOrder
 use Rattle.omi_corefile.specs.Limits.{rises_from, are_words, is_start, end_of, rise_apart_from, total_words}
 use Rattle.omi_word.specs.declared.limits.TheConstants.{FIRST_ADDRESS, MEMORY_END}
 use Rattle.omi_corefile.specs.declared.limits.TheConstants.{MOST_SEGMENT_WORDS}
-use Rattle.omi_corefile.specs.Spelling.{eight_bytes, numbers, segment_bytes}
-use Rattle.omi_corefile.specs.Refusals.{ReadStep, ◌>>=◌, AreBytes, number_at, row_at, id_at, contexts_at, words_at, start_at, word_count_at, Left, left_after, segment_at, segments_at, place_in_file}
-use Rattle.omi_corefile.proofs.Numbers.{bind_ok, ok_is, Takes, Takes-then, width64, number_taken, judged_taken}
-use Rattle.omi_corefile.proofs.Readings.{Reads, Reads-none, Reads-then, Reads-map, Reads-number, Reads-judged}
+use Rattle.omi_corefile.specs.ByteOrder.{word_bytes, number_of}
+use Rattle.omi_corefile.specs.Spelling.{eight_bytes, numbers, words_in, segment_bytes}
+use Rattle.omi_corefile.specs.Refusals.{ReadStep, ◌>>=◌, AreBytes, number_at, word_at, row_at, id_at, contexts_at, words_at, start_at, word_count_at, Left, left_after, segment_at, segments_at, place_in_file}
+use Rattle.omi_corefile.proofs.Numbers.{bind_ok, ok_is, Takes, Takes-then, width64, word_width, number_taken, value_taken, judged_taken}
+use Rattle.omi_corefile.proofs.Readings.{Reads, Reads-none, Reads-then, Reads-map, Reads-value, Reads-number, Reads-judged}
 
 -- each of a row is good by the state that the ones before it leave
 abbrev pub AreGood : {S A : Type 0} → (S → A → Type 0) → (S → A → S) → S → List A → Type 0
@@ -80,20 +81,21 @@ good-are_words (x ∷ row) s all =
     let both = and_parts (ltb x (2 ^ 64)) (are_words row) all in
     (ltb-true x (2 ^ 64) both.0, good-are_words row s both.1)
 
-pub words_taken : (len count : ℕ) (bytes : List ℕ) (x : List ℕ × List ℕ) → AreBytes bytes
-    → words_at len count bytes ≡ Ok x
-    → Takes bytes (numbers x.0) x.1 × (length x.0 ≡ count) × IsTrue (are_words x.0)
-words_taken len count bytes x are e =
+pub words_taken : (len order count : ℕ) (bytes : List ℕ) (x : List ℕ × List ℕ) → AreBytes bytes
+    → words_at len order count bytes ≡ Ok x
+    → Takes bytes (words_in order x.0) x.1 × (length x.0 ≡ count) × IsTrue (are_words x.0)
+words_taken len order count bytes x are e =
     let row =
-    row_taken {S = ℕ} IsWord (λ s. number_at w64 len) stays eight_bytes
-    (λ s. number_taken w64 (2 ^ 64) width64 len) count 0 bytes x are e in
+    row_taken {S = ℕ} IsWord (λ s. word_at order len) stays (word_bytes order)
+    (λ s. value_taken 8 (number_of order) (word_bytes order) (2 ^ 64) (word_width order) len) count 0 bytes x are e in
     (row.taken, row.so_many, are_words-good x.0 0 row.good)
 
-pub Reads-words : (len : ℕ) (words : List ℕ) → IsTrue (are_words words)
-    → Reads len (words_at len (length words)) (numbers words) words
-Reads-words len words all =
-    Reads-row {S = ℕ} len IsWord (λ s. number_at w64 len) stays eight_bytes
-    (λ s. Reads-number w64 (2 ^ 64) width64 len) 0 words (good-are_words words 0 all)
+pub Reads-words : (len order : ℕ) (words : List ℕ) → IsTrue (are_words words)
+    → Reads len (words_at len order (length words)) (words_in order words) words
+Reads-words len order words all =
+    Reads-row {S = ℕ} len IsWord (λ s. word_at order len) stays (word_bytes order)
+    (λ s. Reads-value 8 (number_of order) (word_bytes order) (2 ^ 64) (word_width order) len) 0 words
+    (good-are_words words 0 all)
 
 -- ---- native ids
 
@@ -159,18 +161,18 @@ start_below least start good =
     ltb-true start MEMORY_END (and_parts (eqb (start % 8) 0 && leb least start) (ltb start MEMORY_END) good).1 in
     omega arith
 
-segment_taken : (len : ℕ) (left : Left) (bytes : List ℕ) (x : Segment × List ℕ) → AreBytes bytes
-    → segment_at len left bytes ≡ Ok x → Takes bytes (segment_bytes x.0) x.1 × IsSegment left x.0
+segment_taken : (len order : ℕ) (left : Left) (bytes : List ℕ) (x : Segment × List ℕ) → AreBytes bytes
+    → segment_at len order left bytes ≡ Ok x → Takes bytes (segment_bytes order x.0) x.1 × IsSegment left x.0
 unfolding segment_at
-segment_taken len left bytes x are e =
+segment_taken len order left bytes x are e =
     let a =
     bind_ok (start_at len left.0 bytes)
-    (λ start. word_count_at len left.1 start.1 >>= λ count. words_at len count.0 count.1 >>= λ words. Ok (record { start = start.0; words = words.0 }, words.1)) x e in
+    (λ start. word_count_at len left.1 start.1 >>= λ count. words_at len order count.0 count.1 >>= λ words. Ok (record { start = start.0; words = words.0 }, words.1)) x e in
     let b =
     bind_ok (word_count_at len left.1 a.0.1)
-    (λ count. words_at len count.0 count.1 >>= λ words. Ok (record { start = a.0.0; words = words.0 }, words.1)) x a.2 in
+    (λ count. words_at len order count.0 count.1 >>= λ words. Ok (record { start = a.0.0; words = words.0 }, words.1)) x a.2 in
     let c =
-    bind_ok (words_at len b.0.0 b.0.1)
+    bind_ok (words_at len order b.0.0 b.0.1)
     (λ words. Ok (record { start = a.0.0; words = words.0 }, words.1)) x b.2 in
     let start_judged =
     judged_taken (is_start left.0) (λ n at. SegmentOrder at) (place_in_file len bytes)
@@ -181,24 +183,24 @@ segment_taken len left bytes x are e =
     (place_in_file len a.0.1) (number_at w64 len a.0.1) b.0 b.1 in
     let count_is = number_taken w64 (2 ^ 64) width64 len a.0.1 b.0 start_is.0.rest_are_bytes count_judged.0 in
     let count_good = and_parts (ltb 0 b.0.0) (leb b.0.0 left.1) count_judged.1 in
-    let words_are = words_taken len b.0.0 b.0.1 c.0 count_is.0.rest_are_bytes c.1 in
+    let words_are = words_taken len order b.0.0 b.0.1 c.0 count_is.0.rest_are_bytes c.1 in
     let front = Takes-then bytes (eight_bytes a.0.0) a.0.1 (eight_bytes b.0.0) b.0.1 start_is.0 count_is.0 in
     let whole =
-    Takes-then bytes (eight_bytes a.0.0 ++ eight_bytes b.0.0) b.0.1 (numbers c.0.0) c.0.1 front words_are.0 in
-    let spelled : Takes bytes ((eight_bytes a.0.0 ++ eight_bytes (length c.0.0)) ++ numbers c.0.0) c.0.1 =
-    subst (λ (n : ℕ). Takes bytes ((eight_bytes a.0.0 ++ eight_bytes n) ++ numbers c.0.0) c.0.1)
+    Takes-then bytes (eight_bytes a.0.0 ++ eight_bytes b.0.0) b.0.1 (words_in order c.0.0) c.0.1 front words_are.0 in
+    let spelled : Takes bytes ((eight_bytes a.0.0 ++ eight_bytes (length c.0.0)) ++ words_in order c.0.0) c.0.1 =
+    subst (λ (n : ℕ). Takes bytes ((eight_bytes a.0.0 ++ eight_bytes n) ++ words_in order c.0.0) c.0.1)
     (sym words_are.1) whole in
     let some : 0 < length c.0.0 = omega (arith, words_are.1, ltb-true 0 b.0.0 count_good.0) in
     let fit : length c.0.0 ≤ left.1 = omega (arith, words_are.1, leb-true b.0.0 left.1 count_good.1) in
     let below : length c.0.0 < 2 ^ 64 = omega (arith, words_are.1, count_is.1) in
     let made : Segment × List ℕ = (record { start = a.0.0; words = c.0.0 }, c.0.1) in
-    subst (λ (y : Segment × List ℕ). Takes bytes (segment_bytes y.0) y.1 × IsSegment left y.0) {x = made}
+    subst (λ (y : Segment × List ℕ). Takes bytes (segment_bytes order y.0) y.1 × IsSegment left y.0) {x = made}
     (ok_is made x c.2) (spelled, (start_judged.1, some, fit, words_are.2, below))
 
-pub Reads-segment : (len : ℕ) (left : Left) (s : Segment) → IsSegment left s
-    → Reads len (segment_at len left) (segment_bytes s) s
+pub Reads-segment : (len order : ℕ) (left : Left) (s : Segment) → IsSegment left s
+    → Reads len (segment_at len order left) (segment_bytes order s) s
 unfolding segment_at
-Reads-segment len left s good =
+Reads-segment len order left s good =
     let count : ℕ = length s.words in
     let start_is =
     Reads-judged len (is_start left.0) (λ n at. SegmentOrder at) (place_in_file len) (number_at w64 len)
@@ -211,18 +213,18 @@ Reads-segment len left s good =
     (and_from (ltb 0 count) (leb count left.1) (lt-ltb 0 count good.1) (le-leb count left.1 good.2)) in
     let made : ℕ → List ℕ → Segment = λ start words. record { start = start; words = words } in
     let words_are =
-    Reads-map len (words_at len count) (made s.start) (numbers s.words) s.words
-    (Reads-words len s.words good.3) in
+    Reads-map len (words_at len order count) (made s.start) (words_in order s.words) s.words
+    (Reads-words len order s.words good.3) in
     let counted =
     Reads-then len (word_count_at len left.1)
-    (λ (n : ℕ) bytes. words_at len n bytes >>= λ words. Ok (made s.start words.0, words.1))
-    (eight_bytes count) (numbers s.words) count s count_is words_are in
+    (λ (n : ℕ) bytes. words_at len order n bytes >>= λ words. Ok (made s.start words.0, words.1))
+    (eight_bytes count) (words_in order s.words) count s count_is words_are in
     let whole =
     Reads-then len (start_at len left.0)
-    (λ (start : ℕ) bytes. word_count_at len left.1 bytes >>= λ n. words_at len n.0 n.1 >>= λ words. Ok (made start words.0, words.1))
-    (eight_bytes s.start) (eight_bytes count ++ numbers s.words) s.start s start_is counted in
-    subst (λ (text : List ℕ). Reads len (segment_at len left) text s)
-    (sym (append_assoc (eight_bytes s.start) (eight_bytes count) (numbers s.words))) whole
+    (λ (start : ℕ) bytes. word_count_at len left.1 bytes >>= λ n. words_at len order n.0 n.1 >>= λ words. Ok (made start words.0, words.1))
+    (eight_bytes s.start) (eight_bytes count ++ words_in order s.words) s.start s start_is counted in
+    subst (λ (text : List ℕ). Reads len (segment_at len order left) text s)
+    (sym (append_assoc (eight_bytes s.start) (eight_bytes count) (words_in order s.words))) whole
 
 segments-good : (left : Left) (ss : List Segment) → AreGood IsSegment left_after left ss
     → IsTrue (rise_apart_from left.0 ss) × (total_words ss ≤ left.1)
@@ -248,20 +250,20 @@ good-segments left (s ∷ ss) small rise fit =
     omega (arith, sum_by-cons (λ (t : Segment). length t.words) s ss) in
     ((c.0, ltb-true 0 (length s.words) c.1, omega (arith, total), b.1, omega (arith, total)), good-segments (left_after left s) ss (omega arith) a.1 (omega (arith, total)))
 
-pub segments_taken : (len count : ℕ) (bytes : List ℕ) (x : List Segment × List ℕ) → AreBytes bytes
-    → segments_at len count bytes ≡ Ok x
-    → Takes bytes (flat_map segment_bytes x.0) x.1 × (length x.0 ≡ count) × IsTrue (rise_apart_from FIRST_ADDRESS x.0) × (total_words x.0 ≤ MOST_SEGMENT_WORDS)
-segments_taken len count bytes x are e =
+pub segments_taken : (len order count : ℕ) (bytes : List ℕ) (x : List Segment × List ℕ) → AreBytes bytes
+    → segments_at len order count bytes ≡ Ok x
+    → Takes bytes (flat_map (segment_bytes order) x.0) x.1 × (length x.0 ≡ count) × IsTrue (rise_apart_from FIRST_ADDRESS x.0) × (total_words x.0 ≤ MOST_SEGMENT_WORDS)
+segments_taken len order count bytes x are e =
     let row =
-    row_taken {S = Left} IsSegment (segment_at len) left_after segment_bytes (segment_taken len) count
+    row_taken {S = Left} IsSegment (segment_at len order) left_after (segment_bytes order) (segment_taken len order) count
     (FIRST_ADDRESS, MOST_SEGMENT_WORDS) bytes x are e in
     let good = segments-good (FIRST_ADDRESS, MOST_SEGMENT_WORDS) x.0 row.good in
     (row.taken, row.so_many, good.0, good.1)
 
-pub Reads-segments : (len : ℕ) (ss : List Segment) → IsTrue (rise_apart_from FIRST_ADDRESS ss)
+pub Reads-segments : (len order : ℕ) (ss : List Segment) → IsTrue (rise_apart_from FIRST_ADDRESS ss)
     → total_words ss ≤ MOST_SEGMENT_WORDS
-    → Reads len (segments_at len (length ss)) (flat_map segment_bytes ss) ss
-Reads-segments len ss rise fit =
-    Reads-row {S = Left} len IsSegment (segment_at len) left_after segment_bytes (Reads-segment len)
+    → Reads len (segments_at len order (length ss)) (flat_map (segment_bytes order) ss) ss
+Reads-segments len order ss rise fit =
+    Reads-row {S = Left} len IsSegment (segment_at len order) left_after (segment_bytes order) (Reads-segment len order)
     (FIRST_ADDRESS, MOST_SEGMENT_WORDS) ss
     (good-segments (FIRST_ADDRESS, MOST_SEGMENT_WORDS) ss (omega arith) rise fit)

@@ -1,5 +1,6 @@
--- The definitions to believe, in reading order: what a core may hold, its bytes, how a file is read and refused, and the
+-- The definitions to believe, in reading order: the bytes of a word, what a core may hold, its bytes, how a file is read and refused, and the
 -- numbers and names of the faults.
+pub mod ByteOrder
 pub mod Limits
 pub mod Spelling
 pub mod Refusals

@@ -4,6 +4,7 @@ use Rattle.std.specs.List.{list_all, sum_by}
 use Rattle.omi_word.specs.declared.limits.TheConstants.{FIRST_ADDRESS, MEMORY_END}
 use Rattle.omi_corefile.specs.declared.limits.TheConstants.{MOST_CONTEXTS, MOST_SEGMENTS, MOST_SEGMENT_WORDS}
 use Rattle.omi_corefile.specs.declared.segment.Segment.{Segment}
+use Rattle.omi_corefile.specs.ByteOrder.{is_order}
 
 -- each number is above the one before, and the first is at least `least`
 abbrev pub rises_from : ℕ → List ℕ → Bool
@@ -44,7 +45,7 @@ are_segments segments = nat_le (length segments) MOST_SEGMENTS
 
 -- the order, the contexts and the segments of a core
 abbrev pub within_limits : ℕ → List ℕ → List Segment → Bool
-within_limits order contexts segments = order == 0 && are_contexts contexts && are_segments segments
+within_limits order contexts segments = is_order order && are_contexts contexts && are_segments segments
 
 -- the least native id that may follow one, if any
 abbrev pub least_after : Option ℕ → ℕ

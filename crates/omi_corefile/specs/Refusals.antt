@@ -5,6 +5,7 @@ use Rattle.std.specs.Int.{Width, w16, w32, w64, byte_len, from_le_bytes}
 use Rattle.omi_corefile.specs.declared.segment.Segment.{Segment}
 use Rattle.omi_corefile.specs.declared.fault.CoreFault.{CoreFault}
 use Rattle.omi_corefile.specs.declared.fault.CoreFault.TheVariants.{BadMagic, Version, Order, Short, TooLarge, SegmentOrder, BadContext, Trailing}
+use Rattle.omi_corefile.specs.ByteOrder.{is_order, number_of}
 use Rattle.omi_corefile.specs.Limits.{is_start, end_of}
 use Rattle.omi_word.specs.declared.limits.TheConstants.{FIRST_ADDRESS}
 use Rattle.omi_corefile.specs.declared.limits.TheConstants.{MOST_CONTEXTS, MOST_SEGMENTS, MOST_SEGMENT_WORDS}
@@ -35,10 +36,18 @@ abbrev pub byte_at : ℕ → List ℕ → ReadStep ℕ
 byte_at len [] = Err (short len)
 byte_at len (b ∷ bytes) = Ok (b, bytes)
 
+-- so many bytes, and what they tell
+abbrev pub value_at : ℕ → (List ℕ → ℕ) → ℕ → List ℕ → ReadStep ℕ
+value_at count value len bytes = if nat_lt (length bytes) count then Err (short len)
+    else Ok (value (take count bytes), drop count bytes)
+
 -- a number of a few bytes, the lowest first
 abbrev pub number_at : Width → ℕ → List ℕ → ReadStep ℕ
-number_at w len bytes = if nat_lt (length bytes) (byte_len w) then Err (short len)
-    else Ok (from_le_bytes w (take (byte_len w) bytes), drop (byte_len w) bytes)
+number_at w len bytes = value_at (byte_len w) (from_le_bytes w) len bytes
+
+-- a word in this order
+abbrev pub word_at : ℕ → ℕ → List ℕ → ReadStep ℕ
+word_at order len bytes = value_at 8 (number_of order) len bytes
 
 -- a number that was read is judged by a test; where it fails, the fault is told the number and its place
 abbrev pub judged : (ℕ → Bool) → (ℕ → ℕ → CoreFault) → ℕ → ReadStep ℕ → ReadStep ℕ
@@ -55,9 +64,9 @@ abbrev pub version_at : ℕ → List ℕ → ReadStep ℕ
 version_at len bytes =
     judged (λ v. v == 1) (λ v at. Version v) (place_in_file len bytes) (byte_at len bytes)
 
--- the order is 0
+-- the order is one of the two
 abbrev pub order_at : ℕ → List ℕ → ReadStep ℕ
-order_at len bytes = judged (λ b. b == 0) (λ b at. Order b) (place_in_file len bytes) (byte_at len bytes)
+order_at len bytes = judged is_order (λ b at. Order b) (place_in_file len bytes) (byte_at len bytes)
 
 -- no more contexts than a core has
 abbrev pub context_count_at : ℕ → List ℕ → ReadStep ℕ
@@ -101,20 +110,20 @@ row_at one next (suc count) s bytes = do
 abbrev pub contexts_at : ℕ → ℕ → List ℕ → ReadStep (List ℕ)
 contexts_at len count bytes = row_at (id_at len) (λ least id. id + 1) count 0 bytes
 
--- so many words
-abbrev pub words_at : ℕ → ℕ → List ℕ → ReadStep (List ℕ)
-words_at len count bytes = row_at {S = ℕ} (λ s. number_at w64 len) (λ s word. s) count 0 bytes
+-- so many words in this order
+abbrev pub words_at : ℕ → ℕ → ℕ → List ℕ → ReadStep (List ℕ)
+words_at len order count bytes = row_at {S = ℕ} (λ s. word_at order len) (λ s word. s) count 0 bytes
 
 -- what the segments before leave: the least start address, and the room for words
 abbrev pub Left : Type 0
 Left = ℕ × ℕ
 
--- a segment after those that leave this
-unfoldable pub segment_at : ℕ → Left → List ℕ → ReadStep Segment
-segment_at len left bytes = do
+-- a segment after those that leave this, its words in this order
+unfoldable pub segment_at : ℕ → ℕ → Left → List ℕ → ReadStep Segment
+segment_at len order left bytes = do
   start ← start_at len left.0 bytes
   count ← word_count_at len left.1 start.1
-  words ← words_at len count.0 count.1
+  words ← words_at len order count.0 count.1
   Ok (record { start = start.0; words = words.0 }, words.1)
 
 -- what a segment leaves: the next one starts above its end
@@ -122,9 +131,9 @@ abbrev pub left_after : Left → Segment → Left
 left_after left s = (end_of s.start (length s.words) + 1, left.1 - length s.words)
 
 -- so many segments
-abbrev pub segments_at : ℕ → ℕ → List ℕ → ReadStep (List Segment)
-segments_at len count bytes =
-    row_at (segment_at len) left_after count (FIRST_ADDRESS, MOST_SEGMENT_WORDS) bytes
+abbrev pub segments_at : ℕ → ℕ → ℕ → List ℕ → ReadStep (List Segment)
+segments_at len order count bytes =
+    row_at (segment_at len order) left_after count (FIRST_ADDRESS, MOST_SEGMENT_WORDS) bytes
 
 -- what a header says: the order, and how many contexts and segments follow
 pub record Header : Type 0 where
@@ -152,7 +161,7 @@ unfoldable pub parts_at : ℕ → List ℕ → ReadStep Parts
 parts_at len bytes = do
   counts ← header_at len bytes
   contexts ← contexts_at len counts.0.contexts counts.1
-  segments ← segments_at len counts.0.segments contexts.1
+  segments ← segments_at len counts.0.order counts.0.segments contexts.1
   Ok (record { order = counts.0.order; contexts = contexts.0; segments = segments.0 }, segments.1)
 
 -- bytes follow the last segment

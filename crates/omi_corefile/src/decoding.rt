@@ -9,7 +9,7 @@ ghost use Rattle.omi_corefile.specs.declared.core_image.CoreImage.{CoreImage};
 ghost use Rattle.omi_corefile.specs.declared.fault.CoreFault.{CoreFault};
 
 use crate::fault::{CoreError, CoreFault};
-use crate::fields::{magic, number64, place};
+use crate::fields::{magic, place, word};
 use crate::judging::{context_count, id, order, segment_count, start, version, word_count};
 use crate::{CoreImage, MOST_SEGMENT_WORDS, SegList, Segment};
 use omi_word::{FIRST_ADDRESS, Natives};
@@ -50,15 +50,21 @@ pub fn header(len: usize, bytes: &[u8]) -> Result<(Counts, &[u8]), CoreError>
     Ok((counts, rest))
 }
 
-/// So many words.
-fn words(alloc: Global, len: usize, count: u64, bytes: &[u8]) -> Result<(Natives, &[u8]), CoreError>
-    ensures read { Gives (λ x. (x.0, x.1.now)) result (words_at len count bytes.now) }
+/// So many words in this order.
+fn words(
+    alloc: Global,
+    len: usize,
+    order: u8,
+    count: u64,
+    bytes: &[u8],
+) -> Result<(Natives, &[u8]), CoreError>
+    ensures read { Gives (λ x. (x.0, x.1.now)) result (words_at len order count bytes.now) }
     ensures count { IfOk result (λ x. length x.0 ≡ count) }
 {
     let mut words = Natives::new(alloc);
     let mut rest = bytes;
     for _ in 0..count {
-        let (word, after) = number64(len, rest)?;
+        let (word, after) = word(len, order, rest)?;
         words.push(word)?;
         rest = after;
     }
@@ -86,22 +92,24 @@ pub fn contexts(
     Ok((contexts, rest))
 }
 
-/// A segment that starts at `least` or above and has at most `room` words.
+/// A segment that starts at `least` or above and has at most `room` words, in this order.
 #[tactic(auto, unfolding(crate::specs::Refusals::segment_at))]
 fn segment(
     alloc: Global,
     len: usize,
+    order: u8,
     least: u64,
     room: u64,
     bytes: &[u8],
 ) -> Result<(Segment, &[u8]), CoreError>
-    ensures read { Gives (λ x. (x.0, x.1.now)) result (segment_at len (least, room) bytes.now) }
+    ensures read { Gives (λ x. (x.0, x.1.now)) result (segment_at len order (least, room)
+        bytes.now) }
     ensures low { IfOk result (λ x. x.0.start < MEMORY_END) }
     ensures few { IfOk result (λ x. length x.0.words ≤ room) }
 {
     let (start, rest) = start(len, least, bytes)?;
     let (count, rest) = word_count(len, room, rest)?;
-    let (words, rest) = words(alloc, len, count, rest)?;
+    let (words, rest) = words(alloc, len, order, count, rest)?;
     Ok((Segment { start, words }, rest))
 }
 
@@ -109,17 +117,18 @@ fn segment(
 fn segments(
     alloc: Global,
     len: usize,
+    order: u8,
     count: u32,
     bytes: &[u8],
 ) -> Result<(SegList, &[u8]), CoreError>
-    ensures { Gives (λ x. (x.0, x.1.now)) result (segments_at len count bytes.now) }
+    ensures { Gives (λ x. (x.0, x.1.now)) result (segments_at len order count bytes.now) }
 {
     let mut segments = SegList::new(alloc);
     let mut least = FIRST_ADDRESS;
     let mut room = MOST_SEGMENT_WORDS;
     let mut rest = bytes;
     for _ in 0..count {
-        let (segment, after) = segment(alloc, len, least, room, rest)?;
+        let (segment, after) = segment(alloc, len, order, least, room, rest)?;
         let words = segment.words.len() as u64;
         least = segment.start + 8 * words + 1;
         room -= words;
@@ -138,7 +147,7 @@ fn parts(alloc: Global, bytes: &[u8]) -> Result<(u8, Natives, SegList), CoreErro
     let len = bytes.len();
     let (counts, rest) = header(len, bytes)?;
     let (contexts, rest) = contexts(alloc, len, counts.contexts, rest)?;
-    let (segments, rest) = segments(alloc, len, counts.segments, rest)?;
+    let (segments, rest) = segments(alloc, len, counts.order, counts.segments, rest)?;
     if !rest.is_empty() {
         let at = place(len, rest);
         let why = CoreFault::Trailing(at);

@@ -2,40 +2,48 @@
 
 ghost use Rattle.std.specs.Prelude.{◌≡◌, ◌≤◌, ◌<◌, ◌++◌, length, IsTrue, OnOk, IfOk};
 ghost use Rattle.omi_corefile.specs.Limits.{rises_from};
-ghost use Rattle.omi_corefile.specs.Spelling.{Core, spelling, spelling_of, header, numbers, segment_bytes, segments_of, core_bytes, HoldsImage};
+ghost use Rattle.omi_corefile.specs.Spelling.{Core, spelling, spelling_of, header, numbers, words_in, segment_bytes, segments_of, core_bytes, HoldsImage};
 ghost use Rattle.omi_corefile.specs.declared.core_image.CoreImage.{CoreImage};
 ghost use Rattle.std.specs.List.{flat_map};
 
-use crate::{CoreImage, MOST_CONTEXTS, OutOfMemory, SegList, Segment, core_of};
+use crate::{CoreImage, MOST_CONTEXTS, OutOfMemory, SegList, Segment, core_of, word_bytes};
 use omi_word::{Image, Natives};
 use std::alloc::Global;
+
+/// Adds eight bytes for each word, in this order.
+fn put_words(out: &mut Vec<u8>, order: u8, list: &Natives) -> Result<(), OutOfMemory>
+    ensures { OnOk result (out.new.items ≡ out.old.items ++ words_in order list.now) }
+{
+    for at in 0..list.len() {
+        out.extend_from_slice(&word_bytes(order, *list.get(at)))?;
+    }
+    Ok(())
+}
 
 /// Adds eight bytes for each number.
 fn put_numbers(out: &mut Vec<u8>, list: &Natives) -> Result<(), OutOfMemory>
     ensures { OnOk result (out.new.items ≡ out.old.items ++ numbers list.now) }
 {
-    for at in 0..list.len() {
-        out.extend_from_slice(&list.get(at).to_le_bytes())?;
-    }
-    Ok(())
+    put_words(out, 0, list)
 }
 
-/// Adds the bytes of a segment.
-fn put_segment(out: &mut Vec<u8>, segment: &Segment) -> Result<(), OutOfMemory>
-    ensures { OnOk result (out.new.items ≡ out.old.items ++ segment_bytes segment.now) }
+/// Adds the bytes of a segment, its words in this order.
+fn put_segment(out: &mut Vec<u8>, order: u8, segment: &Segment) -> Result<(), OutOfMemory>
+    ensures { OnOk result (out.new.items ≡ out.old.items ++ segment_bytes order segment.now) }
 {
     out.extend_from_slice(&segment.start.to_le_bytes())?;
     out.extend_from_slice(&(segment.words.len() as u64).to_le_bytes())?;
-    put_numbers(out, &segment.words)?;
+    put_words(out, order, &segment.words)?;
     Ok(())
 }
 
-/// Adds the bytes of each segment.
-fn put_segments(out: &mut Vec<u8>, list: &SegList) -> Result<(), OutOfMemory>
-    ensures { OnOk result (out.new.items ≡ out.old.items ++ flat_map segment_bytes list.now) }
+/// Adds the bytes of each segment, its words in this order.
+fn put_segments(out: &mut Vec<u8>, order: u8, list: &SegList) -> Result<(), OutOfMemory>
+    ensures { OnOk result (out.new.items ≡ out.old.items
+        ++ flat_map (segment_bytes order) list.now) }
 {
     for at in 0..list.len() {
-        put_segment(out, list.get(at))?;
+        put_segment(out, order, list.get(at))?;
     }
     Ok(())
 }
@@ -71,7 +79,7 @@ pub fn encode(alloc: Global, c: &CoreImage) -> Result<Vec<u8>, OutOfMemory>
     let segments = c.segments.len() as u32;
     put_header(&mut out, c.order, contexts, segments)?;
     put_numbers(&mut out, &c.contexts)?;
-    put_segments(&mut out, &c.segments)?;
+    put_segments(&mut out, c.order, &c.segments)?;
     Ok(out)
 }
 

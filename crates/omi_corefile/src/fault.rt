@@ -14,7 +14,7 @@ pub enum CoreFault {
     BadMagic,
     /// This version isn't 1.
     Version(u8),
-    /// This order isn't 0.
+    /// This order is neither 0 nor 1.
     Order(u8),
     /// The file ends at this place before a field is whole.
     Short(u64),

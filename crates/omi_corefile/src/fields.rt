@@ -2,9 +2,10 @@
 
 ghost use Rattle.std.specs.Prelude.{◌≡◌, ◌-◌, length, Err, if◌then◌else◌};
 ghost use Rattle.std.specs.Int.{w16, w32, w64};
-ghost use Rattle.omi_corefile.specs.Refusals.{place_in_file as place_of, number_at, byte_at, magic_at};
+ghost use Rattle.omi_corefile.specs.Refusals.{place_in_file as place_of, number_at, word_at, byte_at, magic_at};
 ghost use Rattle.omi_corefile.specs.Outcomes.{Gives};
 
+use crate::byte_order::number_of;
 use crate::fault::{CoreError, CoreFault};
 
 /// The place in the file of what is left.
@@ -71,16 +72,23 @@ pub fn number32(len: usize, bytes: &[u8]) -> Result<(u32, &[u8]), CoreError>
     Ok((number, rest))
 }
 
-/// A number of eight bytes.
-pub fn number64(len: usize, bytes: &[u8]) -> Result<(u64, &[u8]), CoreError>
-    ensures { Gives (λ x. (x.0, x.1.now)) result (number_at w64 len bytes.now) }
+/// A word of a segment, in this order.
+pub fn word(len: usize, order: u8, bytes: &[u8]) -> Result<(u64, &[u8]), CoreError>
+    ensures { Gives (λ x. (x.0, x.1.now)) result (word_at order len bytes.now) }
 {
     if bytes.len() < 8 {
         return Err(short(len));
     }
     let (front, rest) = bytes.split_at(8);
-    let number = u64::from_le_bytes([
+    let eight = [
         front[0], front[1], front[2], front[3], front[4], front[5], front[6], front[7],
-    ]);
-    Ok((number, rest))
+    ];
+    Ok((number_of(order, eight), rest))
+}
+
+/// A number of eight bytes.
+pub fn number64(len: usize, bytes: &[u8]) -> Result<(u64, &[u8]), CoreError>
+    ensures { Gives (λ x. (x.0, x.1.now)) result (number_at w64 len bytes.now) }
+{
+    word(len, 0, bytes)
 }

@@ -24,13 +24,13 @@ pub fn version(len: usize, bytes: &[u8]) -> Result<(u8, &[u8]), CoreError>
     Ok((version, rest))
 }
 
-/// The order, which is 0.
+/// The order, which is 0 or 1.
 pub fn order(len: usize, bytes: &[u8]) -> Result<(u8, &[u8]), CoreError>
     ensures { Gives (λ x. (x.0, x.1.now)) result (order_at len bytes.now) }
 {
     let at = place(len, bytes);
     let (order, rest) = byte(len, bytes)?;
-    if order != 0 {
+    if order > 1 {
         let why = CoreFault::Order(order);
         return Err(CoreError::Fault { at, why });
     }

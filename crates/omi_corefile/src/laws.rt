@@ -54,7 +54,7 @@ pub fn bad_fields()
         → IsFaultAt c 0 name CoreFault.BadMagic }
     ensures version { (c : CoreImage) (v : ℕ) → v ≢ 1
         → IsFaultAt c 8 (v ∷ []) (CoreFault.Version v) }
-    ensures order { (c : CoreImage) (b : ℕ) → b ≢ 0 → IsFaultAt c 9 (b ∷ []) (CoreFault.Order b) }
+    ensures order { (c : CoreImage) (b : ℕ) → 1 < b → IsFaultAt c 9 (b ∷ []) (CoreFault.Order b) }
     ensures context_count { (c : CoreImage) (n : ℕ) → MOST_CONTEXTS < n → n < 2 ^ 16
         → IsFaultAt c 10 (to_le_bytes w16 n) (CoreFault.BadContext 10) }
     ensures segment_count { (c : CoreImage) (n : ℕ) → MOST_SEGMENTS < n → n < 2 ^ 32

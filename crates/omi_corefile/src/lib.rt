@@ -1,6 +1,7 @@
 //! Core files: what a core holds, and the one spelling of it in bytes.
 #![tactic(auto)]
 
+mod byte_order;
 mod core_image;
 pub mod decoding;
 mod encoding;
@@ -12,6 +13,7 @@ mod limits;
 mod making;
 mod segment;
 
+pub use byte_order::{number_of, word_bytes};
 pub use core_image::CoreImage;
 pub use decoding::decode;
 pub use encoding::{core_bytes_of, encode};

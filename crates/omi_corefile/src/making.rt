@@ -49,7 +49,7 @@ fn segments(alloc: Global, image: &Image) -> Result<SegList, OutOfMemory>
     Ok(segments)
 }
 
-/// The core that holds an image and the native ids of threads as its contexts. An image without words gives no segment.
+/// The core that holds an image and the native ids of threads as its contexts, in the order 0 or 1. An image without words gives no segment.
 pub fn core_of(
     alloc: Global,
     image: &Image,
@@ -58,7 +58,7 @@ pub fn core_of(
 ) -> Result<CoreImage, OutOfMemory>
     requires rising { IsTrue (rises_from 0 contexts.now) }
     requires count { length contexts.now ≤ MOST_CONTEXTS }
-    requires little { order ≡ 0 }
+    requires known { order ≤ 1 }
     ensures order { IfOk result (λ c. c.order ≡ order) }
     ensures contexts { IfOk result (λ c. c.contexts ≡ contexts.now) }
     ensures segments { IfOk result (λ c. c.segments ≡ segments_of image.now) }

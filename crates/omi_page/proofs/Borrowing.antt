@@ -12,4 +12,5 @@ stays_then old middle new first second = record {
   writes = second.writes ∙ first.writes;
   name = second.name ∙ first.name;
   contexts = second.contexts ∙ first.contexts;
+  order = second.order ∙ first.order;
 }

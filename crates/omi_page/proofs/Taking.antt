@@ -3,10 +3,11 @@ use Rattle.std.proofs.Common.{◌≡◌, ℕ, zero, suc, ◌+◌, ◌-◌, ◌*�
 use Rattle.std.specs.Prelude.{codes, nat_eq, ◌&&◌}
 use Rattle.std.specs.List.{starts_with}
 use Rattle.std.specs.Int.{Width, w16, w32, w64, byte_len, from_le_bytes}
-use Rattle.std.proofs.lemmas.Bool.{ltb-false, eqb-true, leb-true}
+use Rattle.std.proofs.lemmas.Bool.{ltb-false, leb-true}
 use Rattle.std.proofs.lemmas.List.{drop-drop, length-drop}
 use Rattle.omi_corefile.specs.declared.fault.CoreFault.TheVariants.{BadMagic, Version, Order, SegmentOrder, BadContext, TooLarge}
 use Rattle.omi_corefile.specs.declared.limits.TheConstants.{MOST_CONTEXTS, MOST_SEGMENTS}
+use Rattle.omi_corefile.specs.ByteOrder.{is_order}
 use Rattle.omi_corefile.specs.Limits.{is_start}
 use Rattle.omi_corefile.specs.Refusals.{◌>>=◌, place_in_file, short, number_at, byte_at, magic_at, version_at, order_at, context_count_at, segment_count_at, id_at, start_at, word_count_at, row_at, Header, header_at, Left}
 use Rattle.omi_corefile.proofs.Numbers.{bind_ok, bind_again, passed, not_failed, ok_is, judged_taken}
@@ -52,7 +53,7 @@ magic_took len bytes rest e =
 -- what is known of a header that was read
 pub record TookHeader (bytes : List ℕ) (counts : Header) (rest : List ℕ) : Type 0 where
   pub took : Took 16 bytes rest
-  pub order_is : counts.order ≡ 0
+  pub order_is : counts.order ≤ 1
   pub few_contexts : counts.contexts ≤ MOST_CONTEXTS
 
 pub header_took : (len : ℕ) (bytes : List ℕ) (x : Header × List ℕ) → header_at len bytes ≡ Ok x
@@ -77,7 +78,7 @@ header_took len bytes x e =
     let version_judged =
     judged_taken (λ v. eqb v 1) (λ v at. Version v) (place_in_file len a.0) (byte_at len a.0) b.0 b.1 in
     let order_judged =
-    judged_taken (λ v. eqb v 0) (λ v at. Order v) (place_in_file len b.0.1) (byte_at len b.0.1) c.0 c.1 in
+    judged_taken is_order (λ v at. Order v) (place_in_file len b.0.1) (byte_at len b.0.1) c.0 c.1 in
     let contexts_judged =
     judged_taken (λ n. leb n MOST_CONTEXTS) (λ n at. BadContext at) (place_in_file len c.0.1)
     (number_at w16 len c.0.1) d.0 d.1 in
@@ -94,7 +95,7 @@ header_took len bytes x e =
     let made : Header × List ℕ = (record { order = c.0.0; contexts = d.0.0; segments = f.0.0 }, f.0.1) in
     subst (λ (y : Header × List ℕ). TookHeader bytes y.0 y.1) {x = made} (ok_is made x f.2) (record {
       took = whole;
-      order_is = eqb-true c.0.0 0 order_judged.1;
+      order_is = leb-true c.0.0 1 order_judged.1;
       few_contexts = leb-true d.0.0 MOST_CONTEXTS contexts_judged.1;
     })
 

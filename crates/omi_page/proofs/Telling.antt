@@ -1,14 +1,14 @@
 -- What a core file tells, by the places of its words.
 use Rattle.std.proofs.Common.{◌≡◌, ℕ, zero, suc, ◌+◌, ◌-◌, ◌*◌, ◌/◌, ◌%◌, ◌<◌, ◌≤◌, true, false, ltb, leb, eqb, List, [], ◌∷◌, Option, Some, None, Result, Ok, Err, IsSome, refl, sym, ap, subst, ◌∙◌, arith, inl, inr}
 use Rattle.std.specs.Prelude.{slice_get}
-use Rattle.std.specs.Int.{w64, from_le_bytes}
 use Rattle.std.specs.Option.{option_or, option_map, is_some}
 use Rattle.std.proofs.lemmas.Bool.{cases_lt, lt-ltb, le-ltb, le-leb, eq-eqb, ne_eqb}
 use Rattle.std.proofs.lemmas.Bool.Decides.{nat_tests}
 use Rattle.omi_outside.specs.Outside.{Told as FileTold}
 use Rattle.omi_corefile.specs.Refusals.{ReadRefusal, Parts, reading}
 use Rattle.omi_word.specs.Words.{Words}
-use Rattle.omi_calls.specs.Told.{Symbols, aligned_word_at, number_of}
+use Rattle.omi_corefile.specs.ByteOrder.{number_of}
+use Rattle.omi_calls.specs.Told.{Symbols, aligned_word_at}
 use Rattle.omi_word.specs.SymbolTable.{symbol_in}
 use Rattle.omi_calls.specs.CoreWords.{word_of, words_of_segments}
 use Rattle.omi_calls.proofs.ToldSymbols.{same_symbols}
@@ -20,26 +20,28 @@ use Rattle.omi_page.specs.Paging.{IsPage, ArePartsOf}
 
 -- ---- the words of a span
 
-words_get : (bytes : List ℕ) (at count j : ℕ) → j < count
-    → slice_get (words_there bytes at count) j ≡ Some (word_there bytes (at + 8 * j))
+words_get : (order : ℕ) (bytes : List ℕ) (at count j : ℕ) → j < count
+    → slice_get (words_there order bytes at count) j ≡ Some (word_there order bytes (at + 8 * j))
 unfolding words_there
-words_get bytes at zero j below = absurd (omega arith)
-words_get bytes at (suc count) zero below =
+words_get order bytes at zero j below = absurd (omega arith)
+words_get order bytes at (suc count) zero below =
     let here : at ≡ at + 8 * 0 = omega arith in
-    ap (λ (n : ℕ). Some (word_there bytes n)) here
-words_get bytes at (suc count) (suc j) below =
+    ap (λ (n : ℕ). Some (word_there order bytes n)) here
+words_get order bytes at (suc count) (suc j) below =
     let here : at + 8 + 8 * j ≡ at + 8 * suc j = omega arith in
-    words_get bytes (at + 8) count j (omega arith) ∙ ap (λ (n : ℕ). Some (word_there bytes n)) here
+    words_get order bytes (at + 8) count j (omega arith)
+    ∙ ap (λ (n : ℕ). Some (word_there order bytes n)) here
 
-words_past : (bytes : List ℕ) (at count j : ℕ) → count ≤ j → slice_get (words_there bytes at count) j ≡ None
+words_past : (order : ℕ) (bytes : List ℕ) (at count j : ℕ) → count ≤ j
+    → slice_get (words_there order bytes at count) j ≡ None
 unfolding words_there
-words_past bytes at zero j past = refl
-words_past bytes at (suc count) zero past = absurd (omega arith)
-words_past bytes at (suc count) (suc j) past = words_past bytes (at + 8) count j (omega arith)
+words_past order bytes at zero j past = refl
+words_past order bytes at (suc count) zero past = absurd (omega arith)
+words_past order bytes at (suc count) (suc j) past = words_past order bytes (at + 8) count j (omega arith)
 
-span_words : (bytes : List ℕ) (s : Span) (addr : ℕ) → addr % 8 ≡ 0
-    → word_of (segment_there bytes s) addr ≡ option_map (word_there bytes) (place_of s addr)
-span_words bytes s addr aligned =
+span_words : (order : ℕ) (bytes : List ℕ) (s : Span) (addr : ℕ) → addr % 8 ≡ 0
+    → word_of (segment_there order bytes s) addr ≡ option_map (word_there order bytes) (place_of s addr)
+span_words order bytes s addr aligned =
     elim (cases_lt addr s.start) [
       | inl before ↦ let low : leb s.start addr ≡ false = grind (arith, nat_tests) in rw low refl
       | inr from ↦
@@ -52,11 +54,11 @@ span_words bytes s addr aligned =
                 let high : ltb addr (s.start + 8 * s.count) ≡ true =
                 lt-ltb addr (s.start + 8 * s.count) below in
                 rw (low, high)
-                (words_get bytes s.place s.count j (omega arith) ∙ ap (λ (n : ℕ). Some (word_there bytes (s.place + n))) there)
+                (words_get order bytes s.place s.count j (omega arith) ∙ ap (λ (n : ℕ). Some (word_there order bytes (s.place + n))) there)
             | inr past ↦
                 let high : ltb addr (s.start + 8 * s.count) ≡ false =
                 le-ltb addr (s.start + 8 * s.count) past in
-                rw (low, high) (words_past bytes s.place s.count j (omega arith))
+                rw (low, high) (words_past order bytes s.place s.count j (omega arith))
           ]
     ]
 
@@ -66,12 +68,12 @@ map_or f None b = refl
 map_or f (Some x) b = refl
 
 -- the word at an address is the one at its place
-pub place_words : (bytes : List ℕ) (spans : List Span) (addr : ℕ) → addr % 8 ≡ 0
-    → words_of_segments (segments_there bytes spans) addr ≡ option_map (word_there bytes) (place_in spans addr)
-place_words bytes [] addr aligned = refl
-place_words bytes (s ∷ spans) addr aligned =
-    (λ i. option_or (span_words bytes s addr aligned i) (place_words bytes spans addr aligned i))
-    ∙ map_or (word_there bytes) (place_of s addr) (place_in spans addr)
+pub place_words : (order : ℕ) (bytes : List ℕ) (spans : List Span) (addr : ℕ) → addr % 8 ≡ 0
+    → words_of_segments (segments_there order bytes spans) addr ≡ option_map (word_there order bytes) (place_in spans addr)
+place_words order bytes [] addr aligned = refl
+place_words order bytes (s ∷ spans) addr aligned =
+    (λ i. option_or (span_words order bytes s addr aligned i) (place_words order bytes spans addr aligned i))
+    ∙ map_or (word_there order bytes) (place_of s addr) (place_in spans addr)
 
 -- ---- what is told
 
@@ -108,28 +110,28 @@ tells (Some (Some bytes)) words e = by_reading bytes words (reading bytes) refl 
 tells (Some None) words e = absurd cc
 tells None words e = absurd cc
 
--- the word at an aligned address is the one at its place, and the order is 0
-pub record TellsPlaces (told : FileTold) (spans : List Span) (words : Words) (addr : ℕ) : Type 0 where
+-- the word at an aligned address is the one at its place, in the order that is told
+pub record TellsPlaces (told : FileTold) (order : ℕ) (spans : List Span) (words : Words) (addr : ℕ) : Type 0 where
   pub bytes : List ℕ
   pub holds : Holds told bytes
-  pub order_is : (order : ℕ) → (told_by_file told).order ≡ Some order → order ≡ 0
-  pub word_is : aligned_word_at words addr ≡ option_map (word_there bytes) (place_in spans addr)
+  pub order_is : (other : ℕ) → (told_by_file told).order ≡ Some other → other ≡ order
+  pub word_is : aligned_word_at words addr ≡ option_map (word_there order bytes) (place_in spans addr)
 
 same_order : (a b : ℕ) → (let some : ℕ → Option ℕ = λ n. Some n in some a ≡ some b) → a ≡ b
 same_order a b e = cc
 
-pub tells_places : (told : FileTold) (contexts : List ℕ) (spans : List Span) (words : Words) (addr : ℕ)
+pub tells_places : (told : FileTold) (order : ℕ) (contexts : List ℕ) (spans : List Span) (words : Words) (addr : ℕ)
     → (told_by_file told).words ≡ Some words
-    → ArePartsOf told contexts spans → addr % 8 ≡ 0 → TellsPlaces told spans words addr
-tells_places told contexts spans words addr e parts aligned =
+    → ArePartsOf told order contexts spans → addr % 8 ≡ 0 → TellsPlaces told order spans words addr
+tells_places told order contexts spans words addr e parts aligned =
     let t = tells told words e in
     let are = parts t.bytes t.parts t.holds t.read in
     let test : eqb (addr % 8) 0 ≡ true = eq-eqb (addr % 8) 0 aligned in
     record {
       bytes = t.bytes;
       holds = t.holds;
-      order_is = λ order told_order. same_order order t.parts.order (sym told_order ∙ t.order_is) ∙ are.0;
-      word_is = rw test (ap (λ w. w addr) (sym t.words_are) ∙ ap (λ ss. words_of_segments ss addr) are.2 ∙ place_words t.bytes spans addr aligned);
+      order_is = λ other told_other. same_order other t.parts.order (sym told_other ∙ t.order_is) ∙ are.0;
+      word_is = rw test (ap (λ w. w addr) (sym t.words_are) ∙ ap (λ ss. words_of_segments ss addr) are.2 ∙ place_words order t.bytes spans addr aligned);
     }
 
 -- ---- the answers of a read
@@ -146,48 +148,49 @@ some_there f None stands = absurd cc
 some_there f (Some at) stands = refl
 
 -- no word stands there
-pub not_mapped : (told : FileTold) (contexts : List ℕ) (spans : List Span) (words : Words) (addr : ℕ)
+pub not_mapped : (told : FileTold) (order : ℕ) (contexts : List ℕ) (spans : List Span) (words : Words) (addr : ℕ)
     → (told_by_file told).words ≡ Some words
-    → ArePartsOf told contexts spans → addr % 8 ≡ 0 → is_some (place_in spans addr) ≡ false → aligned_word_at words addr ≡ None
-not_mapped told contexts spans words addr e parts aligned lacks =
-    let t = tells_places told contexts spans words addr e parts aligned in
-    t.word_is ∙ none_there (word_there t.bytes) (place_in spans addr) lacks
+    → ArePartsOf told order contexts spans → addr % 8 ≡ 0 → is_some (place_in spans addr) ≡ false → aligned_word_at words addr ≡ None
+not_mapped told order contexts spans words addr e parts aligned lacks =
+    let t = tells_places told order contexts spans words addr e parts aligned in
+    t.word_is ∙ none_there (word_there order t.bytes) (place_in spans addr) lacks
 
 -- a word stands there
-pub mapped : (told : FileTold) (contexts : List ℕ) (spans : List Span) (words : Words) (addr : ℕ)
+pub mapped : (told : FileTold) (order : ℕ) (contexts : List ℕ) (spans : List Span) (words : Words) (addr : ℕ)
     → (told_by_file told).words ≡ Some words
-    → ArePartsOf told contexts spans → addr % 8 ≡ 0 → is_some (place_in spans addr) ≡ true → IsSome (aligned_word_at words addr)
-mapped told contexts spans words addr e parts aligned stands =
-    let t = tells_places told contexts spans words addr e parts aligned in
-    subst IsSome (sym t.word_is) (some_there (word_there t.bytes) (place_in spans addr) stands)
+    → ArePartsOf told order contexts spans → addr % 8 ≡ 0 → is_some (place_in spans addr) ≡ true → IsSome (aligned_word_at words addr)
+mapped told order contexts spans words addr e parts aligned stands =
+    let t = tells_places told order contexts spans words addr e parts aligned in
+    subst IsSome (sym t.word_is) (some_there (word_there order t.bytes) (place_in spans addr) stands)
 
-by_place : (bytes word : List ℕ) (o : Option ℕ) → is_some o ≡ true
+by_place : (order : ℕ) (bytes word : List ℕ) (o : Option ℕ) → is_some o ≡ true
     → ((at : ℕ) → o ≡ Some at → word ≡ eight_at bytes at)
-    → option_map (word_there bytes) o ≡ Some (number_of 0 word)
-by_place bytes word None stands is = absurd cc
-by_place bytes word (Some at) stands is = ap (λ (w : List ℕ). Some (from_le_bytes w64 w)) (sym (is at refl))
+    → option_map (word_there order bytes) o ≡ Some (number_of order word)
+by_place order bytes word None stands is = absurd cc
+by_place order bytes word (Some at) stands is =
+    ap (λ (w : List ℕ). Some (number_of order w)) (sym (is at refl))
 
 -- the word is the one in the page
-pub in_page : (told : FileTold) (contexts : List ℕ) (spans : List Span) (words : Words) (order addr : ℕ) (word items : List ℕ)
-    → (told_by_file told).words ≡ Some words → (told_by_file told).order ≡ Some order
-    → ArePartsOf told contexts spans → addr % 8 ≡ 0 → is_some (place_in spans addr) ≡ true
+pub in_page : (told : FileTold) (order : ℕ) (contexts : List ℕ) (spans : List Span) (words : Words) (other addr : ℕ) (word items : List ℕ)
+    → (told_by_file told).words ≡ Some words → (told_by_file told).order ≡ Some other
+    → ArePartsOf told order contexts spans → addr % 8 ≡ 0 → is_some (place_in spans addr) ≡ true
     → ((bytes : List ℕ) → Holds told bytes → IsPage bytes spans (addr / 4096) items) → word ≡ eight_at items (addr % 4096)
-    → aligned_word_at words addr ≡ Some (number_of order word)
-in_page told contexts spans words order addr word items e told_order parts aligned stands page is =
-    let t = tells_places told contexts spans words addr e parts aligned in
+    → aligned_word_at words addr ≡ Some (number_of other word)
+in_page told order contexts spans words other addr word items e told_other parts aligned stands page is =
+    let t = tells_places told order contexts spans words addr e parts aligned in
     let here : 4096 * (addr / 4096) + addr % 4096 ≡ addr = omega arith in
     let offset_aligned : addr % 4096 % 8 ≡ 0 = omega arith in
     let inside : addr % 4096 < 4096 = omega arith in
     t.word_is
-    ∙ by_place t.bytes word (place_in spans addr) stands
+    ∙ by_place order t.bytes word (place_in spans addr) stands
     (λ at there. is ∙ page t.bytes t.holds (addr % 4096) at offset_aligned inside (ap (place_in spans) here ∙ there))
-    ∙ ap (λ o. Some (number_of o word)) (sym (t.order_is order told_order))
+    ∙ ap (λ o. Some (number_of o word)) (sym (t.order_is other told_other))
 
--- where words are told, the order that is told is 0
-pub told_order : (told : FileTold) (contexts : List ℕ) (spans : List Span) (words : Words)
-    → (told_by_file told).words ≡ Some words → ArePartsOf told contexts spans
-    → (told_by_file told).order ≡ Some 0
-told_order told contexts spans words e parts =
+-- where words are told, this order is
+pub told_order : (told : FileTold) (order : ℕ) (contexts : List ℕ) (spans : List Span) (words : Words)
+    → (told_by_file told).words ≡ Some words → ArePartsOf told order contexts spans
+    → (told_by_file told).order ≡ Some order
+told_order told order contexts spans words e parts =
     let t = tells told words e in
     let are = parts t.bytes t.parts t.holds t.read in
     t.order_is ∙ ap (λ (n : ℕ). Some n) are.0
@@ -213,16 +216,16 @@ tells_symbols (Some (Some bytes)) symbols e = symbols_by bytes symbols (reading 
 tells_symbols (Some None) symbols e = absurd cc
 tells_symbols None symbols e = absurd cc
 
--- an order that is told is 0
-order_by : (bytes : List ℕ) (order : ℕ) (read : Result Parts ReadRefusal) → reading bytes ≡ read
-    → (told_by_reading read).order ≡ Some order
-    → ((parts : Parts) → reading bytes ≡ Ok parts → parts.order ≡ 0) → order ≡ 0
-order_by bytes order (Ok parts) is e none = let same : parts.order ≡ order = cc in sym same ∙ none parts is
-order_by bytes order (Err refusal) is e none = absurd cc
+-- an order that is told is this one
+order_by : (bytes : List ℕ) (order other : ℕ) (read : Result Parts ReadRefusal) → reading bytes ≡ read
+    → (told_by_reading read).order ≡ Some other
+    → ((parts : Parts) → reading bytes ≡ Ok parts → parts.order ≡ order) → other ≡ order
+order_by bytes order other (Ok parts) is e all = let same : parts.order ≡ other = cc in sym same ∙ all parts is
+order_by bytes order other (Err refusal) is e all = absurd cc
 
-pub no_other_order : (told : FileTold) (contexts : List ℕ) (spans : List Span) (order : ℕ)
-    → ArePartsOf told contexts spans → (told_by_file told).order ≡ Some order → order ≡ 0
-no_other_order (Some (Some bytes)) contexts spans order parts e =
-    order_by bytes order (reading bytes) refl e (λ p read. (parts bytes p refl read).0)
-no_other_order (Some None) contexts spans order parts e = absurd cc
-no_other_order None contexts spans order parts e = absurd cc
+pub no_other_order : (told : FileTold) (order : ℕ) (contexts : List ℕ) (spans : List Span) (other : ℕ)
+    → ArePartsOf told order contexts spans → (told_by_file told).order ≡ Some other → other ≡ order
+no_other_order (Some (Some bytes)) order contexts spans other parts e =
+    order_by bytes order other (reading bytes) refl e (λ p read. (parts bytes p refl read).0)
+no_other_order (Some None) order contexts spans other parts e = absurd cc
+no_other_order None order contexts spans other parts e = absurd cc

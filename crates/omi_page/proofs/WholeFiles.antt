@@ -65,10 +65,10 @@ after_ids bytes len counts ids rest read =
 
 pub segments_fail : (error : PageError) (bytes : List ℕ) (len : ℕ) (counts : Header) (ids rest : List ℕ)
     → UpToContexts bytes len counts ids rest
-    → Fails error (segments_at len counts.segments rest) → Fails error (reading bytes)
+    → Fails error (segments_at len counts.order counts.segments rest) → Fails error (reading bytes)
 segments_fail error bytes len counts ids rest read e =
     subst (Fails error) (file_as bytes len read.length_is) (bind_fails error (parts_at len bytes) (ended len)
-    (subst (Fails error) (sym (after_ids bytes len counts ids rest read)) (bind_fails error (segments_at len counts.segments rest) (after_segments counts ids) e)))
+    (subst (Fails error) (sym (after_ids bytes len counts ids rest read)) (bind_fails error (segments_at len counts.order counts.segments rest) (after_segments counts ids) e)))
 
 -- the parts of a file
 abbrev pub parts_with : Header → List ℕ → List Segment → Parts
@@ -76,16 +76,16 @@ parts_with counts ids segments = record { order = counts.order; contexts = ids; 
 
 to_end : (bytes : List ℕ) (len : ℕ) (counts : Header) (ids rest left : List ℕ) (segments : List Segment)
     → UpToContexts bytes len counts ids rest
-    → segments_at len counts.segments rest ≡ Ok (segments, left) → reading bytes ≡ ended len (parts_with counts ids segments, left)
+    → segments_at len counts.order counts.segments rest ≡ Ok (segments, left) → reading bytes ≡ ended len (parts_with counts ids segments, left)
 to_end bytes len counts ids rest left segments read e =
     sym (file_as bytes len read.length_is)
     ∙ bind_again (parts_at len bytes) (ended len) (parts_with counts ids segments, left)
-    (after_ids bytes len counts ids rest read ∙ bind_again (segments_at len counts.segments rest) (after_segments counts ids) (segments, left) e)
+    (after_ids bytes len counts ids rest read ∙ bind_again (segments_at len counts.order counts.segments rest) (after_segments counts ids) (segments, left) e)
 
 -- nothing follows the last segment
 pub file_whole : (bytes : List ℕ) (len : ℕ) (counts : Header) (ids rest : List ℕ) (segments : List Segment) (end : ℕ)
     → UpToContexts bytes len counts ids rest
-    → segments_at len counts.segments rest ≡ Ok (segments, drop end bytes) → len ≤ end → reading bytes ≡ Ok (parts_with counts ids segments)
+    → segments_at len counts.order counts.segments rest ≡ Ok (segments, drop end bytes) → len ≤ end → reading bytes ≡ Ok (parts_with counts ids segments)
 file_whole bytes len counts ids rest segments end read e all =
     let none : eqb (length (drop end bytes)) 0 ≡ true =
     eq-eqb (length (drop end bytes)) 0 (omega (arith, length-drop end bytes, read.length_is)) in
@@ -94,7 +94,7 @@ file_whole bytes len counts ids rest segments end read e all =
 -- bytes follow the last segment
 pub file_trailing : (bytes : List ℕ) (len : ℕ) (counts : Header) (ids rest : List ℕ) (segments : List Segment) (end : ℕ)
     → UpToContexts bytes len counts ids rest
-    → segments_at len counts.segments rest ≡ Ok (segments, drop end bytes) → end < len → reading bytes ≡ Err (end, Trailing end)
+    → segments_at len counts.order counts.segments rest ≡ Ok (segments, drop end bytes) → end < len → reading bytes ≡ Err (end, Trailing end)
 file_trailing bytes len counts ids rest segments end read e more =
     let some : eqb (length (drop end bytes)) 0 ≡ false =
     ne_eqb (length (drop end bytes)) 0 (λ none. omega (arith, none, length-drop end bytes, read.length_is)) in

@@ -14,6 +14,10 @@ module _ {F : Type 0} {g : files.Ghosts F} where
   abbrev pub name_of : Pages F g → List ℕ
   name_of pages = pages.name.now
 
+  -- the order of the bytes of a word
+  abbrev pub order_of : Pages F g → ℕ
+  order_of pages = pages.order
+
   -- the native ids
   abbrev pub contexts_of : Pages F g → List ℕ
   contexts_of pages = pages.contexts
@@ -37,3 +41,4 @@ module _ {F : Type 0} {g : files.Ghosts F} where
     pub writes : g.writes new.files.now ≡ g.writes old.files.now
     pub name : new.name.now ≡ old.name.now
     pub contexts : new.contexts ≡ old.contexts
+    pub order : new.order ≡ old.order

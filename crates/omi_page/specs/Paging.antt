@@ -33,13 +33,14 @@ ArePages told spans kept =
     → Contains kept (page, items) → IsPage bytes spans page items.items
 
 -- the parts of the core that the file's bytes are
-abbrev pub ArePartsOf : Told → List ℕ → List Span → Type 0
-ArePartsOf told contexts spans =
+abbrev pub ArePartsOf : Told → ℕ → List ℕ → List Span → Type 0
+ArePartsOf told order contexts spans =
     (bytes : List ℕ) (parts : Parts) → Holds told bytes → reading bytes ≡ Ok parts
-    → (parts.order ≡ 0) × (parts.contexts ≡ contexts) × (parts.segments ≡ segments_there bytes spans)
+    → (parts.order ≡ order) × (parts.contexts ≡ contexts)
+    × (parts.segments ≡ segments_there order bytes spans)
 
 -- what was read of a file beside its words is right for its bytes
 pub record IsOpened (told : Told) (contents : Contents) : Type 0 where
   pub length : IsLength told contents.len
   pub ends : EndWithin contents.len contents.spans
-  pub parts : ArePartsOf told contents.contexts contents.spans
+  pub parts : ArePartsOf told contents.order contents.contexts contents.spans

@@ -1,7 +1,7 @@
 -- Where the words of a core stand in its file, and what is read there.
 use Rattle.std.specs.Prelude.{ℕ, zero, suc, ◌+◌, ◌-◌, ◌*◌, List, [], ◌∷◌, take, drop, map, Option, Some, None, Bool, ◌&&◌, nat_le, nat_lt, if◌then◌else◌}
-use Rattle.std.specs.Int.{w64, from_le_bytes}
 use Rattle.std.specs.Option.{option_or}
+use Rattle.omi_corefile.specs.ByteOrder.{number_of}
 use Rattle.omi_corefile.specs.declared.segment.Segment.{Segment}
 use Rattle.omi_page.specs.declared.span.Span.{Span}
 
@@ -9,22 +9,22 @@ use Rattle.omi_page.specs.declared.span.Span.{Span}
 abbrev pub eight_at : List ℕ → ℕ → List ℕ
 eight_at bytes at = take 8 (drop at bytes)
 
--- the word at a place, the lowest byte first
-abbrev pub word_there : List ℕ → ℕ → ℕ
-word_there bytes at = from_le_bytes w64 (eight_at bytes at)
+-- the word at a place, in this order
+abbrev pub word_there : ℕ → List ℕ → ℕ → ℕ
+word_there order bytes at = number_of order (eight_at bytes at)
 
 -- so many words from a place on
-unfoldable pub words_there : List ℕ → ℕ → ℕ → List ℕ
-words_there bytes at zero = []
-words_there bytes at (suc count) = word_there bytes at ∷ words_there bytes (at + 8) count
+unfoldable pub words_there : ℕ → List ℕ → ℕ → ℕ → List ℕ
+words_there order bytes at zero = []
+words_there order bytes at (suc count) = word_there order bytes at ∷ words_there order bytes (at + 8) count
 
 -- the segment that a span stands for
-abbrev pub segment_there : List ℕ → Span → Segment
-segment_there bytes s = record { start = s.start; words = words_there bytes s.place s.count }
+abbrev pub segment_there : ℕ → List ℕ → Span → Segment
+segment_there order bytes s = record { start = s.start; words = words_there order bytes s.place s.count }
 
 -- the segments that a list of spans stands for
-abbrev pub segments_there : List ℕ → List Span → List Segment
-segments_there bytes spans = map (segment_there bytes) spans
+abbrev pub segments_there : ℕ → List ℕ → List Span → List Segment
+segments_there order bytes spans = map (segment_there order bytes) spans
 
 -- whether a word of a span stands at an address
 abbrev pub is_in : Span → ℕ → Bool

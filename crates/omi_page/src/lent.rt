@@ -2,7 +2,7 @@
 
 ghost use Rattle.std.specs.Prelude.{◌≡◌, None};
 ghost use Rattle.omi_calls.specs.Kept.{IsOrderOf};
-ghost use Rattle.omi_page.specs.Borrowed.{calls_made, faults_counted, told_of};
+ghost use Rattle.omi_page.specs.Borrowed.{calls_made, faults_counted, order_of, told_of};
 ghost use Rattle.omi_page.specs.Lending.{IsLent, Lending};
 
 use crate::Pages;
@@ -34,7 +34,7 @@ impl<'a, F: Files, L: Loan> LentPages<'a, F, L> {
     pub fn of(pages: Pages<'a, F>) -> LentPages<'a, F, L>
         requires { IsLent L.lending pages }
         ensures pages { result.pages ≡ pages.entry }
-        ensures order { IsOrderOf (told_of result.pages) 0 }
+        ensures order { IsOrderOf (told_of result.pages) (order_of pages.entry) }
     {
         LentPages {
             pages,

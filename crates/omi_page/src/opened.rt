@@ -61,6 +61,9 @@ pub fn open<F: Files>(alloc: Global, files: &mut F, name: &str) -> Result<Opened
     ensures contexts { (bytes : List ℕ) (c : CoreImage)
         → Holds (F.told files.old name.now) bytes → Core bytes c
         → IfOk result (λ opened. opened.contents.contexts ≡ c.contexts) }
+    ensures order { (bytes : List ℕ) (c : CoreImage)
+        → Holds (F.told files.old name.now) bytes → Core bytes c
+        → IfOk result (λ opened. opened.contents.order ≡ c.order) }
     ensures fault { (bytes : List ℕ) → Holds (F.told files.old name.now) bytes
         → IfErr result (IsFaultOf bytes) }
     ensures refuses { (bytes : List ℕ) (at : ℕ) (why : CoreFault)

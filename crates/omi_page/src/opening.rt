@@ -38,7 +38,7 @@ pub fn read_header<F: Files>(files: &mut F, name: &str, len: u64) -> Result<Coun
         result (header_at len bytes) }
     ensures long { IfOk result (λ _. HEADER_BYTES ≤ len) }
     ensures few { IfOk result (λ counts. counts.contexts ≤ MOST_CONTEXTS) }
-    ensures order { IfOk result (λ counts. counts.order ≡ 0) }
+    ensures order { IfOk result (λ counts. counts.order ≤ 1) }
 
     // No bytes change. A fault is counted as one of reading.
     ensures same { F.told files.new ≡ F.told files.old }
@@ -97,11 +97,12 @@ fn bounds(len: usize, least: u64, room: u64, bytes: &[u8]) -> Result<(u64, u64),
 }
 
 /// The segment at place `at` of a file of `len` bytes, which starts at `least` or above and has at most `room` words. Its words are
-/// there, and are not read.
+/// there, and are not read; the order is what they are read by.
 pub fn read_span<F: Files>(
     files: &mut F,
     name: &str,
     len: u64,
+    order: u8,
     at: u64,
     least: u64,
     room: u64,
@@ -110,8 +111,8 @@ pub fn read_span<F: Files>(
     requires within { at ≤ len }
     requires room { room ≤ MOST_SEGMENT_WORDS }
     ensures read { (bytes : List ℕ) → Holds (F.told files.old name.now) bytes
-        → Gives (λ s. (segment_there bytes s, drop (s.place + 8 * s.count) bytes)) result
-        (segment_at len (least, room) (drop at bytes)) }
+        → Gives (λ s. (segment_there order bytes s, drop (s.place + 8 * s.count) bytes)) result
+        (segment_at len order (least, room) (drop at bytes)) }
     ensures place { IfOk result (λ s. s.place ≡ at + SPAN_BYTES) }
     ensures end { IfOk result (λ s. s.place + 8 * s.count ≤ len) }
     ensures few { IfOk result (λ s. s.count ≤ room) }
@@ -142,14 +143,15 @@ pub fn read_spans<F: Files>(
     files: &mut F,
     name: &str,
     len: u64,
+    order: u8,
     first: u64,
     count: u32,
 ) -> Result<(SpanList, u64), PageError>
     requires len { IsLength (F.told files.old name.now) len }
     requires within { first ≤ len }
     ensures read { (bytes : List ℕ) → Holds (F.told files.old name.now) bytes
-        → Gives (λ x. (segments_there bytes x.0, drop x.1 bytes)) result
-        (segments_at len count (drop first bytes)) }
+        → Gives (λ x. (segments_there order bytes x.0, drop x.1 bytes)) result
+        (segments_at len order count (drop first bytes)) }
     ensures ends { IfOk result (λ x. EndWithin len x.0) }
     ensures end { IfOk result (λ x. x.1 ≤ len) }
 
@@ -164,7 +166,7 @@ pub fn read_spans<F: Files>(
     let mut room = MOST_SEGMENT_WORDS;
     let mut at = first;
     for _ in 0..count {
-        let span = read_span(files, name, len, at, least, room)?;
+        let span = read_span(files, name, len, order, at, least, room)?;
         least = span.start + 8 * span.count + 1;
         room -= span.count;
         at = span.place + 8 * span.count;
@@ -204,6 +206,7 @@ pub struct Contents {
     pub contexts: Natives,
     pub spans: SpanList,
     pub ghost few: { length contexts ≤ MOST_CONTEXTS },
+    pub ghost known: { order ≤ 1 },
 }
 
 /// What stands in a core file beside its words. No word is read.
@@ -216,14 +219,13 @@ pub fn read_contents<F: Files>(
         (λ x. record {
           order = x.order;
           contexts = x.contexts;
-          segments = segments_there bytes x.spans;
+          segments = segments_there x.order bytes x.spans;
         })
         result (reading bytes) }
     ensures missing { F.told files.old name.now ≡ Some None
         → UnlessFree result (result ≡ Err PageError.NoFile) }
     ensures len { IfOk result (λ x. IsLength (F.told files.old name.now) x.len) }
     ensures ends { IfOk result (λ x. EndWithin x.len x.spans) }
-    ensures order { IfOk result (λ x. x.order ≡ 0) }
     ensures are_bytes { (bytes : List ℕ) → Holds (F.told files.old name.now) bytes
         → OnOk result (AreBytes bytes) }
 
@@ -237,7 +239,15 @@ pub fn read_contents<F: Files>(
     let counts = read_header(files, name, len)?;
     let contexts = read_contexts(alloc, files, name, len, counts.contexts)?;
     let first = HEADER_BYTES as u64 + 8 * counts.contexts as u64;
-    let (spans, end) = read_spans(alloc, files, name, len, first, counts.segments)?;
+    let (spans, end) = read_spans(
+        alloc,
+        files,
+        name,
+        len,
+        counts.order,
+        first,
+        counts.segments,
+    )?;
     if end < len {
         let why = CoreFault::Trailing(end);
         return Err(PageError::Fault { at: end, why });

@@ -1,15 +1,18 @@
 //! A core file that is read on demand.
 
-ghost use Rattle.std.specs.Prelude.{◌≡◌, ◌≤◌, ◌+◌, List, ℕ, Some, None, IfOk, IsOk, IfErr, IsErrOf, OnErr, Err, length, vec_len, []};
+ghost use Rattle.std.specs.Prelude.{◌≡◌, ◌≤◌, ◌+◌, List, ℕ, Some, None, IfOk, IsOk, IfErr, IsErrOf, OnErr, Err, length, vec_len, slice_get, []};
 ghost use Rattle.omi_outside.specs.Outside.{HasCause};
+ghost use Rattle.omi_corefile.specs.Outcomes.{IsCore};
 ghost use Rattle.omi_corefile.specs.Spelling.{Core};
 ghost use Rattle.omi_corefile.specs.Refusals.{CoreRefused};
 ghost use Rattle.omi_corefile.specs.declared.core_image.CoreImage.{CoreImage};
 ghost use Rattle.omi_corefile.specs.declared.fault.CoreFault.{CoreFault};
 ghost use Rattle.omi_word.specs.Words.{Words};
-ghost use Rattle.omi_calls.specs.Told.{Symbols, aligned_word_at, number_of};
+ghost use Rattle.omi_corefile.specs.ByteOrder.{number_of};
+ghost use Rattle.omi_calls.specs.Told.{Symbols, aligned_word_at};
 ghost use Rattle.omi_calls.specs.Answers.{SaysMapped, SaysPlace};
 ghost use Rattle.omi_word.specs.SymbolTable.{symbol_in};
+ghost use Rattle.omi_calls.specs.Kept.{IsOrderOf};
 ghost use Rattle.omi_calls.specs.Memory.{told_by};
 ghost use Rattle.omi_page.specs.declared.limits.TheConstants.{MOST_PAGES, PAGE_BYTES};
 ghost use Rattle.omi_page.specs.Left.{LeavesFiles};
@@ -36,6 +39,7 @@ pub struct Pages<'a, F: Files> {
     files: &'a mut F,
     name: &'a str,
     len: u64,
+    order: u8,
     contexts: Natives,
     spans: SpanList,
     kept: Kept,
@@ -48,11 +52,12 @@ pub struct Pages<'a, F: Files> {
     ghost ends: { EndWithin len spans },
     ghost long: { AreLong kept.entries },
     ghost pages: { ArePages (F.told files.now name.now) spans kept.entries },
-    ghost parts: { ArePartsOf (F.told files.now name.now) contexts spans },
+    ghost known: { order ≤ 1 },
+    ghost parts: { ArePartsOf (F.told files.now name.now) order contexts spans },
 }
 
 impl<'a, F: Files> Pages<'a, F> {
-    ghost use Rattle.omi_page.specs.Borrowed.{contexts_of, files_of, name_of, told_of, faults_counted, calls_made, StaysBorrowed};
+    ghost use Rattle.omi_page.specs.Borrowed.{order_of, contexts_of, files_of, name_of, told_of, faults_counted, calls_made, StaysBorrowed};
 
     /// Opens a core file. It reads the header, the contexts, and each segment's start address and number of words, and no word.
     pub fn over(alloc: Global, files: &'a mut F, name: &'a str) -> Result<Pages<'a, F>, PageError>
@@ -62,6 +67,8 @@ impl<'a, F: Files> Pages<'a, F> {
         ensures contexts { (bytes : List ℕ) (c : CoreImage)
             → Holds (F.told files.old name.now) bytes → Core bytes c
             → IfOk result (λ pages. contexts_of pages ≡ c.contexts) }
+        ensures order { (bytes : List ℕ) (c : CoreImage) → Holds (F.told files.old name.now) bytes
+            → Core bytes c → IfOk result (λ pages. order_of pages ≡ c.order) }
         ensures told { (bytes : List ℕ) (c : CoreImage) → Holds (F.told files.old name.now) bytes
             → Core bytes c
             → IfOk result (λ pages. told_of pages ≡ told_by c) }
@@ -94,6 +101,7 @@ impl<'a, F: Files> Pages<'a, F> {
     pub fn of(files: &'a mut F, name: &'a str, opened: Opened) -> Pages<'a, F>
         requires { IsOpened (F.told files.old name.now) opened.contents }
         ensures contexts { contexts_of result ≡ opened.contents.contexts }
+        ensures order { order_of result ≡ opened.contents.order }
         ensures same_reference { (files_of result).ghost_name ≡ files.entry.ghost_name }
         ensures same_name { name_of result ≡ name.now }
         ensures same { (files_of result).now ≡ files.old }
@@ -107,15 +115,16 @@ impl<'a, F: Files> Pages<'a, F> {
         } = opened;
         let Contents {
             len,
+            order,
             contexts,
             spans,
-            ..
         } = contents;
         Pages {
             alloc,
             files,
             name,
             len,
+            order,
             contexts,
             spans,
             kept,
@@ -134,6 +143,7 @@ impl<'a, F: Files> Pages<'a, F> {
             files,
             name: _,
             len: _,
+            order: _,
             contexts,
             spans,
             kept,
@@ -180,6 +190,17 @@ impl<'a, F: Files> Pages<'a, F> {
         keep(self.alloc, &mut self.kept, page, &self.buffer);
         *to = word_of(&self.buffer, offset);
         Got::Bytes
+    }
+
+    /// The order of the bytes of a word, which is the file's byte 9: 0 where the lowest comes first, 1 where the highest does.
+    pub fn order(&self) -> u8
+        ensures order { result ≡ order_of self.now }
+        ensures told { IsOrderOf (told_of self.now) result }
+        ensures byte { (bytes : List ℕ)
+            → Holds (F.told (files_of self.now).now (name_of self.now)) bytes → IsCore bytes
+            → slice_get bytes 9 ≡ Some result }
+    {
+        self.order
     }
 
     /// The native ids of the core's threads, which rise.

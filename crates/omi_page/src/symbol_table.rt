@@ -9,6 +9,7 @@ ghost use Rattle.omi_word.specs.SymbolTable.{words_from, symbol_in};
 
 use crate::Pages;
 use omi_calls::{CallbackFailed, Got};
+use omi_corefile::number_of;
 use omi_outside::Files;
 use omi_word::{
     FIRST_SYMBOL_ADDRESS, MOST_SYMBOLS, SYMBOL_BYTES, SYMBOL_COUNT_ADDRESS, found_with,
@@ -40,9 +41,10 @@ impl<'a, F: Files> Pages<'a, F> {
         ensures asked { calls_made self.new ≡ calls_made self.old }
         ensures stays { StaysBorrowed self.old self.new }
     {
+        let order = self.order();
         let mut bytes = [0; 8];
         match self.read_word(addr, &mut bytes) {
-            Got::Bytes => Ok(Some(u64::from_le_bytes(bytes))),
+            Got::Bytes => Ok(Some(number_of(order, bytes))),
             Got::NotMapped => Ok(None),
             Got::Failed => Err(CallbackFailed),
         }

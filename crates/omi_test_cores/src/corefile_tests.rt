@@ -1,7 +1,7 @@
 //! Worked files: each field at its limits, each fault at its place, and the greatest core.
 
 use crate::headers::HEADERS;
-use omi_corefile::{CoreError, CoreFault, core_bytes_of, core_of, decode, encode};
+use omi_corefile::{CoreError, CoreFault, CoreImage, core_bytes_of, core_of, decode, encode};
 use omi_word::{FIRST_ADDRESS, Image, Natives, Op};
 use std::alloc::{AllocError, Global};
 use std::process::Abort;
@@ -14,12 +14,19 @@ const THREE_WORDS: [u8; 64] = [
     5, 4, 3, 2, 1,
 ];
 
+/// The same in order 1, written out by hand: only byte 9 and the words differ.
+const THREE_BIG_WORDS: [u8; 64] = [
+    79, 77, 80, 68, 67, 79, 82, 49, 1, 1, 1, 0, 1, 0, 0, 0, 0xe8, 3, 0, 0, 0, 0, 0, 0, 0, 0, 1, 0,
+    0, 0, 0, 0, 3, 0, 0, 0, 0, 0, 0, 0, 0, 0, 0, 0, 0, 0, 0, 1, 0x80, 0, 0, 0, 0, 0, 0, 0, 1, 2, 3,
+    4, 5, 6, 7, 8,
+];
+
 /// The core of no words and no contexts.
 const NOTHING: [u8; 16] = [79, 77, 80, 68, 67, 79, 82, 49, 1, 0, 0, 0, 0, 0, 0, 0];
 
-#[test]
-fn three_words(rt: HostRuntime) -> Result<(), Fail> {
-    let mut image = Image::zeroed(rt.alloc(), 3)?;
+/// The image of the words 1, 2^63 and 0x0102030405060708.
+fn three(alloc: Global) -> Result<Image, AllocError> {
+    let mut image = Image::zeroed(alloc, 3)?;
     image.apply(Op::Store {
         at: FIRST_ADDRESS,
         new: 1,
@@ -32,6 +39,12 @@ fn three_words(rt: HostRuntime) -> Result<(), Fail> {
         at: 0x10010,
         new: 0x0102030405060708,
     });
+    Ok(image)
+}
+
+#[test]
+fn three_words(rt: HostRuntime) -> Result<(), Fail> {
+    let image = three(rt.alloc())?;
     let mut contexts = Natives::new(rt.alloc());
     contexts.push(1000)?;
     let core = core_of(rt.alloc(), &image, &contexts, 0)?;
@@ -40,6 +53,21 @@ fn three_words(rt: HostRuntime) -> Result<(), Fail> {
     assert_eq!(rt; bytes.as_slice(), THREE_WORDS.as_slice());
     let at_once = core_bytes_of(rt.alloc(), &image, &contexts)?;
     assert_eq!(rt; at_once.as_slice(), THREE_WORDS.as_slice());
+    let big = core_of(rt.alloc(), &image, &contexts, 1)?;
+    let bytes = encode(rt.alloc(), &big)?;
+    assert_eq!(rt; bytes.as_slice(), THREE_BIG_WORDS.as_slice());
+    Ok(())
+}
+
+#[test]
+fn another_order(rt: HostRuntime) -> Result<(), Fail> {
+    let alloc = rt.alloc();
+    let big = decode(alloc, &THREE_WORDS)?.with_order(1);
+    let bytes = encode(alloc, &big)?;
+    assert_eq!(rt; bytes.as_slice(), THREE_BIG_WORDS.as_slice());
+    let little = decode(alloc, &THREE_BIG_WORDS)?.with_order(0);
+    let bytes = encode(alloc, &little)?;
+    assert_eq!(rt; bytes.as_slice(), THREE_WORDS.as_slice());
     Ok(())
 }
 
@@ -54,15 +82,22 @@ fn no_words(rt: HostRuntime) -> Result<(), Fail> {
 
 #[test]
 fn read_again(rt: HostRuntime) -> Result<(), Fail> {
-    let core = decode(rt.alloc(), &THREE_WORDS)?;
-    assert_eq!(rt; core.order, 0);
+    let little = decode(rt.alloc(), &THREE_WORDS)?;
+    expect_three(&rt, &little, 0);
+    let big = decode(rt.alloc(), &THREE_BIG_WORDS)?;
+    expect_three(&rt, &big, 1);
+    Ok(())
+}
+
+/// The core has this order, the context 1000 and the three words.
+fn expect_three(rt: &impl Abort, core: &CoreImage, order: u8) {
+    assert_eq!(rt; core.order, order);
     assert_eq!(rt; core.contexts.as_slice(), [1000u64].as_slice());
     assert_eq!(rt; core.segments.len(), 1);
     let segment = core.segments.get(0);
     assert_eq!(rt; segment.start, FIRST_ADDRESS);
     let words = [1u64, 1 << 63, 0x0102030405060708];
     assert_eq!(rt; segment.words.as_slice(), words.as_slice());
-    Ok(())
 }
 
 /// The file is refused with this fault at this place.
@@ -266,7 +301,7 @@ fn most_words(rt: HostRuntime) -> Result<(), Fail> {
 const NAMES: [(CoreFault, u8, &str); 8] = [
     (CoreFault::BadMagic, 1, "BadMagic"),
     (CoreFault::Version(2), 2, "Version"),
-    (CoreFault::Order(1), 3, "Order"),
+    (CoreFault::Order(2), 3, "Order"),
     (CoreFault::Short(3), 4, "Short"),
     (CoreFault::TooLarge(3), 5, "TooLarge"),
     (CoreFault::SegmentOrder(3), 6, "SegmentOrder"),

@@ -29,9 +29,16 @@ fn word_at(addr: u64) -> u64 {
     }
 }
 
-/// A core file with the contexts 5 and 9 and three segments.
+/// A core file with the contexts 5 and 9 and three segments, in order 0.
 pub fn three_segments(alloc: Global) -> Result<Vec<u8>, AllocError> {
-    let mut bytes = Vec::from_slice(alloc, b"OMPDCOR1\x01\x00\x02\x00\x03\x00\x00\x00")?;
+    three_segments_in(alloc, 0)
+}
+
+/// The same in either order.
+pub fn three_segments_in(alloc: Global, order: u8) -> Result<Vec<u8>, AllocError> {
+    let mut bytes = Vec::from_slice(alloc, b"OMPDCOR1\x01")?;
+    bytes.push(order)?;
+    bytes.extend_from_slice(b"\x02\x00\x03\x00\x00\x00")?;
     bytes.extend_from_slice(&5u64.to_le_bytes())?;
     bytes.extend_from_slice(&9u64.to_le_bytes())?;
     for (start, count) in SEGMENTS {
@@ -39,7 +46,12 @@ pub fn three_segments(alloc: Global) -> Result<Vec<u8>, AllocError> {
         bytes.extend_from_slice(&count.to_le_bytes())?;
         for k in 0..count {
             let word = word_at(start.wrapping_add(k.wrapping_mul(8)));
-            bytes.extend_from_slice(&word.to_le_bytes())?;
+            let eight = if order == 0 {
+                word.to_le_bytes()
+            } else {
+                word.to_be_bytes()
+            };
+            bytes.extend_from_slice(&eight)?;
         }
     }
     Ok(bytes)

@@ -3,7 +3,7 @@
 ghost use Rattle.std.specs.Prelude.{◌≡◌, ◌≤◌, ◌⊎◌, Ok, Err};
 ghost use Rattle.omi_outside.specs.Outside.{HasCause};
 
-use crate::cores::{SEGMENTS, three_segments};
+use crate::cores::{SEGMENTS, three_segments, three_segments_in};
 use crate::sparing::Sparing;
 use omi_calls::{Callbacks, Got, MemCalls, Place};
 use omi_corefile::decode;
@@ -41,6 +41,7 @@ fn pages_alike(alloc: Global, bytes: &[u8], most: usize) -> bool {
         return false;
     };
     let mut same = pages.contexts().as_slice() == [5, 9].as_slice();
+    same = same && bytes.get(9) == Some(&pages.order());
     for (start, count) in SEGMENTS {
         same = same
             && alike(
@@ -57,8 +58,25 @@ fn pages_alike(alloc: Global, bytes: &[u8], most: usize) -> bool {
 
 #[test]
 fn the_words_of_a_core_in_memory(rt: HostRuntime) -> Result<(), Fail> {
-    let bytes = three_segments(rt.alloc())?;
-    assert!(rt; pages_alike(rt.alloc(), &bytes, 4096));
+    for order in [0, 1] {
+        let bytes = three_segments_in(rt.alloc(), order)?;
+        assert!(rt; pages_alike(rt.alloc(), &bytes, 4096));
+    }
+    Ok(())
+}
+
+#[test]
+fn a_word_of_each_order(rt: HostRuntime) -> Result<(), Fail> {
+    for (order, wanted) in [
+        (0, [0xe8, 0x2f, 6, 0, 0, 0, 0, 0]),
+        (1, [0, 0, 0, 0, 0, 6, 0x2f, 0xe8]),
+    ] {
+        let bytes = three_segments_in(rt.alloc(), order)?;
+        let mut files = Sparing::with(rt.alloc(), &bytes, 4096, &[])?;
+        let mut word = [0u8; 8];
+        let got = read_word(rt.alloc(), &mut files, "c", 0x20ff8, &mut word);
+        assert_eq!(rt; (got, word), (Ok(Got::Bytes), wanted));
+    }
     Ok(())
 }
 

@@ -149,7 +149,6 @@ fn refusal_of_version<F: ToHost>(alloc: Global, to_host: F) -> Result<Option<Rc>
     let core = core_at(alloc, AN_EMPTY_RUN, 0, after(0))?;
     let target = Target {
         calls: MemCalls::over(core, Vec::new(alloc)),
-        order: LITTLE,
         asked: &asked,
     };
     match initialize(201511, Table::new(target, 0, to_host)) {

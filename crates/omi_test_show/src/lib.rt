@@ -1,4 +1,5 @@
-//! Tests of `show` through the top call: reports of cores in many layouts and sizes, how much of a core is read, and its refusals.
+//! Tests of `show` and `recode` through the top call: reports of cores in many layouts and sizes and in either order, how much of a core is
+//! read, and the refusals.
 #![tactic(auto)]
 
 #[cfg(test)]
@@ -7,6 +8,8 @@ mod counted;
 mod layout_tests;
 #[cfg(test)]
 mod paged_tests;
+#[cfg(test)]
+mod recode_tests;
 #[cfg(test)]
 mod show_tests;
 #[cfg(test)]

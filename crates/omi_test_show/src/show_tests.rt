@@ -241,7 +241,7 @@ fn cores_that_give_no_layout(rt: HostRuntime) -> Result<(), Fail> {
 const NO_CORE: [(usize, u8, &str); 7] = [
     (0, b'o', "core 0 1 BadMagic\n"),
     (8, 2, "core 8 2 Version\n"),
-    (9, 1, "core 9 3 Order\n"),
+    (9, 2, "core 9 3 Order\n"),
     (10, 65, "core 10 7 BadContext\n"),
     (12, 65, "core 12 6 SegmentOrder\n"),
     (24, 4, "core 24 6 SegmentOrder\n"),

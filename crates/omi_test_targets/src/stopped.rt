@@ -167,7 +167,7 @@ impl<'a, F: ToHost> Opened<'a, F> {
     }
 }
 
-/// A library over a core, in an order of the bytes of a word. The calls of these numbers fail.
+/// A library over a core, with the bytes of its words in an order. The calls of these numbers fail.
 pub fn library<'a, F: ToHost>(
     alloc: Global,
     core: CoreImage,
@@ -179,19 +179,16 @@ pub fn library<'a, F: ToHost>(
     requires takes { TakesAll (F.takes to_host) }
     requires gives { GivesNumbers (F.gives to_host) (if order.highest_first then 1 else 0) }
 {
+    let core = core.with_order(order.number());
     let calls = MemCalls::over(core, failing.to_vec(alloc)?);
-    let target = Target {
-        calls,
-        order,
-        asked,
-    };
+    let target = Target { calls, asked };
     match initialize(201811, Table::new(target, order.number(), to_host)) {
         Ok(library) => Ok(library),
         Err((rc, _)) => Err(Wrong::Refused(rc)),
     }
 }
 
-/// A session over a core, in an order of the bytes of a word.
+/// A session over a core, with the bytes of its words in an order.
 pub fn open<'a, F: ToHost>(
     alloc: Global,
     core: CoreImage,

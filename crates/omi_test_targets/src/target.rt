@@ -1,7 +1,7 @@
 //! Callbacks over a core, in either order of the bytes of a word, whose reads and look-ups are counted.
 
-ghost use Rattle.std.specs.Prelude.{◌≡◌, None, if◌then◌else◌};
-ghost use Rattle.omi_calls.specs.Told.{number_of};
+ghost use Rattle.std.specs.Prelude.{◌≡◌, ◌≤◌, None, if◌then◌else◌};
+ghost use Rattle.omi_corefile.specs.ByteOrder.{number_of};
 ghost use Rattle.omi_calls.specs.Memory.{calls_made, faults_counted, usual_sizes};
 
 use omi_calls::{Callbacks, Got, MemCalls, Place, Sizes};
@@ -23,11 +23,10 @@ impl Asked {
     }
 }
 
-/// Callbacks over a core that count what they are asked. They tell nothing of its words.
+/// Callbacks over a core that count what they are asked. They tell nothing of its words, whose bytes have the core's order.
 #[derive(Drop)]
 pub struct Target<'a> {
     pub calls: MemCalls,
-    pub order: ByteOrder,
     pub asked: &'a Asked,
 }
 
@@ -61,11 +60,7 @@ impl<'a> Callbacks for Target<'a> {
 
     fn read_memory(&mut self, addr: u64, to: &mut [u8; 8]) -> Got {
         self.asked.reads.set(self.asked.reads.get().wrapping_add(1));
-        let got = self.calls.read_memory(addr, to);
-        if self.order.highest_first {
-            to.reverse();
-        }
-        got
+        self.calls.read_memory(addr, to)
     }
 
     fn symbol_addr_lookup(&mut self, name: &str) -> Place {
@@ -83,7 +78,8 @@ impl<'a> Callbacks for Target<'a> {
 impl ByteOrder {
     /// The number of an order, as tables of callbacks have it.
     pub fn number(self) -> u8
-        ensures { result ≡ (if self.highest_first then 1 else 0) }
+        ensures number { result ≡ (if self.highest_first then 1 else 0) }
+        ensures known { result ≤ 1 }
     {
         if self.highest_first { 1 } else { 0 }
     }

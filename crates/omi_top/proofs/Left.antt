@@ -4,8 +4,8 @@ use Rattle.std.specs.Global.{Vec}
 use Rattle.omi_outside.specs.Outside.{Told, IsPutCut, put_on}
 use Rattle.omi_outside.specs.declared.status.Status.{Status}
 use Rattle.omi_outside.specs.declared.status.Status.TheVariants as status
-use Rattle.omi_top.specs.Command.{Command, Stop, Make, Show, Run, Faulty, core_name, script_name, written_name}
-use Rattle.omi_top.specs.Answer.{Answer, Gives, AreTold, IsAnswer, IsStopAnswer, IsMakeAnswer, IsRunAnswer, IsShowAnswer, IsAnswered, IsLeft}
+use Rattle.omi_top.specs.Command.{Command, Stop, Make, Show, Run, Recode, Faulty, core_name, script_name, written_name}
+use Rattle.omi_top.specs.Answer.{Answer, Gives, AreTold, IsAnswer, IsStopAnswer, IsMakeAnswer, IsRecodeAnswer, IsRunAnswer, IsShowAnswer, IsAnswered, IsLeft}
 use Rattle.omi_verbs.specs.Said.{IsSaid}
 use Rattle.omi_top.specs.declared.plan.Plan.{Plan}
 use Rattle.omi_layout.specs.declared.fault.LayoutFault.TheVariants.{Version, Overlap, OutOfRecord, BadArena}
@@ -70,6 +70,13 @@ run_proper : (plan : Plan) (text content core : Option (List ℕ)) (r : Refusal)
 run_proper plan text content None r fault is = stop_proper plan text None r fault is
 run_proper plan text content (Some core) r fault (lines, is, said) = show_proper content None r fault said
 
+recode_proper : (order : ℕ) (content copy : Option (List ℕ)) (r : Refusal) → is_fault r ≡ true
+    → IsRecodeAnswer order content (Gives copy (Err r)) → ⊥
+recode_proper order None None r fault is = another r _ fault is refl
+recode_proper order (Some bytes) None r fault (at, why, refused, is) = another r _ fault is refl
+recode_proper order None (Some copy) r fault is = is
+recode_proper order (Some bytes) (Some copy) r fault is = is
+
 -- what the answer to refused words says
 abbrev said_of : Answer → Refusal
 said_of (Gives core (Ok text)) = refusal.Usage
@@ -83,6 +90,8 @@ proper (Make n written) told core r fault is = make_proper n core r is
 proper (Show written) told core r fault (content, is, answer) = show_proper content core r fault answer
 proper (Run plan script written) told core r fault (text, here, content, is, answer) =
     run_proper plan text content core r fault answer
+proper (Recode order read copy) told core r fault (content, is, answer) =
+    recode_proper order content core r fault answer
 proper Faulty told core r fault is = another r refusal.Usage fault (ap said_of is) refl
 
 module _ (command : Command) (told : List ℕ → Told) (old new : Told) (counted : Type 0)

@@ -18,7 +18,7 @@ use Rattle.omi_model.specs.Views.{IsViewOf}
 use Rattle.omi_model.specs.declared.view.View.{View}
 use Rattle.omi_verbs.specs.declared.refusal.Refusal.{Refusal}
 use Rattle.omi_top.specs.declared.plan.Plan.{Plan}
-use Rattle.omi_top.specs.Answer.{Answer, Gives, IsAnswer, IsDoneOrFailed, IsReportOf, IsShowAnswer, IsShowRefusal, IsShown, IsStopped, IsLeft, IsRefused}
+use Rattle.omi_top.specs.Answer.{Answer, Gives, IsAnswer, IsDoneOrFailed, IsReported, IsReportOf, IsShowAnswer, IsShowRefusal, IsShown, IsStopped, IsLeft, IsRefused}
 use Rattle.omi_verbs.specs.Statuses.{ComesWhere, IsFaultStatus}
 use Rattle.omi_top.specs.Command.{Show}
 use Rattle.omi_top.specs.Cores.{IsDamaged, IsIncompatible, IsLooked, ShowsState, Spells, words_of_core}
@@ -27,6 +27,7 @@ use Rattle.omi_verbs.specs.Cores.{IsReachedCore, thread_ids}
 use Rattle.omi_top.proofs.ImageWords.{image_words}
 use Rattle.omi_rep.proofs.shown.ShownViews.{shown_looked as shown_look}
 use Rattle.omi_top.proofs.ShowVerdicts.{HasFault, Refusing, all_refusing, damaged as damaged_refused, faulty, incompatible as incompatible_refused, missing, one_looked, one_view, report_not_refused, says_core, says_damaged, says_incompatible, says_missing}
+use Rattle.omi_top.proofs.Recoded.{one_report}
 use Rattle.omi_top.proofs.Statuses.{DidMore, DoesMore, IsDoneStatus, one_content, comes_where, never_refused as nothing_refused, written_more}
 
 -- the core's file has a report
@@ -210,6 +211,31 @@ module _ (core : List ℕ) (told : List ℕ → Told) (old new : Told) (counted 
     shown status.Core left = never_refused status.Core left
     shown status.Damaged left = never_refused status.Damaged left
     shown status.Incompatible left = never_refused status.Incompatible left
+
+  -- what is put of a core that has a report
+  module _ (bytes : List ℕ) (is : told core ≡ Some (Some bytes)) (text : List ℕ)
+      (reported : IsReportOf bytes text) where
+    no_refusal : {C : Type 0} (s : Status) → IsRefused (Show core) told s old new counted out after → C
+    no_refusal s (r, same, written, answer, held, said) =
+        absurd (not_refused (Some bytes) r (text, reported) (refusals core told (Some bytes) is written r answer))
+
+    pub put_report : (s : Status) → IsLeft (Show core) told s old new counted out after
+        → IsReported text s out after
+    put_report status.Success (None, other, answer, held, put) =
+        put
+        ∙ ap (λ (t : List ℕ). put_on out t)
+        (one_report bytes other text (show_answer core told (Some bytes) is (Gives None (Ok other)) answer) reported)
+    put_report status.Success (Some written, other, answer, held, put) =
+        absurd (show_answer core told (Some bytes) is (Gives (Some written) (Ok other)) answer)
+    put_report status.ReadFault left = tt
+    put_report status.WriteFault left = tt
+    put_report status.OutOfMemory left = tt
+    put_report status.Usage left = no_refusal status.Usage left
+    put_report status.NoFile left = no_refusal status.NoFile left
+    put_report status.Script left = no_refusal status.Script left
+    put_report status.Core left = no_refusal status.Core left
+    put_report status.Damaged left = no_refusal status.Damaged left
+    put_report status.Incompatible left = no_refusal status.Incompatible left
 
   -- and of a core of words that show a state which events reach, as a run left it
   pub shown_reached : (s : Status) (bytes : List ℕ) → told core ≡ Some (Some bytes)

@@ -21,13 +21,14 @@ use Rattle.omi_verbs.specs.declared.refusal.Input.{Input}
 use Rattle.omi_verbs.specs.declared.refusal.Input.TheVariants as input
 use Rattle.omi_verbs.specs.declared.refusal.Refusal.{Refusal}
 use Rattle.omi_verbs.specs.declared.refusal.Refusal.TheVariants as refusal
-use Rattle.omi_top.specs.Command.{Command, Stop, Make, Show, Run, Faulty, ReadsBack, ReadsFirst, WritesLast, core_name, script_name}
+use Rattle.omi_top.specs.Command.{Command, Stop, Make, Show, Run, Recode, Faulty, ReadsBack, ReadsFirst, WritesLast, core_name, script_name}
 use Rattle.omi_text.specs.Report.{report}
 use Rattle.omi_verbs.specs.Cores.{IsCoreOf, thread_ids}
 use Rattle.omi_top.specs.Cores.{IsLooked, Spells}
 use Rattle.omi_top.specs.Shown.{IsRefusedCore}
 use Rattle.omi_top.specs.Lines.{run_text}
 use Rattle.omi_top.specs.Make.{IsMade, make_text}
+use Rattle.omi_top.specs.Recode.{IsCoreRefusal, IsRecoded, recoded_line}
 use Rattle.omi_verbs.specs.Refusal.{IsLate, refusal_line, status_of}
 use Rattle.omi_verbs.specs.Said.{IsSaid}
 use Rattle.omi_verbs.specs.Scripts.{IsScriptRefusal}
@@ -100,6 +101,13 @@ IsRunAnswer plan script content (Gives (Some core) says) =
     (lines : List ℕ) × IsStopAnswer plan script (Gives (Some core) (Ok lines))
     × IsReadBack lines content says
 
+-- an answer of `recode`, by the content of the core's file: a refusal alone, or the core in this order and the line
+abbrev pub IsRecodeAnswer : ℕ → Option (List ℕ) → Answer → Type 0
+IsRecodeAnswer order content (Gives None (Err r)) = IsCoreRefusal content r
+IsRecodeAnswer order (Some bytes) (Gives (Some copy) (Ok line)) =
+    IsRecoded order bytes copy × (line ≡ recoded_line order)
+IsRecodeAnswer order content answer = ⊥
+
 -- the content of each file that a command reads is told
 abbrev pub AreTold : Command → (List ℕ → Told) → Type 0
 AreTold (Stop plan script core) told = (content : Option (List ℕ)) × (told script ≡ Some content)
@@ -107,6 +115,7 @@ AreTold (Make n script) told = ⊤
 AreTold (Show core) told = (content : Option (List ℕ)) × (told core ≡ Some content)
 AreTold (Run plan script core) told = ((content : Option (List ℕ)) × (told script ≡ Some content))
     × ((content : Option (List ℕ)) × (told core ≡ Some content))
+AreTold (Recode order core copy) told = (content : Option (List ℕ)) × (told core ≡ Some content)
 AreTold Faulty told = ⊤
 
 -- an answer of a command, by what is told of the files that it reads
@@ -118,6 +127,8 @@ IsAnswer (Show core) told answer = (content : Option (List ℕ)) × (told core �
     × IsShowAnswer content answer
 IsAnswer (Run plan script core) told answer = (text : Option (List ℕ)) × (told script ≡ Some text)
     × (content : Option (List ℕ)) × (told core ≡ Some content) × IsRunAnswer plan text content answer
+IsAnswer (Recode order core copy) told answer = (content : Option (List ℕ))
+    × (told core ≡ Some content) × IsRecodeAnswer order content answer
 IsAnswer Faulty told answer = answer ≡ Gives None (Err refusal.Usage)
 
 -- a fault before anything is written, of a file that the command reads or of memory; one while its file is written; and one after that,
@@ -266,6 +277,14 @@ IsShown s contexts status.ReadFault out after = ⊤
 IsShown s contexts status.WriteFault out after = ⊤
 IsShown s contexts status.OutOfMemory out after = ⊤
 IsShown s contexts other out after = ⊥
+
+-- what `show` makes of a core that has a report: it puts this report, unless a file or the output fails or memory runs out
+abbrev pub IsReported : List ℕ → Status → Option (List ℕ) → Option (List ℕ) → Type 0
+IsReported text status.Success out after = after ≡ put_on out text
+IsReported text status.ReadFault out after = ⊤
+IsReported text status.WriteFault out after = ⊤
+IsReported text status.OutOfMemory out after = ⊤
+IsReported text other out after = ⊥
 
 -- what `run` makes of a script where it reads back the core that it left: the lines of a run of its program and the report of the state
 -- that the run's events reach. The core is never refused

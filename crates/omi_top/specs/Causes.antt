@@ -12,7 +12,7 @@ use Rattle.omi_verbs.specs.Statuses.{IsOfCore}
 use Rattle.omi_verbs.specs.declared.refusal.Refusal.{Refusal}
 use Rattle.omi_verbs.specs.declared.refusal.Refusal.TheVariants as refusal
 use Rattle.omi_top.specs.Answer.{AreTold, IsAnswered, IsLeft, IsUnwritten}
-use Rattle.omi_top.specs.Command.{Command, Faulty, ReadsCore, Writes, written_name}
+use Rattle.omi_top.specs.Command.{Command, Faulty, RefusesCore, Writes, written_name}
 
 -- what stays of files that are read and of files that are written
 pub record Stays (command : Command) (files files_now dest dest_now : SeenFiles) : Type 0 where
@@ -34,7 +34,7 @@ pub record Performed (command : Command) (result : Result (Vec ℕ) Refusal) (fi
 
 -- what a call left, and the cause of its status
 pub record Concluded (command : Command) (result : Status) (files files_now dest dest_now : SeenFiles) (out out_now : SeenOutput) : Type 0 where
-  pub of_core : IsOfCore result → ReadsCore command
+  pub of_core : IsOfCore result → RefusesCore command result
   pub usage : result ≡ status.Usage → command ≡ Faulty
   pub read_fault : result ≡ status.ReadFault → Rose files.reads files_now.reads
   pub write_fault : result ≡ status.WriteFault

@@ -7,6 +7,8 @@ use Rattle.omi_line.specs.Number.{number_between}
 use Rattle.omi_line.specs.declared.line.Line.{Line}
 use Rattle.omi_top.specs.declared.limits.TheConstants.{MOST_NODES}
 use Rattle.omi_top.specs.declared.plan.Plan.{Plan}
+use Rattle.omi_outside.specs.declared.status.Status.{Status}
+use Rattle.omi_outside.specs.declared.status.Status.TheVariants as status
 use Rattle.omi_verbs.specs.declared.refusal.Input.{Input}
 use Rattle.omi_verbs.specs.declared.refusal.Input.TheVariants as input
 use Rattle.omi_top.specs.Plan.{plan_of}
@@ -17,6 +19,7 @@ pub data Command : Type 0 where
   Make : (n : ℕ) (script : List ℕ) → Command
   Show : (core : List ℕ) → Command
   Run : (plan : Plan) (script core : List ℕ) → Command
+  Recode : (order : ℕ) (core copy : List ℕ) → Command
   Faulty : Command
 
 -- the line has an option
@@ -49,6 +52,13 @@ and_shown other = other
 abbrev pub run_by : List (List ℕ) → Line → Command
 run_by names line = and_shown (stop_by names line)
 
+-- `recode ORDER CORE CORE2`, with ORDER 0 or 1, without options
+abbrev pub recode_by : List (List ℕ) → Line → Command
+recode_by (order ∷ core ∷ copy ∷ []) line =
+    if has_option line then Faulty
+    else option_map_or (λ o. Recode o core copy) (number_between order 0 1) Faulty
+recode_by names line = Faulty
+
 -- a verb and the names behind it
 abbrev pub verb_by : List (List ℕ) → Line → Command
 verb_by [] line = Faulty
@@ -56,7 +66,8 @@ verb_by (verb ∷ names) line =
     if bytes_eq verb (codes "stop") then stop_by names line
     else (if bytes_eq verb (codes "make") then make_by names line
     else (if bytes_eq verb (codes "show") then show_by names line
-    else (if bytes_eq verb (codes "run") then run_by names line else Faulty)))
+    else (if bytes_eq verb (codes "run") then run_by names line
+    else (if bytes_eq verb (codes "recode") then recode_by names line else Faulty))))
 
 -- the command of a line, if words make one: its positional words are a verb and names
 abbrev pub command_by : Option Line → Command
@@ -76,6 +87,7 @@ abbrev pub ReadsFirst : Command → Input → Type 0
 ReadsFirst (Stop plan script core) input.Script = ⊤
 ReadsFirst (Show core) input.Core = ⊤
 ReadsFirst (Run plan script core) input.Script = ⊤
+ReadsFirst (Recode order core copy) input.Core = ⊤
 ReadsFirst command read = ⊥
 
 -- a command reads this after it wrote
@@ -88,11 +100,12 @@ abbrev pub WritesLast : Command → Type 0
 WritesLast (Run plan script core) = ⊥
 WritesLast command = ⊤
 
--- a command prints the report of a core
-abbrev pub ReadsCore : Command → Type 0
-ReadsCore (Show core) = ⊤
-ReadsCore (Run plan script core) = ⊤
-ReadsCore command = ⊥
+-- a command may refuse a core with this status: one that prints a report for any cause, and `recode` for its bytes alone
+abbrev pub RefusesCore : Command → Status → Type 0
+RefusesCore (Show core) s = ⊤
+RefusesCore (Run plan script core) s = ⊤
+RefusesCore (Recode order core copy) s = s ≡ status.Core
+RefusesCore command s = ⊥
 
 -- the names that a command gives to a script and to a core, which are empty where it gives none
 abbrev pub script_name : Command → List ℕ
@@ -100,6 +113,7 @@ script_name (Stop plan script core) = script
 script_name (Make n script) = script
 script_name (Show core) = []
 script_name (Run plan script core) = script
+script_name (Recode order core copy) = []
 script_name Faulty = []
 
 abbrev pub core_name : Command → List ℕ
@@ -107,6 +121,7 @@ core_name (Stop plan script core) = core
 core_name (Make n script) = []
 core_name (Show core) = core
 core_name (Run plan script core) = core
+core_name (Recode order core copy) = core
 core_name Faulty = []
 
 -- the name of the file that a command writes
@@ -115,6 +130,7 @@ written_name (Stop plan script core) = core
 written_name (Make n script) = script
 written_name (Show core) = []
 written_name (Run plan script core) = core
+written_name (Recode order core copy) = copy
 written_name Faulty = []
 
 -- a command writes the file of this name
@@ -123,4 +139,5 @@ Writes (Stop plan script core) name = name ≡ core
 Writes (Make n script) name = name ≡ script
 Writes (Show core) name = ⊥
 Writes (Run plan script core) name = name ≡ core
+Writes (Recode order core copy) name = name ≡ copy
 Writes Faulty name = ⊥

@@ -1,5 +1,6 @@
 -- The definitions to believe, in reading order: the promise of the whole; what a run of `stop` is to be, what a command line asks for, what
--- its answer is, what a core is to `show`, what a run is, and that there is at most one.
+-- its answer is, what a core is to `show`, what a run is, and that there is at most one; and that a
+-- core is shown alike in either order.
 pub mod Promise
 pub mod Plan
 pub mod Command
@@ -9,7 +10,9 @@ pub mod Shown
 pub mod Run
 pub mod Lines
 pub mod Make
+pub mod Recode
 pub mod Determined
+pub mod Recoded
 -- What private functions of the code stand on: a request as a command; what each layer of the top call says alike; and a run that was made
 pub mod Asked
 pub mod Causes

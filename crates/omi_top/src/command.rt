@@ -4,7 +4,7 @@ ghost use Rattle.std.specs.Prelude.{◌≡◌, IfSome};
 ghost use Rattle.std.specs.List.{All};
 ghost use Rattle.std.specs.Str.{IsUtf8};
 ghost use Rattle.omi_line.specs.Line.{IsText};
-ghost use Rattle.omi_top.specs.Command.{command_by, core_name, has_option, make_by, run_by, script_name, show_by, stop_by, verb_by};
+ghost use Rattle.omi_top.specs.Command.{command_by, core_name, has_option, make_by, recode_by, run_by, script_name, show_by, stop_by, verb_by};
 ghost use Rattle.omi_top.specs.Asked.{asked, IsBounded};
 
 use crate::limits::MOST_NODES;
@@ -31,6 +31,11 @@ pub enum Request<'a> {
         plan: Plan,
         script: &'a str,
         core: &'a str,
+    },
+    Recode {
+        order: u8,
+        core: &'a str,
+        copy: &'a str,
     },
     Faulty,
 }
@@ -107,6 +112,25 @@ fn run_by<'a>(names: &'a [Text], line: &Line) -> Request<'a>
     }
 }
 
+/// What `recode` is asked for, by the names behind it.
+fn recode_by<'a>(names: &'a [Text], line: &Line) -> Request<'a>
+    requires { All IsUtf8 names.now }
+    ensures asked { asked result ≡ recode_by names.entry.now line.now }
+    ensures bounded { IsBounded result }
+{
+    let [order, core, copy] = names else {
+        return Request::Faulty;
+    };
+    match number(order, 0, 1) {
+        Some(order) if !has_option(line) => Request::Recode {
+            order: order as u8,
+            core: text_of(core),
+            copy: text_of(copy),
+        },
+        _ => Request::Faulty,
+    }
+}
+
 /// What a line asks for, by its verb: its first positional word.
 fn verb_by(line: &Line) -> Request<'_>
     requires { IsText line.now }
@@ -121,6 +145,7 @@ fn verb_by(line: &Line) -> Request<'_>
         "make" => make_by(names, line),
         "show" => show_by(names, line),
         "run" => run_by(names, line),
+        "recode" => recode_by(names, line),
         _ => Request::Faulty,
     }
 }
@@ -147,7 +172,7 @@ pub fn names_of(request: Request<'_>) -> Names<'_>
             Names { script, core }
         }
         Request::Make { script, .. } => Names { script, core: "" },
-        Request::Show { core } => Names { script: "", core },
+        Request::Show { core } | Request::Recode { core, .. } => Names { script: "", core },
         Request::Faulty => Names {
             script: "",
             core: "",

@@ -1,5 +1,6 @@
 //! Laws of the definitions. Each is a function that does nothing, and says its law in `specs/`.
 
+ghost use Rattle.omi_top.specs.Recoded.{RecodedShowsAlike, ShowsOnce};
 ghost use Rattle.omi_top.specs.Determined.{MakesAreDetermined, RunsAreDetermined, StopsAreDetermined};
 
 /// There is at most one run of a program by a plan. So the core and the text of `stop`, and those of the run within `run`, follow from
@@ -8,4 +9,10 @@ pub fn runs_are_determined()
     ensures runs { RunsAreDetermined }
     ensures stops { StopsAreDetermined }
     ensures makes { MakesAreDetermined }
+{}
+
+/// `show` puts the same of a core and of its copy in the other order: a report depends on the words and the contexts alone.
+pub fn recoded_shows_alike()
+    ensures alike { RecodedShowsAlike }
+    ensures once { ShowsOnce }
 {}

@@ -7,11 +7,12 @@ mod limits;
 mod lines;
 mod make;
 mod plan;
+mod recode;
 mod run;
 mod run_and_show;
 mod show;
 mod stop;
 mod top;
 
-pub use laws::runs_are_determined;
+pub use laws::{recoded_shows_alike, runs_are_determined};
 pub use top::run_top;

@@ -1,9 +1,9 @@
 //! The command `show`.
 
 ghost use Rattle.std.specs.Prelude.{◌≡◌, ◌≢◌, ◌≤◌, IfOk, IfErr, IsErrAnd, MatchResult, length};
-ghost use Rattle.std.specs.Int.{from_le_bytes, w64};
 ghost use Rattle.omi_calls.specs.Kept.{GivesNumbers, IsOrderOf, TakesAll};
 ghost use Rattle.omi_calls.specs.Memory.{told_by};
+ghost use Rattle.omi_corefile.specs.ByteOrder.{number_of};
 ghost use Rattle.omi_corefile.specs.declared.core_image.CoreImage.{CoreImage};
 ghost use Rattle.omi_layout.specs.Valid.{IsValid};
 ghost use Rattle.omi_layout.specs.Given.{GivesLayout};
@@ -19,6 +19,7 @@ ghost use Rattle.omi_outside.specs.declared.status.Status.TheVariants.{Script};
 ghost use Rattle.omi_top.specs.Shown.{ComesOfWords, IsUnopened, IsViewed, handed_on, refusal_of_code, refusal_of_page, refusal_of_walk};
 
 use omi_calls::{Callbacks, Table, ToHost};
+use omi_corefile::number_of;
 use omi_model::View;
 use omi_outside::Files;
 use omi_page::{LentPages, Loan, PageError, Pages, open};
@@ -82,15 +83,17 @@ fn has_valid_layout<C: Callbacks, H: ToHost>(session: &Session<C, H>)
     let _layout = session.layout();
 }
 
-/// A session over the words that callbacks tell, by a conversion of the bytes of a word. A refusal hands the callbacks back.
+/// A session over the words that callbacks tell, by a conversion of the bytes of a word in their order. A refusal hands the callbacks
+/// back.
 fn opened<C: Callbacks + Drop, H: ToHost>(
     alloc: Global,
     calls: C,
+    order: u8,
     to_host: H,
 ) -> Result<Session<C, H>, (Refusal, C)>
-    requires order { IsOrderOf (C.told calls) 0 }
+    requires order { IsOrderOf (C.told calls) order }
     requires takes { TakesAll (H.takes to_host) }
-    requires gives { GivesNumbers (H.gives to_host) 0 }
+    requires gives { GivesNumbers (H.gives to_host) order }
     ensures layout { (core : CoreImage) → C.told calls ≡ told_by core
         → IfOk result (λ s. GivesLayout (words_of_core core) s.layout) }
     ensures told { IfOk result (λ s. C.told s.table.calls ≡ C.told calls) }
@@ -101,7 +104,7 @@ fn opened<C: Callbacks + Drop, H: ToHost>(
     ensures cause { MatchResult result (λ s. C.faults calls ≤ C.faults s.table.calls)
         (λ back. HasCause (C.faults calls) (C.faults back.1) (IsReadFault back.0)) }
 {
-    let table = Table::new(calls, 0, to_host);
+    let table = Table::new(calls, order, to_host);
     let Ok(library) = initialize(API_VERSION, table) else {
         unreachable!();
     };
@@ -111,24 +114,25 @@ fn opened<C: Callbacks + Drop, H: ToHost>(
     }
 }
 
-/// The view of the words that callbacks tell, by a conversion of the bytes of a word, with the callbacks.
+/// The view of the words that callbacks tell, by a conversion of the bytes of a word in their order, with the callbacks.
 fn view_by<C: Callbacks + Drop, H: ToHost>(
     alloc: Global,
     calls: C,
     contexts: &Natives,
+    order: u8,
     to_host: H,
 ) -> (Result<View, Refusal>, C)
     requires few { length contexts.now ≤ 64 }
-    requires order { IsOrderOf (C.told calls) 0 }
+    requires order { IsOrderOf (C.told calls) order }
     requires takes { TakesAll (H.takes to_host) }
-    requires gives { GivesNumbers (H.gives to_host) 0 }
+    requires gives { GivesNumbers (H.gives to_host) order }
     ensures viewed { (core : CoreImage) → C.told calls ≡ told_by core
         → contexts.now ≡ core.contexts → IsViewed core result.0 }
     ensures words { IfErr result.0 ComesOfWords }
     ensures cause { HasCause (C.faults calls) (C.faults result.1)
         (IsErrAnd result.0 IsReadFault) }
 {
-    let mut session = match opened(alloc, calls, to_host) {
+    let mut session = match opened(alloc, calls, order, to_host) {
         Ok(session) => session,
         Err((refusal, calls)) => return (Err(refusal), calls),
     };
@@ -138,7 +142,7 @@ fn view_by<C: Callbacks + Drop, H: ToHost>(
     (view, table.into_calls())
 }
 
-/// The view of the words of a core that is read by pages, with the pages, which borrow what they borrowed.
+/// The view of the words of a core that is read by pages, in the core's order, with the pages, which borrow what they borrowed.
 fn view_of<'a, F: Files, L: Loan>(
     alloc: Global,
     pages: Pages<'a, F>,
@@ -153,14 +157,16 @@ fn view_of<'a, F: Files, L: Loan>(
     ensures cause { HasCause (faults_counted pages.entry) (faults_counted result.1)
         (IsErrAnd result.0 IsReadFault) }
 {
+    let order = pages.order();
     let lent: LentPages<'a, F, L> = LentPages::of(pages);
     let (view, lent) = view_by(
         alloc,
         lent,
         contexts,
-        |bytes: [u8; 8]| -> u64
-            ensures { result ≡ from_le_bytes w64 bytes }
-        { u64::from_le_bytes(bytes) },
+        order,
+        move |bytes: [u8; 8]| -> u64
+            ensures { result ≡ number_of order bytes }
+        { number_of(order, bytes) },
     );
     (view, lent.into_pages())
 }

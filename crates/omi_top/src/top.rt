@@ -8,18 +8,19 @@ ghost use Rattle.omi_corefile.specs.declared.fault.CoreFault.{CoreFault};
 ghost use Rattle.omi_script.specs.Grammar.{Grammar, Refused as RefusedScript};
 ghost use Rattle.omi_script.specs.declared.fault.ScriptFault.{ScriptFault};
 ghost use Rattle.omi_script.specs.declared.program.Program.{Program};
-ghost use Rattle.omi_top.specs.Command.{Stop, Make, Show, Run, Faulty, ReadsCore, command_in, core_name, script_name, written_name, Writes};
+ghost use Rattle.omi_top.specs.Command.{Stop, Make, Show, Run, Recode, Faulty, RefusesCore, command_in, core_name, script_name, written_name, Writes};
 ghost use Rattle.omi_top.specs.declared.plan.Plan.{Plan};
 ghost use Rattle.omi_top.specs.Asked.{asked, IsBounded};
 ghost use Rattle.omi_top.specs.Causes.{Concluded, Performed};
 ghost use Rattle.omi_verbs.specs.Seen.{files_seen, output_seen};
 ghost use Rattle.omi_verbs.specs.Refusal.{HasRoom, status_of};
-ghost use Rattle.omi_top.specs.Answer.{AreTold, IsStopped, IsLeft, IsUnwritten, ComesBehind, IsDoneOrFailed, IsReadBackStatus, IsReportOf, IsRunShown, IsShown, IsWritingStatus};
+ghost use Rattle.omi_top.specs.Answer.{AreTold, IsStopped, IsLeft, IsUnwritten, ComesBehind, IsDoneOrFailed, IsReadBackStatus, IsReported, IsReportOf, IsRunShown, IsShown, IsWritingStatus};
 ghost use Rattle.omi_top.specs.Promise.{IsPromised};
 ghost use Rattle.omi_verbs.specs.Said.{IsSaid, IsCounted};
 ghost use Rattle.omi_verbs.specs.Statuses.{ComesWhere, IsOfCore};
 ghost use Rattle.omi_verbs.specs.Scripts.{HoldsProgram};
 ghost use Rattle.omi_top.specs.Make.{IsMade, make_text};
+ghost use Rattle.omi_top.specs.Recode.{IsRecoded, recoded_line};
 ghost use Rattle.omi_top.specs.Cores.{IsDamaged, IsIncompatible, IsLooked, ShowsState, Spells};
 ghost use Rattle.omi_verbs.specs.Cores.{IsReachedCore, thread_ids};
 ghost use Rattle.omi_corefile.specs.Spelling.{Core};
@@ -31,6 +32,7 @@ ghost use Rattle.omi_text.specs.Report.{report as report_of};
 
 use crate::command::{Request, names_of, request_of};
 use crate::make::make;
+use crate::recode::recode;
 use crate::run_and_show::run_and_show;
 use crate::show::show;
 use crate::stop::stop;
@@ -54,7 +56,7 @@ fn perform<F: Files, W: Files>(
     ensures usage { IsErrOf result Refusal.Usage → asked request.entry ≡ Faulty }
     ensures faulty { asked request.entry ≡ Faulty → IsErrOf result Refusal.Usage }
     ensures of_core { IfErr result
-        (λ r. IsOfCore (status_of r) → ReadsCore (asked request.entry)) }
+        (λ r. IsOfCore (status_of r) → RefusesCore (asked request.entry) (status_of r)) }
 {
     match request {
         Request::Stop { plan, script, core } => stop(alloc, plan, script, core, files, dest),
@@ -63,6 +65,7 @@ fn perform<F: Files, W: Files>(
         Request::Run { plan, script, core } => {
             run_and_show(alloc, plan, script, core, files, dest)
         }
+        Request::Recode { order, core, copy } => recode(alloc, order, core, copy, files, dest),
         Request::Faulty => Err(Refusal::Usage),
     }
 }
@@ -129,7 +132,8 @@ fn carry_out<F: Files, W: Files, K: Sink>(
 /// program of a script for at most STEPS steps, writes its core and prints its events, where options
 /// say which threads make the steps, at which event they stop and in which layout; `make N SCRIPT`
 /// writes a workload, runs it and prints how many tasks started; `show CORE` prints the report of a
-/// core; `run STEPS SCRIPT CORE` does what `stop` does, reads CORE back and prints its report as well.
+/// core; `run STEPS SCRIPT CORE` does what `stop` does, reads CORE back and prints its report as well;
+/// `recode ORDER CORE CORE2` writes a core anew, with the bytes of each word in the order 0 or 1.
 /// It reads from `files` alone, writes to `dest` alone and prints to `out`.
 pub fn run_top<F: Files, W: Files, K: Sink>(
     alloc: Global,
@@ -141,7 +145,7 @@ pub fn run_top<F: Files, W: Files, K: Sink>(
     // The causes for which no bytes need be told. Where the words are refused, that line is put
     // whole, or the sink counted why not. Memory ran out before anything was put, or the sink counted
     // a put for which there was none.
-    ensures of_core { IsOfCore result → ReadsCore (command_in words.now) }
+    ensures of_core { IsOfCore result → RefusesCore (command_in words.now) result }
     ensures usage { result ≡ Status.Usage → command_in words.now ≡ Faulty }
     ensures faulty { command_in words.now ≡ Faulty
         → (result ≡ Status.Usage) ⊎ (result ≡ Status.OutOfMemory) }
@@ -240,6 +244,32 @@ pub fn run_top<F: Files, W: Files, K: Sink>(
         → command_in words.now ≡ Show core → F.told files.old core ≡ Some (Some bytes)
         → (p : Program) (ids : List ℕ) (s : State) → IsReachedCore p ids bytes s
         → IsShown s ids result (K.told out.old) (K.told out.new) }
+
+    // With success of `recode` CORE2 holds the core with the contexts and segments of CORE and this
+    // order, and what is put is the line. It refuses a core nothing, and else comes where `show` does.
+    ensures recoded { (order : ℕ) (core copy bytes : List ℕ)
+        → command_in words.now ≡ Recode order core copy
+        → F.told files.old core ≡ Some (Some bytes) → result ≡ Status.Success
+        → (written : List ℕ) × IsRecoded order bytes written
+        × (W.told dest.new copy ≡ holding (W.told dest.old copy) written)
+        × (K.told out.new ≡ put_on (K.told out.old) (recoded_line order)) }
+    ensures recodes { (order : ℕ) (core copy bytes : List ℕ)
+        → command_in words.now ≡ Recode order core copy
+        → F.told files.old core ≡ Some (Some bytes) → (image : CoreImage) → Core bytes image
+        → IsDoneOrFailed result }
+    ensures recode_no_core { (order : ℕ) (core copy : List ℕ) (content : Option (List ℕ))
+        → command_in words.now ≡ Recode order core copy → F.told files.old core ≡ Some content
+        → ComesWhere Status.NoFile result (content ≡ None) }
+    ensures recode_core { (order : ℕ) (core copy bytes : List ℕ)
+        → command_in words.now ≡ Recode order core copy
+        → F.told files.old core ≡ Some (Some bytes)
+        → ComesWhere Status.Core result ((at : ℕ) × (why : CoreFault) × CoreRefused bytes at why) }
+
+    // Of a core that `recode` wrote, `show` puts the report of the core that it read.
+    ensures shown_recoded { (core bytes : List ℕ)
+        → command_in words.now ≡ Show core → F.told files.old core ≡ Some (Some bytes)
+        → (order : ℕ) (other text : List ℕ) → IsRecoded order other bytes → IsReportOf other text
+        → IsReported text result (K.told out.old) (K.told out.new) }
 
     // With `run` the core is written as with `stop`, and then the bytes under CORE in `files` are
     // read and judged as with `show`. The script is judged first.

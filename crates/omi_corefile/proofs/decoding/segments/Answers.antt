@@ -8,17 +8,17 @@ pub returns-in_err-segment : goal.returns-in_err-segment
 returns-in_err-segment c =
     let p = err_from_is_err_and c.from_residual.result c.from_residual.ensures.1 in
     rw (p.1, p.2)
-    (row_fails c.in_err-segment.field-0.0 (segment_at c.args.len) left_after c.loop.segments c.args.count c.loop.counter (c.loop.least, c.loop.room) c.loop.rest.now (segments_at c.args.len c.args.count c.args.bytes.now) c.loop-test.true c.in_err-segment.ensures.read c.loop.invariant.read)
+    (row_fails c.in_err-segment.field-0.0 (segment_at c.args.len c.args.order) left_after c.loop.segments c.args.count c.loop.counter (c.loop.least, c.loop.room) c.loop.rest.now (segments_at c.args.len c.args.order c.args.count c.args.bytes.now) c.loop-test.true c.in_err-segment.ensures.read c.loop.invariant.read)
 
 pub loop-preserved : goal.loop-preserved
 loop-preserved c =
     record {
-      read = rw (c.in_ok-push.ensures.added, c.len-words.ensures) (goes_on (segment_at c.args.len) left_after c.loop.segments c.args.count c.loop.counter (c.loop.least, c.loop.room) c.loop.rest.now c.in_ok-segment.segment c.in_ok-segment.after.now (segments_at c.args.len c.args.count c.args.bytes.now) c.loop-test.true c.in_ok-segment.ensures.read c.loop.invariant.read);
+      read = rw (c.in_ok-push.ensures.added, c.len-words.ensures) (goes_on (segment_at c.args.len c.args.order) left_after c.loop.segments c.args.count c.loop.counter (c.loop.least, c.loop.room) c.loop.rest.now c.in_ok-segment.segment c.in_ok-segment.after.now (segments_at c.args.len c.args.order c.args.count c.args.bytes.now) c.loop-test.true c.in_ok-segment.ensures.read c.loop.invariant.read);
       room_is_left = omega (arith, c.loop.invariant.room_is_left);
     }
 
 pub returns : goal.returns
 returns c =
-    row_ends (segment_at c.args.len) left_after c.loop.segments c.args.count c.loop.counter
+    row_ends (segment_at c.args.len c.args.order) left_after c.loop.segments c.args.count c.loop.counter
     (c.loop.least, c.loop.room) c.loop.rest.now
-    (segments_at c.args.len c.args.count c.args.bytes.now) c.loop-test.false c.loop.invariant.read
+    (segments_at c.args.len c.args.order c.args.count c.args.bytes.now) c.loop-test.false c.loop.invariant.read

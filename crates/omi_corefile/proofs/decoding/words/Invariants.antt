@@ -5,6 +5,6 @@ use Rattle.omi_corefile.proofs.decoding.words.Given as goal
 
 abbrev pub invariant-loop : goal.invariant-loop
 invariant-loop l = record {
-  read : with_front l.words (words_at l.len (l.count - l.counter) l.rest) ≡ words_at l.len l.count l.bytes;
+  read : with_front l.words (words_at l.len l.order (l.count - l.counter) l.rest) ≡ words_at l.len l.order l.count l.bytes;
   so_many : length l.words ≡ l.counter;
 }

@@ -19,6 +19,11 @@ returns-clause-contexts g c = λ bytes core holds is.
     ap (λ p. p.contexts)
     (same_parts bytes _ _ (c.in_ok-contents.ensures.read bytes holds) (read_core bytes core is))
 
+pub returns-clause-order : goal.returns-clause-order
+returns-clause-order g c = λ bytes core holds is.
+    ap (λ p. p.order)
+    (same_parts bytes _ _ (c.in_ok-contents.ensures.read bytes holds) (read_core bytes core is))
+
 pub returns-clause-core : goal.returns-clause-core
 returns-clause-core g c =
     λ bytes holds. file_is_core bytes _ (c.in_ok-contents.ensures.are_bytes bytes holds) (c.in_ok-contents.ensures.read bytes holds)
@@ -31,7 +36,7 @@ returns-clause-opened g c =
       ends = c.in_ok-contents.ensures.ends;
       parts = λ bytes parts holds read.
           let same = same_parts bytes parts _ read (c.in_ok-contents.ensures.read bytes (before ∙ holds)) in
-          (ap (λ p. p.order) same ∙ c.in_ok-contents.ensures.order, ap (λ p. p.contexts) same, ap (λ p. p.segments) same);
+          (ap (λ p. p.order) same, ap (λ p. p.contexts) same, ap (λ p. p.segments) same);
     }
 
 pub returns-clause-cause : goal.returns-clause-cause

@@ -14,7 +14,7 @@ returns-in_err-span-clause-read g c = λ bytes told.
     ap (λ t. t c.args.name.now) c.loop.invariant.same ∙ told in
     let p = err_from_is_err_and c.from_residual.result c.from_residual.ensures.1 in
     rw (p.1, p.2)
-    (segments_fault c.in_err-span.field-0.0 (segments_there bytes c.loop.spans) c.args.len c.args.count c.loop.counter (c.loop.least, c.loop.room) _ _ c.loop-test.true (c.in_err-span.ensures.read bytes now) (c.loop.invariant.read bytes told))
+    (segments_fault c.in_err-span.field-0.0 (segments_there c.args.order bytes c.loop.spans) c.args.len c.args.order c.args.count c.loop.counter (c.loop.least, c.loop.room) _ _ c.loop-test.true (c.in_err-span.ensures.read bytes now) (c.loop.invariant.read bytes told))
 
 pub loop-preserved : goal.loop-preserved
 loop-preserved g c = record {
@@ -22,7 +22,7 @@ loop-preserved g c = record {
       let now : Holds (g.F.Files.told c.loop.files c.args.name.now) bytes =
       ap (λ t. t c.args.name.now) c.loop.invariant.same ∙ told in
       rw c.in_ok-push.ensures.added
-      (segment_more bytes c.loop.spans c.in_ok-span.span c.args.len c.args.count c.loop.counter c.loop.least c.loop.room c.loop.at _ c.loop-test.true (c.in_ok-span.ensures.read bytes now) (c.loop.invariant.read bytes told));
+      (segment_more c.args.order bytes c.loop.spans c.in_ok-span.span c.args.len c.args.count c.loop.counter c.loop.least c.loop.room c.loop.at _ c.loop-test.true (c.in_ok-span.ensures.read bytes now) (c.loop.invariant.read bytes told));
   room_is_left = omega arith;
   within = search rules;
   ends = subst (EndWithin c.args.len) (sym c.in_ok-push.ensures.added) (ends_push c.args.len c.loop.spans c.in_ok-span.span c.loop.invariant.ends c.in_ok-span.ensures.end);
@@ -33,6 +33,6 @@ loop-preserved g c = record {
 
 pub returns-clause-read : goal.returns-clause-read
 returns-clause-read g c = λ bytes told.
-    row_ends (segment_at c.args.len) left_after
-    (segments_there bytes c.loop.spans) c.args.count c.loop.counter (c.loop.least, c.loop.room) _
-    (segments_at c.args.len c.args.count _) c.loop-test.false (c.loop.invariant.read bytes told)
+    row_ends (segment_at c.args.len c.args.order) left_after
+    (segments_there c.args.order bytes c.loop.spans) c.args.count c.loop.counter (c.loop.least, c.loop.room) _
+    (segments_at c.args.len c.args.order c.args.count _) c.loop-test.false (c.loop.invariant.read bytes told)

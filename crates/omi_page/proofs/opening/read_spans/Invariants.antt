@@ -10,7 +10,7 @@ use Rattle.omi_page.proofs.opening.read_spans.Given as goal
 abbrev pub invariant-loop : goal.invariant-loop
 invariant-loop g l = record {
   read : (bytes : List ℕ) → Holds (g.F.Files.told l.fn.files l.name) bytes
-      → with_front (segments_there bytes l.spans) (row_at (segment_at l.len) left_after (l.count - l.counter) (l.least, l.room) (drop l.at bytes)) ≡ segments_at l.len l.count (drop l.first bytes);
+      → with_front (segments_there l.order bytes l.spans) (row_at (segment_at l.len l.order) left_after (l.count - l.counter) (l.least, l.room) (drop l.at bytes)) ≡ segments_at l.len l.order l.count (drop l.first bytes);
   room_is_left : l.room ≤ MOST_SEGMENT_WORDS;
   within : l.at ≤ l.len;
   ends : EndWithin l.len l.spans;

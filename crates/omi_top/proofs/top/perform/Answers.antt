@@ -45,6 +45,12 @@ returns-in-Run-clause-performed g c =
     rw c.in-Run.is
     (record { answer = run.answer; read = run.read; write = run.write; unwritten = run.unwritten; stays = run.stays })
 
+pub returns-in-Recode-clause-performed : goal.returns-in-Recode-clause-performed
+returns-in-Recode-clause-performed g c = rw c.in-Recode.is c.recode.ensures.performed
+
+pub returns-in-Recode-clause-of_core : goal.returns-in-Recode-clause-of_core
+returns-in-Recode-clause-of_core g c = rw c.in-Recode.is c.recode.ensures.of_core
+
 pub returns-in-Faulty-clause-performed : goal.returns-in-Faulty-clause-performed
 returns-in-Faulty-clause-performed g c =
     rw c.in-Faulty.is

@@ -6,11 +6,13 @@ use Rattle.omi_verbs.specs.Statuses.{IsOfCore}
 use Rattle.omi_top.specs.Asked.{asked}
 use Rattle.omi_top.specs.Answer.{AreTold, IsLeft, IsUnwritten}
 use Rattle.omi_verbs.specs.Said.{IsCounted}
-use Rattle.omi_top.specs.Command.{Command, Stop, Make, Show, Run, Faulty, ReadsCore, Writes, command_by, command_in, written_name}
+use Rattle.omi_top.specs.Command.{Command, Stop, Make, Show, Run, Recode, Faulty, RefusesCore, Writes, command_by, command_in, written_name}
 use Rattle.omi_top.proofs.Left.{left_by}
-use Rattle.omi_top.proofs.LeftByShow.{no_file as no_core, core_refused, incompatible, damaged, report_put, shown, shows, shown_again, shown_reached}
+use Rattle.omi_top.proofs.LeftByShow.{no_file as no_core, core_refused, incompatible, damaged, put_report as put_shown, report_put, shown, shows, shown_again, shown_reached}
 use Rattle.omi_top.proofs.LeftByRun.{core_refused as run_core_refused, damaged as run_damaged, incompatible as run_incompatible, no_file as run_no_file, put_report, runs, script_refused as run_script_refused, shown as run_shown, wrote}
 use Rattle.omi_top.proofs.LeftByMake.{success as made, writing}
+use Rattle.omi_top.proofs.LeftByRecode.{core_refused as recode_core_refused, no_file as recode_no_file, recodes, success as recoded}
+use Rattle.omi_top.proofs.Recoded.{copy_reported}
 use Rattle.omi_top.proofs.LeftByStop.{no_file, script_refused, stops, success}
 use Rattle.omi_top.proofs.Promised.{promised}
 use Rattle.omi_top.proofs.top.run_top.Given as given
@@ -71,6 +73,12 @@ of_run : (g : given.Over) (c : Joined-line g) (plan : Plan) (script core : List 
     → files g c script ≡ Some text → files g c core ≡ Some content → Leaves g c (Run plan script core)
 of_run g c plan script core text content command told back =
     left_of g c (Run plan script core) (asked_is g c ∙ command) ((text, told), (content, back))
+
+of_recode : (g : given.Over) (c : Joined-line g) (order : ℕ) (core copy : List ℕ) (content : Option (List ℕ))
+    → command_in c.args.words.now ≡ Recode order core copy → files g c core ≡ Some content
+    → Leaves g c (Recode order core copy)
+of_recode g c order core copy content command told =
+    left_of g c (Recode order core copy) (asked_is g c ∙ command) (content, told)
 
 -- ---- the clauses
 
@@ -152,6 +160,32 @@ returns-in-Ok-clause-shown_reached g c core bytes command told p ids s reached =
     shown_reached core (files g c) _ _ _ _ _ _ bytes told p ids s reached
     (of_show g c core (Some bytes) command told)
 
+pub returns-in-Ok-clause-recoded : goal.returns-in-Ok-clause-recoded
+returns-in-Ok-clause-recoded g c order core copy bytes command told done =
+    recoded order core copy (files g c) _ _ _ _ _ _ bytes told done
+    (of_recode g c order core copy (Some bytes) command told)
+
+pub returns-in-Ok-clause-recodes : goal.returns-in-Ok-clause-recodes
+returns-in-Ok-clause-recodes g c order core copy bytes command told image spelled =
+    recodes order core copy (files g c) _ _ _ _ _ _ bytes told (image, spelled)
+    (of_recode g c order core copy (Some bytes) command told)
+
+pub returns-in-Ok-clause-recode_no_core : goal.returns-in-Ok-clause-recode_no_core
+returns-in-Ok-clause-recode_no_core g c order core copy content command told =
+    recode_no_file order core copy (files g c) _ _ _ _ _ _ content told
+    (of_recode g c order core copy content command told)
+
+pub returns-in-Ok-clause-recode_core : goal.returns-in-Ok-clause-recode_core
+returns-in-Ok-clause-recode_core g c order core copy bytes command told =
+    recode_core_refused order core copy (files g c) _ _ _ _ _ _ bytes told
+    (of_recode g c order core copy (Some bytes) command told)
+
+pub returns-in-Ok-clause-shown_recoded : goal.returns-in-Ok-clause-shown_recoded
+returns-in-Ok-clause-shown_recoded g c core bytes command told order other text recoded_from reported =
+    put_shown core (files g c) _ _ _ _ _ bytes told text
+    (copy_reported order other bytes text recoded_from reported) _
+    (of_show g c core (Some bytes) command told)
+
 pub returns-in-Ok-clause-run_script : goal.returns-in-Ok-clause-run_script
 returns-in-Ok-clause-run_script g c plan script core bytes content command told back =
     run_script_refused plan script core (files g c) _ _ _ _ _ _ bytes content told back
@@ -214,7 +248,7 @@ of_words g c P is = subst P (asked_is g c) is
 
 pub returns-in-Ok-clause-of_core : goal.returns-in-Ok-clause-of_core
 returns-in-Ok-clause-of_core g c =
-    of_words g c (λ k. IsOfCore c.carry_out.result → ReadsCore k) c.carry_out.ensures.concluded.of_core
+    of_words g c (λ k. IsOfCore c.carry_out.result → RefusesCore k c.carry_out.result) c.carry_out.ensures.concluded.of_core
 
 pub returns-in-Ok-clause-usage : goal.returns-in-Ok-clause-usage
 returns-in-Ok-clause-usage g c =

@@ -1,5 +1,5 @@
 use Rattle.std.proofs.Common.{◌≡◌, ap, sym, ◌∙◌, Some}
-use Rattle.omi_calls.specs.Told.{number_of}
+use Rattle.omi_corefile.specs.ByteOrder.{number_of}
 use Rattle.omi_calls.proofs.table.Table.word.Goals as goal
 
 pub returns-clause-word : goal.returns-clause-word

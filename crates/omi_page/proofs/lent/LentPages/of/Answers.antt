@@ -1,9 +1,8 @@
-use Rattle.std.proofs.Common.{arith}
 use Rattle.omi_page.proofs.Telling.{no_other_order}
 use Rattle.omi_page.proofs.lent.LentPages.of.Goals as goal
 
 pub returns-clause-order : goal.returns-clause-order
 returns-clause-order g c = record {
-  known = omega arith;
-  agrees = λ order told. no_other_order _ c.args.pages.contexts c.args.pages.spans order c.args.pages.parts told;
+  known = c.args.pages.known;
+  agrees = λ other told. no_other_order _ c.args.pages.order c.args.pages.contexts c.args.pages.spans other c.args.pages.parts told;
 }

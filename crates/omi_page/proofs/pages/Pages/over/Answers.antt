@@ -12,6 +12,10 @@ pub returns-clause-contexts : goal.returns-clause-contexts
 returns-clause-contexts g c =
     λ bytes core holds is. c.of.ensures.contexts ∙ c.in_ok-opened.ensures.contexts bytes core holds is
 
+pub returns-clause-order : goal.returns-clause-order
+returns-clause-order g c =
+    λ bytes core holds is. c.of.ensures.order ∙ c.in_ok-opened.ensures.order bytes core holds is
+
 pub returns-clause-told : goal.returns-clause-told
 returns-clause-told g c = λ bytes core holds is.
     tells_core _ bytes core
