@@ -1,6 +1,5 @@
 -- A task is deferred in a slot of its thread's row, so at no word behind the slots of a record.
-use Rattle.std.proofs.Common.{◌≡◌, ◌<◌, ◌≤◌, ◌+◌, ◌*◌, ◌++◌, nat_lt, ℕ, Bool, true, false, List, [], ◌∷◌, Option, Some, None, refl, sym, ap, ◌∙◌, subst, arith, if◌then◌else◌}
-use Rattle.std.specs.Option.{option_and_then, option_map_or}
+use Rattle.std.proofs.Common.{◌≡◌, ◌<◌, ◌≤◌, ◌+◌, ◌*◌, ◌++◌, nat_lt, ℕ, Bool, true, false, List, [], ◌∷◌, Some, None, refl, sym, ap, ◌∙◌, subst, arith, if◌then◌else◌}
 use Rattle.std.proofs.lemmas.Bool.Decides.{nat_tests}
 use Rattle.std.proofs.Math.Nat.{mul-le-mul_left}
 use Rattle.omi_numbers.specs.declared.limits.TheConstants.{OWN_SLOTS}
@@ -12,11 +11,10 @@ use Rattle.omi_model.specs.declared.event.Event.TheVariants as event
 use Rattle.omi_model.specs.declared.id.Tid.{Tid}
 use Rattle.omi_model.specs.declared.item.Item.{Item}
 use Rattle.omi_model.specs.declared.item.Item.TheVariants as item
-use Rattle.omi_model.specs.declared.task.Task.{Task}
-use Rattle.omi_model.specs.Changes.{OfCurrent, encounter}
+use Rattle.omi_model.specs.Changes.{encounter}
 use Rattle.omi_model.specs.Lists.{take_item}
 use Rattle.omi_model.specs.Reached.{Step}
-use Rattle.omi_model.specs.State.{State, current_task, task_of}
+use Rattle.omi_model.specs.State.{State}
 use Rattle.omi_layout.specs.Field.{slots, tasks}
 use Rattle.omi_layout.specs.Memory.{replace_at, word_address}
 use Rattle.omi_layout.specs.Place.{index_of, slot_address}

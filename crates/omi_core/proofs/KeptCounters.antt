@@ -4,8 +4,6 @@ use Rattle.std.specs.Prelude.{nat_lt, ◌<◌, length, slice_set}
 use Rattle.omi_script.specs.declared.program.Program.{Program}
 use Rattle.omi_script.specs.declared.statement.Stmt.{Stmt}
 use Rattle.omi_script.specs.declared.statement.Stmt.TheVariants as stmt
-use Rattle.omi_model.specs.declared.id.Tid.{Tid}
-use Rattle.omi_layout.specs.Field.{tasks}
 use Rattle.omi_layout.specs.Memory.{replace_at}
 use Rattle.omi_pc.specs.declared.actor.Actor.{Actor}
 use Rattle.omi_pc.specs.declared.counter.Counter.{Counter}
@@ -19,8 +17,6 @@ use Rattle.omi_pc.specs.declared.frame.Opened.{Opened}
 use Rattle.omi_pc.specs.declared.frame.Opened.TheVariants as opened
 use Rattle.omi_pc.specs.declared.frame.Wait.{Wait}
 use Rattle.omi_pc.specs.declared.frame.Wait.TheVariants as wait
-use Rattle.omi_numbers.specs.declared.limits.TheConstants.{OWN_SLOTS}
-use Rattle.omi_pc.specs.declared.limits.TheConstants.{TASK_WORDS, VARIABLE_WORDS}
 use Rattle.omi_pc.specs.declared.place.Place.{Place}
 use Rattle.omi_pc.specs.declared.task_counter.FinishCounter.{FinishCounter}
 use Rattle.omi_pc.specs.declared.task_counter.FinishCounter.TheVariants as finish
@@ -45,8 +41,7 @@ use Rattle.omi_pc.specs.Opening.{opening_actor, waiting_actor}
 use Rattle.omi_pc.proofs.NextCounters.{HoldsNext, returned_next, settled_next, worked_next, working_next}
 use Rattle.omi_rep.specs.Records.{task_address}
 use Rattle.omi_step_words.specs.Moving.{to_barrier, to_join, to_team, to_worker, to_look}
-use Rattle.omi_step_words.specs.Words.{task_place, is_free, object_in}
-use Rattle.omi_step_words.specs.Searches.{next_slot, own_place}
+use Rattle.omi_step_words.specs.Words.{task_place}
 use Rattle.omi_fork.specs.BarrierSteps.{barrier_moved, behind_member_end, ended_in, is_closed, looking, passed, some_missing}
 use Rattle.omi_fork.specs.JoinSteps.{join_moved, some_inside}
 use Rattle.omi_fork.specs.TeamParts.{master_context, region_function, team_size}
@@ -56,11 +51,11 @@ use Rattle.omi_plain.specs.PlainSteps.{behind_enter, left_behind, plain_moved, t
 use Rattle.omi_plain.specs.Statements.{in_work}
 use Rattle.omi_task.specs.LookSteps.{look_at, look_moved, next_look, behind_code, behind_look, body_begun, looking_on}
 use Rattle.omi_task.specs.FinishSteps.{behind_finish, finish_moved}
-use Rattle.omi_task.specs.MakingSteps.{behind_life, behind_raises, behind_slot, behind_task_variable, behind_word, made_function, makes_final, making_moved}
+use Rattle.omi_task.specs.MakingSteps.{made_function, makes_final, making_moved}
 use Rattle.omi_task.specs.Slots.{coded_task}
 use Rattle.omi_task.specs.Starts.{task_context}
 use Rattle.omi_actor.specs.Steps.{resumed_at}
-use Rattle.omi_rule.specs.StepsKeep.{IsJoinKept, IsKept, IsFinishKept, IsTaskKept}
+use Rattle.omi_rule.specs.StepsKeep.{IsJoinKept, IsKept, IsFinishKept}
 use Rattle.omi_core.specs.Kept.{AreKept}
 use Rattle.omi_core.specs.Runs.{AreOpeningActors, Run, actors_in}
 use Rattle.omi_core.proofs.Stepping.{actors_set}
@@ -193,55 +188,11 @@ kept_look p w a look.LoadChildren old kept_now =
     (kept_working p a kept_now) tt
 kept_look p w a c old kept_now = tt
 
-kept_slot : (place old : ℕ) → IsTaskKept (behind_slot place old)
-kept_slot place old = go (old == 0) (nat_lt (place + 1) OWN_SLOTS)
-  where
-    go : (b c : Bool)
-        → IsTaskKept (if b then task.LoadVariable (Some place) 0 else (if c then task.LoadSlot (place + 1) else task.LoadVariable None 0))
-    go true c = tt
-    go false true = tt
-    go false false = tt
-
-kept_variable : (place : Option ℕ) (word : ℕ) → IsTaskKept (behind_task_variable place word)
-kept_variable place word = go (nat_lt (word + 1) VARIABLE_WORDS)
-  where
-    go : (b : Bool) → IsTaskKept (if b then task.LoadVariable place (word + 1) else task.LoadLife place 0)
-    go true = tt
-    go false = tt
-
-kept_life : (w : List ℕ) (a : Actor) (place : Option ℕ) (slot old : ℕ)
-    → IsTaskKept (behind_life w a place slot old)
-kept_life w a place slot old = go (is_free old)
-  where
-    go : (b : Bool)
-        → IsTaskKept (if b then task.Take place (record { 0 = object_in (own_place a slot) old }) else task.LoadLife place (next_slot w tasks slot))
-    go true = tt
-    go false = tt
-
-kept_word : (place : Option ℕ) (t : Tid) (word : ℕ) → IsTaskKept (behind_word place t word)
-kept_word place t word = go (nat_lt (word + 1) TASK_WORDS)
-  where
-    go : (b : Bool) → IsTaskKept (if b then task.Fill place t (word + 1) else task.AddPending place t)
-    go true = tt
-    go false = tt
-
-kept_raises : (place : Option ℕ) (t : Tid) → IsTaskKept (behind_raises place t)
-kept_raises None t = tt
-kept_raises (Some place) t = tt
-
-kept_making : (p : Program) (w : List ℕ) (a : Actor) (c : TaskCounter) (old : ℕ) → IsTaskKept c
-    → IsKept a.counter → IsKept (making_moved p w a c old).counter
-kept_making p w a (task.LoadSlot place) old kept kept_now = kept_slot place old
-kept_making p w a (task.LoadVariable place word) old kept kept_now = kept_variable place word
-kept_making p w a (task.LoadLife place slot) old kept kept_now = kept_life w a place slot old
-kept_making p w a (task.Take place t) old kept kept_now = tt
-kept_making p w a (task.Fill place t word) old kept kept_now = kept_word place t word
-kept_making p w a (task.AddPending place t) old kept kept_now = tt
-kept_making p w a (task.AddChildren place t) old kept kept_now = kept_raises place t
-kept_making p w a (task.AddReferences place t) old kept kept_now = absurd kept
-kept_making p w a (task.Defer place t) old kept kept_now = tt
-kept_making p w a (task.StartNow t) old kept kept_now =
+kept_making : (p : Program) (w : List ℕ) (a : Actor) (c : TaskCounter) (old : ℕ) → IsKept a.counter
+    → IsKept (making_moved p w a c old).counter
+kept_making p w a (task.StartNow t) old kept_now =
     kept_settled p (begun_explicit (made_function p a) None (task_context a t (makes_final p a)) a) kept_now
+kept_making p w a c old kept_now = tt
 
 kept_behind_finish : (p : Program) (v : Option Wait) → IsKept (behind_finish p v)
 kept_behind_finish p None = tt
@@ -311,7 +262,7 @@ kept_step p w a (counter.Worker c) old kept kept_now = kept_worker p w a c old k
 kept_step p w a (counter.Team c) old kept kept_now = kept_team p w a c old kept_now
 kept_step p w a (counter.Barrier c) old kept kept_now = kept_barrier p a c old kept_now
 kept_step p w a (counter.Join c) old kept kept_now = kept_join p w a c old kept kept_now
-kept_step p w a (counter.Task c) old kept kept_now = kept_making p w a c old kept kept_now
+kept_step p w a (counter.Task c) old kept kept_now = kept_making p w a c old kept_now
 kept_step p w a (counter.Look c) old kept kept_now = kept_look p w a c old kept_now
 kept_step p w a (counter.Finish c) old kept kept_now = kept_finish p w a c old kept
 kept_step p w a (counter.Plain c) old kept kept_now = kept_plain p a c old kept_now

@@ -8,6 +8,7 @@ use Rattle.omi_script.specs.declared.program.Program.{Program}
 use Rattle.omi_model.specs.declared.encounter.Encounter.{Encounter}
 use Rattle.omi_model.specs.declared.event.Event.{Event}
 use Rattle.omi_model.specs.declared.event.Event.TheVariants as event
+use Rattle.omi_model.specs.declared.freeable.Freeable.TheVariants as freeable
 use Rattle.omi_model.specs.declared.id.Id.{Id}
 use Rattle.omi_model.specs.declared.id.Tid.{Tid}
 use Rattle.omi_model.specs.declared.item.Item.{Item}
@@ -63,7 +64,8 @@ module _ (p : Program) (s : State) (i : ℕ) (e : Event) (legal : Legal p s i e)
     pair_is : ◌≡◌ {A = Item × List Item} (x, next) (legal.item, stays (encounter s i) e legal.item legal.behind)
     pair_is = same_Some (x, next) (legal.item, stays (encounter s i) e legal.item legal.behind) same
 
-    item_is : x ≡ legal.item
+    -- the event takes the item that its legality names
+    pub item_is : x ≡ legal.item
     item_is = ap (λ (t : Item × List Item). t.0) pair_is
 
     next_is : next ≡ stays (encounter s i) e legal.item legal.behind
@@ -177,7 +179,7 @@ module _ (s : State) (i : ℕ) (list : List Item) where
       (same_some (task_of s task) (task_of (on_task s k (λ t. record t { frees = None; list = list })) task) (sym (still_named s.tasks k.0 task.0 (λ t. record t { frees = None; list = list }))) some)
 
   -- what an event's rule asks of the state gives what its change needs once the list has moved on
-  pub needs_moved : (e : Event) (x : Item) → Rule s i e x → Needs (with_list s i list) i e
+  pub needs_moved : (e : Event) (x : Item) → Rule s i e x → Needs (with_list s i list) i e x
   needs_moved (event.Ask w got) x rule = subst (λ (n : ℕ). w < n) (sym count_same) rule.known
   needs_moved (event.Fork region team) x rule = has_region _ rule
   needs_moved (event.ImplicitBegin task) x rule =
@@ -194,9 +196,11 @@ module _ (s : State) (i : ℕ) (list : List Item) where
   needs_moved (event.Start task) x rule =
       (has_current _ rule, has_task _ task rule (some_task (task_of s task) rule.3.new rule.3.live))
   needs_moved (event.Finish task) x rule = has_current _ rule
-  needs_moved (event.FreeTask task) (item.Frees n) rule =
-      (has_current _ rule, has_task _ task rule (some_task (task_of s task) rule.3.old rule.3.live))
+  needs_moved (event.FreeTask task) (item.Frees (freeable.Finished next)) rule = has_current _ rule
+  needs_moved (event.FreeTask task) (item.Frees (freeable.Joined n number)) rule = has_current _ rule
   needs_moved (event.FreeTask task) x rule = absurd rule
+  needs_moved (event.FreeRegion region) (item.Frees (freeable.Joined n number)) rule = tt
+  needs_moved (event.FreeRegion region) x rule = absurd rule
   needs_moved (event.Set icv value) x rule = has_current _ rule
   needs_moved (event.SetTool y) x rule = has_current _ rule
   needs_moved e x rule = tt

@@ -2,7 +2,9 @@
 use Rattle.std.proofs.Common.{◌≡◌, ◌==◌, ◌+◌, ℕ, Bool, true, false, List, Option, Some, None, if◌then◌else◌, refl, sym, ap, ◌∙◌, eq-eqb}
 use mathlib.Core.Path.{fun_ext}
 use Rattle.std.specs.Option.{option_map, option_map_or}
+use Rattle.std.specs.Prelude.{IfNone, IfSome}
 use Rattle.std.proofs.lemmas.Bool.{eqb-true}
+use Rattle.omi_model.specs.declared.freeable.Freeable.{Freeable}
 use Rattle.omi_model.specs.declared.id.Id.{Id}
 use Rattle.omi_model.specs.declared.id.Tid.{Tid}
 use Rattle.omi_model.specs.declared.item.Item.{Item}
@@ -11,7 +13,9 @@ use Rattle.omi_model.specs.declared.thread.Thread.{Thread}
 use Rattle.omi_model.specs.Changes.{on_task, on_thread, with_ahead}
 use Rattle.omi_model.specs.Put.{Slots, changed, found, named, on, put, emptied, gone}
 use Rattle.omi_model.specs.State.{State}
-use Rattle.omi_machine.proofs.KeptSlotLemmas.{changed_found}
+use Rattle.omi_machine.specs.Kept.{slots_of}
+use Rattle.omi_machine.specs.KeptSlots.{IsKept, with_slot}
+use Rattle.omi_machine.proofs.KeptSlotLemmas.{changed_found, object_gone}
 
 -- the place itself, put again
 pub put_same : {A : Type 0} (m : ℕ → A) (i : ℕ) → put m i (m i) ≡ m
@@ -72,6 +76,17 @@ gone_none {A} slots n none =
     (none_emptied (slots n.creator n.slot) n.generation none)
     ∙ ap (put slots n.creator) (put_same (slots n.creator) n.slot)
     ∙ put_same slots n.creator
+
+-- an object that is taken out, where there is one, is gone
+pub taken_gone : {A : Type 0} (slots after : List (List (Slot A))) (n : Id) (o : Option A)
+    → IfSome o (λ t. named (slots_of slots) n ≡ Some t) → IfSome o (λ t. IsKept slots n)
+    → IfSome o (λ t. after ≡ with_slot slots n (record { generations = n.generation + 1; live = None }))
+    → IfNone o (named (slots_of slots) n ≡ None) → IfNone o (after ≡ slots)
+    → slots_of after ≡ gone (slots_of slots) n
+taken_gone {A} slots after n None found kept taken none same =
+    ap (slots_of {A = A}) same ∙ sym (gone_none (slots_of slots) n none)
+taken_gone {A} slots after n (Some t) found kept taken none same =
+    ap (slots_of {A = A}) taken ∙ object_gone slots n t kept found
 
 module _ {A : Type 0} (slots : Slots A) (n : Id) (f : A → A) where
   pub on_none : named slots n ≡ None → on slots n f ≡ slots
@@ -138,7 +153,7 @@ thread_back s i f g back =
     ∙ put_same s.threads i)
 
 -- the list of a thread without a task, exchanged and exchanged back
-pub list_back : (s next : State) (i : ℕ) (frees : Option Tid) (list old : List Item) → (s.threads i).current ≡ None
+pub list_back : (s next : State) (i : ℕ) (frees : Option Freeable) (list old : List Item) → (s.threads i).current ≡ None
     → next ≡ on_thread s i (λ h. record h { list = list })
     → on_thread next i (λ h. record h { list = old }) ≡ s → with_ahead next i frees old ≡ s
 list_back s next i frees list old none after back =

@@ -11,15 +11,16 @@ ghost use Rattle.omi_model.specs.declared.event.Event.TheVariants as event;
 
 use crate::State;
 use crate::barrier_changes::{arrive, release};
+use crate::freeing::{free_finished, free_member, free_region};
 use crate::lock_changes::set_lock;
 use crate::new_tasks::{defer, start_now};
 use crate::new_teams::fork;
 use crate::setting_changes::{enter, leave, set_tool};
-use crate::task_changes::{begin_task, finish, free, start, start_alone};
+use crate::task_changes::{begin_task, finish, start, start_alone};
 use crate::team_changes::{end_task, join};
 use crate::thread_changes::{ask, begin, offer, show_state, want};
 use crate::variable_changes::set_variable;
-use omi_model::{Event, Item, Rid, Team, Tid};
+use omi_model::{Event, Freeable, Item, Rid, Team, Tid};
 use omi_script::Program;
 use omi_word::OutOfMemory;
 use std::alloc::Global;
@@ -116,6 +117,29 @@ fn start_by(alloc: Global, s: &mut State, i: u8, task: Tid, x: Item) -> Result<(
     }
 }
 
+/// The record of a task is given back by its item.
+fn free_by(alloc: Global, s: &mut State, i: usize, task: Tid, x: Item) -> Result<(), OutOfMemory>
+    requires known { i < (state_of s.old).count }
+    requires current { HasCurrent (state_of s.old) i }
+    requires taken { fits (event.FreeTask task) x ≡ true }
+    ensures done { (p : Program) → OnOk result (effect p (state_of s.old) i (event.FreeTask task) x
+        ≡ Some (state_of s.new)) }
+    ensures refused { OnErr result (state_of s.new ≡ state_of s.old) }
+{
+    match x {
+        Item::Frees {
+            next: Freeable::Joined { region, number },
+        } => free_member(alloc, s, i, task, region, number),
+        Item::Frees {
+            next: Freeable::Finished { .. },
+        } => {
+            free_finished(alloc, s, i, task);
+            Ok(())
+        }
+        _ => unreachable!(),
+    }
+}
+
 /// An event changes a state in which its list has moved on. Without room the state stays.
 pub(crate) fn take_effect(
     alloc: Global,
@@ -126,7 +150,7 @@ pub(crate) fn take_effect(
     x: Item,
 ) -> Result<(), OutOfMemory>
     requires known { thread < (state_of s.old).count }
-    requires needs { Needs (state_of s.old) thread e.now }
+    requires needs { Needs (state_of s.old) thread e.now x }
     requires taken { fits e.now x ≡ true }
     ensures done { OnOk result (effect p.now (state_of s.old) thread e.now x
         ≡ Some (state_of s.new)) }
@@ -144,7 +168,7 @@ pub(crate) fn take_effect(
         Event::Set { icv, value } => return set_variable(alloc, s, i, *icv, *value),
         Event::Lock { k } => return set_lock(s, *k, Some(thread)),
         Event::Unlock { k } => return set_lock(s, *k, None),
-        Event::FreeRegion { .. } => unreachable!(),
+        Event::FreeTask { task } => return free_by(alloc, s, i, *task, x),
         Event::Begin => begin(alloc, s, i),
         Event::Offer => offer(alloc, s, i),
         Event::Want { n } => want(alloc, s, i, *n),
@@ -155,7 +179,7 @@ pub(crate) fn take_effect(
         Event::ImplicitEnd { .. } => end_task(alloc, s, i),
         Event::Join { .. } => join(alloc, s, i),
         Event::Finish { .. } => finish(alloc, s, i),
-        Event::FreeTask { task } => free(alloc, s, i, *task),
+        Event::FreeRegion { region } => free_region(alloc, s, *region),
         Event::SetTool { x } => set_tool(alloc, s, i, *x),
         Event::Pass
         | Event::Seen { .. }

@@ -6,6 +6,7 @@ mod after_event;
 mod barrier_changes;
 mod effects;
 mod first_lists;
+mod freeing;
 mod list_changes;
 mod lock_changes;
 mod looking;

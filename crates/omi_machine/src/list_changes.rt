@@ -8,19 +8,18 @@ ghost use Rattle.omi_model.specs.Put.{on};
 use crate::State;
 use crate::slot_changes::{put_live, take_live};
 use crate::thread_changes::nobody;
-use omi_model::{ItemList, Rows, Slot, Task, Tid};
+use omi_model::{Freeable, ItemList, Rows, Slot, Task, Tid};
 use std::alloc::Global;
 use std::mem::replace;
 
-/// Exchanges the list of a task, and the task that may be given back in front of it. Where the task isn't live nothing
-/// changes.
+/// Exchanges the list of a task, and what may be given back in front of it. Where the task isn't live nothing changes.
 fn exchange_in_task(
     alloc: Global,
     tasks: &mut Rows<Rows<Slot<Task>>>,
     k: Tid,
-    frees: Option<Tid>,
+    frees: Option<Freeable>,
     list: ItemList,
-) -> (Option<Tid>, ItemList)
+) -> (Option<Freeable>, ItemList)
     ensures after { slots_of tasks.new
         ≡ on (slots_of tasks.old) k.0 (λ t. record t { frees = frees; list = list }) }
     ensures back { on (slots_of tasks.new) k.0 (λ t. record t { frees = result.0; list = result.1 })
@@ -53,9 +52,9 @@ pub(crate) fn exchange_ahead(
     alloc: Global,
     s: &mut State,
     i: usize,
-    frees: Option<Tid>,
+    frees: Option<Freeable>,
     list: ItemList,
-) -> (Option<Tid>, ItemList)
+) -> (Option<Freeable>, ItemList)
     requires { i < (state_of s.old).count }
     ensures after { state_of s.new ≡ with_ahead (state_of s.old) i frees list }
     ensures back { with_ahead (state_of s.new) i result.0 result.1 ≡ state_of s.old }

@@ -85,7 +85,7 @@ pub fn is_events_item(e: &Event, x: Item) -> bool
         (Event::StartNow { .. }, Item::StartNow { .. }) => true,
         (Event::Start { .. }, Item::Tasks { .. } | Item::OneTask) => true,
         (Event::Finish { .. }, Item::Finish) => true,
-        (Event::FreeTask { .. }, Item::Frees { .. }) => true,
+        (Event::FreeTask { .. } | Event::FreeRegion { .. }, Item::Frees { .. }) => true,
         (Event::WaitDone, Item::WaitDone) => true,
         (Event::Yield, Item::Yield) => true,
         (Event::Set { icv, value }, Item::Set { icv: v, value: x }) => *icv == v && *value == x,

@@ -9,7 +9,7 @@ ghost use Rattle.omi_model.specs.Lists.{fits, opened, stays, take_item};
 use crate::first_lists::push_shown;
 use crate::looking::{head_item, is_events_item, may_pass_over};
 use crate::statement_rows::push_behind;
-use omi_model::{Encounter, Event, Item, ItemList, Tid};
+use omi_model::{Encounter, Event, Freeable, Item, ItemList};
 use omi_numbers::IDLE;
 use omi_script::Program;
 use omi_word::OutOfMemory;
@@ -84,20 +84,23 @@ fn moved_list(
     Ok(None)
 }
 
-/// The same of a list in front of which a finished task may be given back.
+/// The same of a list in front of which something may be given back.
 pub(crate) fn moved_ahead(
     alloc: Global,
     p: &Program,
     at: Encounter,
     e: &Event,
-    frees: Option<Tid>,
+    frees: Option<Freeable>,
     list: &ItemList,
 ) -> Result<Option<(Item, ItemList)>, OutOfMemory>
     ensures { IfOk result (λ moved. moved ≡ option_map (λ x. (x.0, stays at e.now x.0 x.1))
         (take_item p.now at e.now (in_front frees list.now))) }
 {
-    if let (Some(task), Event::FreeTask { .. }) = (frees, e) {
-        return Ok(Some((Item::Frees { task }, list.from_place(alloc, 0)?)));
+    if let Some(next) = frees {
+        let head = Item::Frees { next };
+        if is_events_item(e, head) {
+            return Ok(Some((head, list.from_place(alloc, 0)?)));
+        }
     }
     moved_list(alloc, p, at, e, list)
 }

@@ -2,7 +2,7 @@
 
 ghost use Rattle.std.specs.Prelude.{◌≡◌, ◌≤◌, ◌+◌, ℕ, Some, None, IfSome, IfNone, OnOk, length, slice_get, unwrap_or};
 ghost use Rattle.omi_machine.specs.Kept.{slots_of};
-ghost use Rattle.omi_model.specs.Put.{made, named, unused};
+ghost use Rattle.omi_model.specs.Put.{gone, made, named, unused};
 ghost use Rattle.omi_model.specs.declared.id.Id.{Id};
 ghost use Rattle.omi_machine.specs.KeptSlots.{IsKept, slot_at, with_slot};
 
@@ -58,6 +58,13 @@ pub(crate) fn take_live<T: Drop>(alloc: Global, slots: &mut Rows<Rows<Slot<T>>>,
         live: None,
     };
     exchange_slot(alloc, slots, n, empty).live
+}
+
+/// Takes the object of a name away, where it is live.
+pub(crate) fn take_away<T: Drop>(alloc: Global, slots: &mut Rows<Rows<Slot<T>>>, n: Id)
+    ensures { slots_of slots.new ≡ gone (slots_of slots.old) n }
+{
+    take_live(alloc, slots, n);
 }
 
 /// Puts an object into the slot of its name.

@@ -10,7 +10,7 @@ ghost use Rattle.omi_model.specs.declared.task.Task.{Task};
 ghost use Rattle.omi_model.specs.Put.{named, unused};
 ghost use Rattle.omi_model.specs.State.{current_task, region_of, task_of};
 
-use omi_model::{Encounter, Id, ItemList, Region, Rid, Rows, Slot, Task, Thread, Tid};
+use omi_model::{Encounter, Freeable, Id, ItemList, Region, Rid, Rows, Slot, Task, Thread, Tid};
 use omi_script::Env;
 
 /// A state: the program's environment, the number of threads, max-active-levels-var, the holder of each lock, the threads,
@@ -206,8 +206,8 @@ impl State {
         }
     }
 
-    /// What a thread may go on with: the task that may be given back next, and the list behind it.
-    pub fn ahead_of(&self, i: usize) -> (Option<Tid>, &ItemList)
+    /// What a thread may go on with: what may be given back next, and the list behind it.
+    pub fn ahead_of(&self, i: usize) -> (Option<Freeable>, &ItemList)
         requires { i < (state_of self.now).count }
         ensures { in_front result.0 result.1.now ≡ ahead_of (state_of self.now) i }
     {

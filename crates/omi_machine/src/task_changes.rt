@@ -1,48 +1,21 @@
-//! Tasks: what it changes that one begins, starts or finishes, or is given back.
+//! Tasks: what it changes that one begins, starts or finishes.
 
 ghost use Rattle.std.specs.Prelude.{◌≡◌, ◌<◌, Some, IsSome, OnOk, OnErr, ⊤};
 ghost use Rattle.omi_model.specs.Changes.{OfCurrent, by_current};
-ghost use Rattle.omi_machine.specs.Kept.{slots_of, state_of};
+ghost use Rattle.omi_machine.specs.Kept.{state_of};
 ghost use Rattle.omi_model.specs.State.{task_of};
-ghost use Rattle.omi_model.specs.Tasking.{finished, freed, freeing, started, started_alone};
+ghost use Rattle.omi_model.specs.Tasking.{finished, started, started_alone};
 ghost use Rattle.omi_model.specs.Teams.{task_begun};
 
 use crate::State;
 use crate::first_lists::push_working;
+use crate::freeing::free_next;
 use crate::slot_changes::{put_live, take_live};
 use crate::thread_changes::set_current;
-use omi_model::{Progress, Rows, Slot, Task, Tid};
+use omi_model::{Freeable, Progress, Task, Tid};
 use omi_numbers::exit_below;
 use omi_word::OutOfMemory;
 use std::alloc::{AllocError, Global};
-
-/// Another task may be given back next, in front of all that a task has ahead.
-fn free_next(alloc: Global, tasks: &mut Rows<Rows<Slot<Task>>>, k: Option<Tid>, next: Option<Tid>)
-    ensures { slots_of tasks.new ≡ freeing next k (slots_of tasks.old) }
-{
-    let Some(k) = k else {
-        return;
-    };
-    let Some(t) = take_live(alloc, tasks, k.0) else {
-        return;
-    };
-    put_live(alloc, tasks, k.0, Task { frees: next, ..t });
-}
-
-/// The record of a task is given back, and behind it that of its generating task may be.
-pub(crate) fn free(alloc: Global, s: &mut State, i: usize, task: Tid)
-    requires known { i < (state_of s.old).count }
-    requires current { OfCurrent (state_of s.old) i (λ k t. ⊤) }
-    requires live { IsSome (task_of (state_of s.old) task) }
-    ensures { by_current (state_of s.old) i (freed (state_of s.old) task) ≡ Some (state_of s.new) }
-{
-    let current = s.thread(i).current;
-    let Some(t) = take_live(alloc, &mut s.tasks, task.0) else {
-        unreachable!();
-    };
-    let generating = t.generating;
-    free_next(alloc, &mut s.tasks, current, generating);
-}
 
 /// The current task finishes, and the one that it was scheduled from goes on.
 pub(crate) fn finish(alloc: Global, s: &mut State, i: usize)
@@ -59,7 +32,8 @@ pub(crate) fn finish(alloc: Global, s: &mut State, i: usize)
     let scheduling = t.scheduling;
     let progress = Progress::Finished;
     put_live(alloc, &mut s.tasks, k.0, Task { progress, ..t });
-    free_next(alloc, &mut s.tasks, scheduling, Some(k));
+    let next = Freeable::Finished { task: k };
+    free_next(alloc, &mut s.tasks, scheduling, Some(next));
     set_current(alloc, s, i, scheduling);
 }
 

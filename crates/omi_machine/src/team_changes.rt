@@ -6,9 +6,10 @@ ghost use Rattle.omi_machine.specs.Kept.{state_of};
 ghost use Rattle.omi_model.specs.Teams.{joined, task_ended};
 
 use crate::State;
+use crate::freeing::free_next;
 use crate::slot_changes::{put_live, take_live};
 use crate::thread_changes::set_current;
-use omi_model::{Progress, Region, Rows, Task};
+use omi_model::{Freeable, Progress, Region, Rows, Task};
 use std::alloc::Global;
 
 /// A member has ended.
@@ -45,7 +46,7 @@ pub(crate) fn end_task(alloc: Global, s: &mut State, i: usize)
     set_current(alloc, s, i, None);
 }
 
-/// Member 0 joins the others: the region is over, and its encountering task goes on.
+/// Member 0 joins the others: the region is over, and its encountering task goes on. The region may be given back next.
 pub(crate) fn join(alloc: Global, s: &mut State, i: usize)
     requires known { i < (state_of s.old).count }
     requires current { OfCurrentRegion (state_of s.old) i (λ k t r. ⊤) }
@@ -69,5 +70,7 @@ pub(crate) fn join(alloc: Global, s: &mut State, i: usize)
         region.0,
         Region { joined: true, ..r },
     );
+    let next = Freeable::Joined { region, number: 0 };
+    free_next(alloc, &mut s.tasks, encountering, Some(next));
     set_current(alloc, s, i, encountering);
 }

@@ -1,5 +1,5 @@
 -- What holds of each object that is kept holds of each live one, and back.
-use Rattle.std.proofs.Common.{◌≡◌, ℕ, List, get_or, slice_get, Option, Some, None, unwrap_or, refl, ap, subst, ◌∙◌}
+use Rattle.std.proofs.Common.{◌≡◌, ◌↔◌, ℕ, Bool, true, List, get_or, slice_get, Option, Some, None, unwrap_or, refl, sym, ap, subst, ◌∙◌}
 use Rattle.std.specs.List.{All}
 use Rattle.std.specs.Option.{option_and_then}
 use Rattle.std.proofs.lemmas.Option.{none-some, slice_get_within, get_or_from_slice_get, slice_get-get_or}
@@ -7,6 +7,12 @@ use Rattle.omi_model.specs.declared.slot.Slot.{Slot}
 use Rattle.omi_machine_legal.specs.Decided.{IfLive}
 use Rattle.omi_machine.specs.Kept.{slots_of}
 use Rattle.omi_model.specs.Put.{unused}
+
+-- what is decided of a value is decided of the same value
+pub decided_of : {X : Type 0} (P : X → Type 0) (b : Bool) (x y : X) → x ≡ y → ((b ≡ true) ↔ P y)
+    → ((b ≡ true) ↔ P x)
+decided_of P b x y same decides =
+    (λ is. subst P (sym same) (decides.0 is), λ holds. decides.1 (subst P same holds))
 
 -- a fact of each element is one of the element at a place
 all_at : {X : Type 0} (P : X → Type 0) (xs : List X) (k : ℕ) (x : X) → All P xs → slice_get xs k ≡ Some x

@@ -4,10 +4,11 @@
 
 mod ask_rules;
 mod barrier_rules;
-mod childless;
 mod fork_rules;
+mod freeing_rules;
 mod fresh;
 mod legality;
+mod live;
 mod lock_rules;
 mod rule;
 mod taken;

@@ -9,11 +9,12 @@ ghost use Rattle.omi_model.specs.declared.event.Event.TheVariants as event;
 use crate::ask_rules::{may_ask, may_want};
 use crate::barrier_rules::{may_arrive, may_pass, may_release};
 use crate::fork_rules::may_fork;
+use crate::freeing_rules::{may_free, may_free_member, may_free_region};
 use crate::lock_rules::{may_lock, may_unlock};
-use crate::task_rules::{may_end_wait, may_finish, may_free, may_make, may_see, may_start};
+use crate::task_rules::{may_end_wait, may_finish, may_make, may_see, may_start};
 use crate::team_rules::{may_begin, may_begin_task, may_end, may_join, may_offer};
 use omi_machine::State;
-use omi_model::{Event, Item, Tid};
+use omi_model::{Event, Freeable, Item, Rid, Tid};
 
 /// Whether a thread has a current task that is live.
 fn has_current(s: &State, i: usize) -> bool
@@ -40,7 +41,25 @@ fn may_free_by(s: &State, i: usize, task: Tid, x: Item) -> bool
     ensures { (result ≡ true) ↔ Rule (state_of s.now) i (event.FreeTask task) x }
 {
     match x {
-        Item::Frees { task: next } => may_free(s, i, task, next),
+        Item::Frees {
+            next: Freeable::Finished { task: next },
+        } => may_free(s, i, task, next),
+        Item::Frees {
+            next: Freeable::Joined { region, number },
+        } => may_free_member(s, i, task, region, number),
+        _ => false,
+    }
+}
+
+/// Whether a region is given back, by an item.
+fn may_free_region_by(s: &State, i: usize, region: Rid, x: Item) -> bool
+    requires { i < (state_of s.now).count }
+    ensures { (result ≡ true) ↔ Rule (state_of s.now) i (event.FreeRegion region) x }
+{
+    match x {
+        Item::Frees {
+            next: Freeable::Joined { region: n, number },
+        } => may_free_region(s, i, region, n, number),
         _ => false,
     }
 }
@@ -73,7 +92,7 @@ pub fn rule_holds(s: &State, i: usize, e: &Event, x: Item) -> bool
         Event::Unlock { k } => may_unlock(s, i, *k),
         Event::Done => i == 0,
         Event::FreeTask { task } => may_free_by(s, i, *task, x),
-        Event::FreeRegion { .. } => false,
+        Event::FreeRegion { region } => may_free_region_by(s, i, *region, x),
         Event::State { .. }
         | Event::Yield
         | Event::Work

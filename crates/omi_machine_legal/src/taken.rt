@@ -7,7 +7,7 @@ ghost use Rattle.omi_model.specs.Changes.{in_front};
 ghost use Rattle.omi_model.specs.Lists.{take_item};
 
 use omi_machine::{head_item, is_events_item, may_pass_over};
-use omi_model::{Encounter, Event, Item, ItemList, Tid};
+use omi_model::{Encounter, Event, Freeable, Item, ItemList};
 
 /// The item that an event takes off a list, where the list allows the event.
 fn taken_item(at: Encounter, e: &Event, list: &ItemList) -> Option<Item>
@@ -26,13 +26,21 @@ fn taken_item(at: Encounter, e: &Event, list: &ItemList) -> Option<Item>
     None
 }
 
-/// The same of a list in front of which a finished task may be given back.
-pub fn taken_ahead(at: Encounter, e: &Event, frees: Option<Tid>, list: &ItemList) -> Option<Item>
+/// The same of a list in front of which something may be given back.
+pub fn taken_ahead(
+    at: Encounter,
+    e: &Event,
+    frees: Option<Freeable>,
+    list: &ItemList,
+) -> Option<Item>
     ensures { (p : Program)
         → option_map (λ t. t.0) (take_item p at e.now (in_front frees list.now)) ≡ result }
 {
-    if let (Some(task), Event::FreeTask { .. }) = (frees, e) {
-        return Some(Item::Frees { task });
+    if let Some(next) = frees {
+        let head = Item::Frees { next };
+        if is_events_item(e, head) {
+            return Some(head);
+        }
     }
     taken_item(at, e, list)
 }

@@ -6,9 +6,8 @@ ghost use Rattle.omi_model.specs.Changes.{OfCurrent};
 ghost use Rattle.omi_machine_legal.specs.Decided.{HasLive, IsDeferredIn};
 ghost use Rattle.omi_model.specs.Fresh.{IsFresh};
 ghost use Rattle.omi_machine.specs.Kept.{slots_of, state_of};
-ghost use Rattle.omi_model.specs.Tasking.{AreChildrenFinished, IsTaken, MayFinish, MayFree, MayStart, MayStartAt};
+ghost use Rattle.omi_model.specs.Tasking.{AreChildrenFinished, IsTaken, MayFinish, MayStart, MayStartAt};
 
-use crate::childless::is_childless;
 use crate::fresh::is_fresh_task;
 use crate::unfinished::{TasksOf, are_finished};
 use omi_machine::State;
@@ -131,31 +130,6 @@ pub fn may_finish(s: &State, i: usize, task: Tid) -> bool
 {
     match s.current(i) {
         Some((k, t)) => task == k && !t.implicit,
-        None => false,
-    }
-}
-
-/// Whether a finished explicit task is given back, which may be next.
-fn may_free_task(s: &State, task: Tid, next: Tid) -> bool
-    ensures { (result ≡ true) ↔ MayFree (state_of s.now) task next }
-{
-    match s.task_of(task) {
-        Some(t) => task == next
-            && !t.implicit
-            && t.progress == Progress::Finished
-            && is_childless(s, task),
-        None => false,
-    }
-}
-
-/// Whether a finished explicit task is given back on a thread, where one may be next.
-pub fn may_free(s: &State, i: usize, task: Tid, next: Tid) -> bool
-    requires { i < (state_of s.now).count }
-    ensures { (result ≡ true)
-        ↔ OfCurrent (state_of s.now) i (λ k t. MayFree (state_of s.now) task next) }
-{
-    match s.current(i) {
-        Some(_) => may_free_task(s, task, next),
         None => false,
     }
 }

@@ -17,7 +17,7 @@ use Rattle.omi_model.specs.Rules.{Rule, effect}
 use Rattle.omi_model.specs.State.{State, region_of}
 use Rattle.omi_model.specs.Teams.{new_region}
 use Rattle.omi_model.proofs.SlotEffects.{changed_now, changes_regions, regions_effect, same_current}
-use Rattle.omi_model.proofs.Slots.{false_true, made_stays, none_some, some_same}
+use Rattle.omi_model.proofs.Slots.{false_true, gone_was, made_stays, none_some, some_same}
 use Rattle.omi_model.proofs.StaysKept.{fresh_empty}
 use Rattle.omi_model.proofs.Steps.{IsMove, current_moved, from_some, is_relisted, list_moves, relisted}
 
@@ -96,6 +96,8 @@ module _ (p : Program) (s : State) (i : ℕ) where
     joins = λ region k t r0 is n r e q found_q.
         changed_now s.regions t.region (λ q. record q { joined = true }) IsUntouched n r e q found_q
         (λ same. (refl, refl)) (λ apart. (refl, refl));
+    frees_region = λ region m number may n r e q found_q.
+        subst (IsUntouched r) (some_same e (gone_was s.regions region.0 n.0 q found_q)) (refl, refl);
   })
 
 -- the current task, once the list has moved on

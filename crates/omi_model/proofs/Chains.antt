@@ -6,6 +6,7 @@ use Rattle.omi_script.specs.declared.program.Program.{Program}
 use Rattle.omi_model.specs.declared.claim.Claim.TheVariants as claim
 use Rattle.omi_model.specs.declared.event.Event.{Event}
 use Rattle.omi_model.specs.declared.event.Event.TheVariants as event
+use Rattle.omi_model.specs.declared.freeable.Freeable.TheVariants as freeable
 use Rattle.omi_model.specs.declared.id.Rid.{Rid}
 use Rattle.omi_model.specs.declared.id.Tid.{Tid}
 use Rattle.omi_model.specs.declared.item.Item.{Item}
@@ -17,6 +18,7 @@ use Rattle.omi_model.specs.declared.task.Task.{Task}
 use Rattle.omi_model.specs.declared.thread.Thread.{Thread}
 use Rattle.omi_model.specs.Barriers.{arrived, released}
 use Rattle.omi_model.specs.Changes.{IsCurrent, encounter, on_task, on_thread}
+use Rattle.omi_model.specs.Freeing.{freed, region_freed}
 use Rattle.omi_model.specs.Fresh.{IsFresh}
 use Rattle.omi_model.specs.LawChains.{IsApart, IsChain}
 use Rattle.omi_model.specs.LawStays.{Stays, stage_of}
@@ -26,7 +28,7 @@ use Rattle.omi_model.specs.Rows.{working}
 use Rattle.omi_model.specs.Rules.{Rule, effect}
 use Rattle.omi_model.specs.Settings.{entered, left, with_tool}
 use Rattle.omi_model.specs.State.{State, region_of, task_of}
-use Rattle.omi_model.specs.Tasking.{MayFinish, MayStart, deferred, deferred_task, finished, freed, scheduled, started, started_alone, started_now}
+use Rattle.omi_model.specs.Tasking.{MayFinish, MayStart, deferred, deferred_task, finished, scheduled, started, started_alone, started_now}
 use Rattle.omi_model.specs.Teams.{MayFork, MayJoin, forked, joined, member_task, task_ended}
 use Rattle.omi_model.proofs.EachObject.{EachTask, IsTaskLaw, is_end, members_found, task_step}
 use Rattle.omi_model.proofs.Slots.{each_put, false_true, found_live, made_same, none_some, on_same, put_same, some_same}
@@ -275,10 +277,15 @@ module _ (p : Program) (s : State) (i : ℕ) (chain : HasChain s i (s.threads i)
       of_region s i (joined s i) (Chained (event.Join region)) (λ k t r. MayJoin region t r) rule
       (λ k t r is found may. pop s i (event.Join region) chain (joined s i k t r) k t is
       (ap (λ (x : Thread). x.current) (put_same s.threads i (record (s.threads i) { current = r.encountering })) ∙ sym (first k t r is.live may.implicit may.first found)))
-  own_effect (event.FreeTask task) (item.Frees n) rule =
-      of_current s i (freed s task) (Chained (event.FreeTask task)) _ rule
-      (λ k t is h. same_chain (event.FreeTask task) (freed s task k t) refl refl)
-  own_effect (event.FreeTask task) y rule = absurd rule
+  own_effect (event.FreeTask task) (item.Frees (freeable.Finished n)) rule =
+      of_current s i (freed s task _) (Chained (event.FreeTask task)) _ rule
+      (λ k t is h. same_chain (event.FreeTask task) (freed s task _ k t) refl refl)
+  own_effect (event.FreeTask task) (item.Frees (freeable.Joined n number)) rule =
+      of_current s i (freed s task _) (Chained (event.FreeTask task)) _ rule
+      (λ k t is h. same_chain (event.FreeTask task) (freed s task _ k t) refl refl)
+  own_effect (event.FreeTask task) y rule = tt
+  own_effect (event.FreeRegion region) (item.Frees (freeable.Joined n number)) rule =
+      same_chain (event.FreeRegion region) (region_freed s region) refl refl
   own_effect (event.FreeRegion region) y rule = tt
   own_effect (event.Defer task) (item.Defer seen f final) rule =
       of_current s i (deferred p s task f final seen) (Chained (event.Defer task)) _ rule

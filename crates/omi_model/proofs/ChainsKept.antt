@@ -1,12 +1,11 @@
 -- Each thread's chain of tasks is kept by every event.
-use Rattle.std.proofs.Common.{◌≡◌, ◌≢◌, ◌==◌, ◌⊎◌, inl, inr, ℕ, true, List, [], ◌∷◌, Some, None, if◌then◌else◌, refl, sym, ap, ◌∙◌, subst, ne_eqb}
+use Rattle.std.proofs.Common.{◌≡◌, ◌≢◌, ◌⊎◌, inl, inr, ℕ, true, List, [], ◌∷◌, Some, None, if◌then◌else◌, refl, sym, ap, ◌∙◌, subst, ne_eqb}
 use Rattle.std.proofs.lemmas.Bool.{cases_eq}
 use Rattle.omi_script.specs.declared.program.Program.{Program}
 use Rattle.omi_model.specs.declared.event.Event.{Event}
 use Rattle.omi_model.specs.declared.id.Tid.{Tid}
 use Rattle.omi_model.specs.declared.item.Item.{Item}
 use Rattle.omi_model.specs.declared.progress.Progress.TheVariants.{Begun, NotBegun}
-use Rattle.omi_model.specs.declared.region.Region.{Region}
 use Rattle.omi_model.specs.declared.task.Task.{Task}
 use Rattle.omi_model.specs.declared.thread.Thread.{Thread}
 use Rattle.omi_model.specs.Changes.{encounter}
@@ -17,11 +16,11 @@ use Rattle.omi_model.specs.Lists.{stays}
 use Rattle.omi_model.specs.Opening.{initial_task, opening, opening_task}
 use Rattle.omi_model.specs.Reached.{Reached, Step}
 use Rattle.omi_model.specs.Rules.{effect}
-use Rattle.omi_model.specs.State.{State, region_of, task_of}
+use Rattle.omi_model.specs.State.{State, task_of}
 use Rattle.omi_model.proofs.Chains.{Chained, GoesOn, HasChain, chain_later, goes_on, own_effect, top_of}
 use Rattle.omi_model.proofs.EachObject.{is_end, over_events, stays_after}
 use Rattle.omi_model.proofs.EachThread.{EachThread, IsThreadLaw, thread_step}
-use Rattle.omi_model.proofs.MembersKnown.{members_known, members_step}
+use Rattle.omi_model.proofs.MembersKnown.{first_scheduled, members_known, members_step}
 use Rattle.omi_model.proofs.OpeningObjects.{each_first_thread}
 use Rattle.omi_model.proofs.Slots.{some_same}
 use Rattle.omi_model.proofs.StaysKept.{stays_list, stays_step}
@@ -91,17 +90,6 @@ module _ (p : Program) (s : State) (i : ℕ) (e : Event) (next : State) (step : 
       goes_on p s i e next step k w v live' (ap (λ (x : Task). x.progress) (sym same) ∙ begun) found
       (λ name over. other (before.currents i ∙ name) over)
 
-  first : (k : Tid) (t : Task) (r : Region) → task_of middle k ≡ Some t → t.implicit ≡ true → t.number ≡ 0
-      → region_of middle t.region ≡ Some r → t.scheduling ≡ r.encountering
-  first k t r live im zero_number found =
-      let (w, xs, live', same) = before.tasks k t live in
-      let met =
-      (known.encountered k w live').scheduling (ap (λ (x : Task). x.implicit) (sym same) ∙ im) r
-      (ap (λ (x : Task). region_of s x.region) (sym same) ∙ (sym (before.regions t.region) ∙ found)) in
-      ap (λ (x : Task). x.scheduling) same
-      ∙
-      (met ∙ ap (λ n. if n == 0 then r.encountering else None) (ap (λ (x : Task). x.number) (sym same) ∙ zero_number))
-
   loose : (k : Tid) (t : Task) → task_of middle k ≡ Some t → t.progress ≡ NotBegun → t.scheduling ≡ None
   loose k t live waits =
       let (w, xs, live', same) = before.tasks k t live in
@@ -113,8 +101,8 @@ module _ (p : Program) (s : State) (i : ℕ) (e : Event) (next : State) (step : 
 
   own : HasChain next i (next.threads i).current
   own =
-      from_some (Chained p middle i middle_chain first loose e) (effect p middle i e m.item) next m.effect_is
-      (own_effect p middle i middle_chain first loose e m.item m.rule_moved)
+      from_some (Chained p middle i middle_chain (first_scheduled s middle known before) loose e) (effect p middle i e m.item) next m.effect_is
+      (own_effect p middle i middle_chain (first_scheduled s middle known before) loose e m.item m.rule_moved)
       (stays_after p s i e next m) middle_goes
 
   others : (j : ℕ) → j ≢ i → HasChain next j (next.threads j).current

@@ -7,6 +7,8 @@ use Rattle.omi_script.specs.declared.program.Program.{Program}
 use Rattle.omi_model.specs.declared.encounter.Encounter.{Encounter}
 use Rattle.omi_model.specs.declared.event.Event.{Event}
 use Rattle.omi_model.specs.declared.event.Event.TheVariants as event
+use Rattle.omi_model.specs.declared.freeable.Freeable.{Freeable}
+use Rattle.omi_model.specs.declared.freeable.Freeable.TheVariants as freeable
 use Rattle.omi_model.specs.declared.id.Id.{Id}
 use Rattle.omi_model.specs.declared.id.Rid.{Rid}
 use Rattle.omi_model.specs.declared.id.Tid.{Tid}
@@ -18,6 +20,7 @@ use Rattle.omi_model.specs.declared.task.Task.{Task}
 use Rattle.omi_model.specs.declared.task.Variables.{Variables}
 use Rattle.omi_model.specs.Barriers.{MayRelease, arrived, released}
 use Rattle.omi_model.specs.Changes.{IsCurrent, ahead_of, encounter, in_front, list_of, on_region, on_task, with_list}
+use Rattle.omi_model.specs.Freeing.{above, freed, freeing}
 use Rattle.omi_model.specs.Fresh.{IsFresh}
 use Rattle.omi_model.specs.Lists.{stays, take_item}
 use Rattle.omi_model.specs.Put.{Slots, gone, made, named}
@@ -26,7 +29,7 @@ use Rattle.omi_model.specs.Rows.{working}
 use Rattle.omi_model.specs.Rules.{Rule, effect}
 use Rattle.omi_model.specs.Settings.{entered, left, with_tool, with_variable}
 use Rattle.omi_model.specs.State.{State, region_of, task_of}
-use Rattle.omi_model.specs.Tasking.{MayStart, MayStartAt, deferred, deferred_task, finished, freed, freeing, scheduled, started, started_alone, started_now}
+use Rattle.omi_model.specs.Tasking.{MayStart, MayStartAt, deferred, deferred_task, finished, scheduled, started, started_alone, started_now}
 use Rattle.omi_model.specs.Teams.{MayEnd, MayFork, MayJoin, forked, joined, member_task, new_region, task_ended, with_members}
 use Rattle.omi_model.specs.LawStays.{Stays}
 use Rattle.omi_model.proofs.Slots.{Each, each_gone, each_made, each_on, each_on_to, made_same, made_stays, none_some, some_same}
@@ -53,16 +56,21 @@ is_end (event.Join region) = true
 is_end (event.Finish task) = true
 is_end e = false
 
--- where another task may be given back next: in front of what the task has ahead from which one was scheduled that finishes, and in
--- front of what the current task has ahead once one is given back
+-- the task that goes on where another one ends: the one that it was scheduled from, or that encountered its region
+abbrev pub IsGoingOn : State → Task → Tid → Type 0
+IsGoingOn s t k = (t.scheduling ≡ Some k)
+    ⊎ ((r : Region) × (region_of s t.region ≡ Some r) × (t.implicit ≡ true) × (t.number ≡ 0) × (r.encountering ≡ Some k))
+
+-- where something else may be given back next: in front of what the task has ahead that goes on where another one ends, and in front of
+-- what the current task has ahead once a task is given back
 abbrev pub IsFreeing : State → ℕ → Event → Item → Tid → Type 0
 IsFreeing s i e y k =
-    ((j : Tid) × (t : Task) × IsCurrent s i j t × (is_end e ≡ true) × (t.scheduling ≡ Some k))
-    ⊎ ((n : Tid) × (y ≡ item.Frees n) × ((s.threads i).current ≡ Some k))
+    ((j : Tid) × (t : Task) × IsCurrent s i j t × (is_end e ≡ true) × IsGoingOn s t k)
+    ⊎ ((n : Freeable) × (y ≡ item.Frees n) × ((s.threads i).current ≡ Some k))
 
 -- a law of each task over the effect of an event of thread i that takes an item, from a state to the next one
 pub record IsTaskLaw (p : Program) (s : State) (i : ℕ) (e : Event) (y : Item) (next : State) (P : Tid → Task → Type 0) : Type 0 where
-  pub frees : (k : Tid) (t : Task) (free : Option Tid) → IsFreeing s i e y k → P k t
+  pub frees : (k : Tid) (t : Task) (free : Option Freeable) → IsFreeing s i e y k → P k t
       → P k (record t { frees = free })
   pub shows : (k : Tid) (t : Task) (enter : ℕ) → P k t → P k (record t { enter = enter })
   pub tools : (k : Tid) (t : Task) (x : ℕ) → P k t → P k (record t { tool = x })
@@ -156,7 +164,7 @@ module _ (p : Program) (P : Tid → Task → Type 0) where
       each_gone (λ m u. P (record { 0 = m }) u) s.tasks k.0 (λ m u h. all (record { 0 = m }) u h) n.0 t e
 
   -- another task may be given back next
-  each_freeing : (next : Option Tid) (s : State) → EachTask P s → (k : Option Tid)
+  each_freeing : (next : Option Freeable) (s : State) → EachTask P s → (k : Option Tid)
       → ((n : Tid) (t : Task) → k ≡ Some n → P n t → P n (record t { frees = next }))
       → EachTask P (record s { tasks = freeing next k s.tasks })
   each_freeing next s all None keeps = all
@@ -166,6 +174,13 @@ module _ (p : Program) (P : Tid → Task → Type 0) where
   the_current : (s : State) (i : ℕ) (k : Tid) (t u : Task) → IsCurrent s i k t → task_of s k ≡ Some u
       → IsCurrent s i k u
   the_current s i k t u is e = record { name = is.name; live = e }
+
+  -- a task is given back
+  each_freed : (s : State) (i : ℕ) (e : Event) (was : Freeable) (task : Tid) (next : Option Freeable) (k : Tid) (t : Task)
+      → IsCurrent s i k t → EachTask P s → of_law s i e (item.Frees was) (freed s task next k t)
+  each_freed s i e was task next k t is all law =
+      each_changed (record s { tasks = gone s.tasks task.0 }) k (λ u. record u { frees = next })
+      (each_gone_task s task all) (λ u e' q. law.frees k u next (inr (was, refl, is.name)) q)
 
   task_effect : (s : State) (i : ℕ) (e : Event) (y : Item) → Rule s i e y → EachTask P s
       → IfSome (effect p s i e y) (of_law s i e y)
@@ -200,13 +215,21 @@ module _ (p : Program) (P : Tid → Task → Type 0) where
       of_current_region s i (task_ended s i) (of_law s i (event.ImplicitEnd task) y) _ rule
       (λ k t r is found h law. each_changed s k (λ u. record u { progress = Finished }) all (λ u e q. law.finishes k u (the_current s i k t u is e) refl q))
   task_effect s i (event.Join region) y rule all =
-      of_region s i (joined s i) (of_law s i (event.Join region) y) _ rule
-      (λ k t r is found h law. each_changed s k (λ u. record u { progress = Finished }) all (λ u e q. law.finishes k u (the_current s i k t u is e) refl q))
-  task_effect s i (event.FreeTask task) (item.Frees next) rule all =
-      of_current s i (freed s task) (of_law s i (event.FreeTask task) (item.Frees next)) _ rule
-      (λ k t is h law. each_changed (record s { tasks = gone s.tasks task.0 }) k (λ u. record u { frees = option_and_then (λ (v : Task). v.generating) (task_of s task) }) (each_gone_task s task all)
-      (λ u e q. law.frees k u _ (inr (next, refl, is.name)) q))
-  task_effect s i (event.FreeTask task) y rule all = absurd rule
+      of_region s i (joined s i) (of_law s i (event.Join region) y) (λ k t r. MayJoin region t r) rule
+      (λ k t r is found h law. each_freeing (Some (freeable.Joined t.region 0)) (on_task s k (λ u. record u { progress = Finished }))
+      (each_changed s k (λ u. record u { progress = Finished }) all (λ u e q. law.finishes k u (the_current s i k t u is e) refl q))
+      r.encountering
+      (λ n u from q. law.frees n u _ (inl (k, t, is, refl, inr (r, found, h.implicit, h.first, from))) q))
+  task_effect s i (event.FreeTask task) (item.Frees (freeable.Finished n)) rule all =
+      of_current s i (freed s task (above s task)) (of_law s i (event.FreeTask task) (item.Frees (freeable.Finished n)))
+      _ rule
+      (λ k t is h. each_freed s i (event.FreeTask task) (freeable.Finished n) task (above s task) k t is all)
+  task_effect s i (event.FreeTask task) (item.Frees (freeable.Joined n number)) rule all =
+      of_current s i (freed s task (Some (freeable.Joined n (number + 1))))
+      (of_law s i (event.FreeTask task) (item.Frees (freeable.Joined n number))) _ rule
+      (λ k t is h. each_freed s i (event.FreeTask task) (freeable.Joined n number) task _ k t is all)
+  task_effect s i (event.FreeTask task) y rule all = tt
+  task_effect s i (event.FreeRegion region) (item.Frees (freeable.Joined n number)) rule all = λ law. all
   task_effect s i (event.FreeRegion region) y rule all = tt
   task_effect s i (event.Defer task) (item.Defer seen f final) rule all =
       of_current s i (deferred p s task f final seen)
@@ -237,9 +260,9 @@ module _ (p : Program) (P : Tid → Task → Type 0) where
   task_effect s i (event.Start task) y rule all = tt
   task_effect s i (event.Finish task) y rule all =
       of_current s i (finished s i) (of_law s i (event.Finish task) y) _ rule
-      (λ k t is h law. each_freeing (Some k) (on_task s k (λ u. record u { progress = Finished }))
+      (λ k t is h law. each_freeing (Some (freeable.Finished k)) (on_task s k (λ u. record u { progress = Finished }))
       (each_changed s k (λ u. record u { progress = Finished }) all (λ u e q. law.finishes k u (the_current s i k t u is e) refl q)) t.scheduling
-      (λ n u from q. law.frees n u (Some k) (inl (k, t, is, refl, from)) q))
+      (λ n u from q. law.frees n u _ (inl (k, t, is, refl, inl from)) q))
   task_effect s i (event.Set icv value) y rule all =
       of_set s i icv value (of_law s i (event.Set icv value) y) rule (λ law. all)
       (λ k t v is e law. each_changed s k (λ u. record u { variables = v }) all
@@ -355,11 +378,15 @@ module _ (p : Program) (Q : Rid → Region → Type 0) where
       (λ k t r is found h law. each_region_changed (on_task s k (λ u. record u { progress = Finished })) t.region (λ q. record q { ended = slice_set q.ended t.number true }) all (λ q e g. law.ends k t q is e h.implicit h.other g))
   region_effect s i (event.Join region) y rule all =
       of_region s i (joined s i) (of_region_law s i) (λ k t r. MayJoin region t r) rule
-      (λ k t r is found h law. each_region_changed (on_task s k (λ u. record u { progress = Finished })) t.region (λ q. record q { joined = true }) all
+      (λ k t r is found h law. each_region_changed s t.region (λ q. record q { joined = true }) all
       (λ q e g. let same : r ≡ q = some_same found e in law.joins k t q is e (record { mine = refl; implicit = h.implicit; first = h.first; ended = subst (λ (x : Region). All (λ b. b ≡ true) (drop 1 x.ended)) same h.ended }) g))
-  region_effect s i (event.FreeTask task) (item.Frees next) rule all =
-      of_current s i (freed s task) (of_region_law s i) _ rule (λ k t is h law. all)
-  region_effect s i (event.FreeTask task) y rule all = absurd rule
+  region_effect s i (event.FreeTask task) (item.Frees (freeable.Finished n)) rule all =
+      of_current s i (freed s task _) (of_region_law s i) _ rule (λ k t is h law. all)
+  region_effect s i (event.FreeTask task) (item.Frees (freeable.Joined n number)) rule all =
+      of_current s i (freed s task _) (of_region_law s i) _ rule (λ k t is h law. all)
+  region_effect s i (event.FreeTask task) y rule all = tt
+  region_effect s i (event.FreeRegion region) (item.Frees (freeable.Joined n number)) rule all =
+      λ law m q e. each_gone (λ h x. Q (record { 0 = h }) x) s.regions region.0 (λ h x g. all (record { 0 = h }) x g) m.0 q e
   region_effect s i (event.FreeRegion region) y rule all = tt
   region_effect s i (event.Defer task) (item.Defer seen f final) rule all =
       of_current s i (deferred p s task f final seen) (of_region_law s i) _ rule (λ k t is fresh law. all)

@@ -6,6 +6,7 @@ use Rattle.omi_script.specs.declared.program.Program.{Program}
 use Rattle.omi_model.specs.declared.claim.Claim.TheVariants as claim
 use Rattle.omi_model.specs.declared.event.Event.{Event}
 use Rattle.omi_model.specs.declared.event.Event.TheVariants as event
+use Rattle.omi_model.specs.declared.freeable.Freeable.TheVariants as freeable
 use Rattle.omi_model.specs.declared.id.Rid.{Rid}
 use Rattle.omi_model.specs.declared.id.Tid.{Tid}
 use Rattle.omi_model.specs.declared.item.Item.{Item}
@@ -15,6 +16,7 @@ use Rattle.omi_model.specs.declared.task.Task.{Task}
 use Rattle.omi_model.specs.declared.thread.Thread.{Thread}
 use Rattle.omi_model.specs.Barriers.{arrived, released}
 use Rattle.omi_model.specs.Changes.{IsCurrent, OfCurrentRegion, encounter, in_front, on_task, on_thread, with_list}
+use Rattle.omi_model.specs.Freeing.{freed}
 use Rattle.omi_model.specs.Fresh.{IsFresh}
 use Rattle.omi_model.specs.LawStays.{Stays}
 use Rattle.omi_model.specs.Lists.{stays, take_item}
@@ -23,7 +25,7 @@ use Rattle.omi_model.specs.Reached.{Step}
 use Rattle.omi_model.specs.Rules.{Rule, effect}
 use Rattle.omi_model.specs.Settings.{entered, left, with_tool}
 use Rattle.omi_model.specs.State.{State, region_of, task_of}
-use Rattle.omi_model.specs.Tasking.{MayFinish, MayStart, deferred, deferred_task, finished, freed, scheduled, started, started_alone, started_now}
+use Rattle.omi_model.specs.Tasking.{MayFinish, MayStart, deferred, deferred_task, finished, scheduled, started, started_alone, started_now}
 use Rattle.omi_model.specs.Teams.{MayAsk, MayBegin, MayBeginTask, MayEnd, MayFork, MayJoin, MayOffer, forked, joined, master_of, member_task, task_ended, wanted_size}
 use Rattle.omi_model.specs.Rows.{working}
 use Rattle.omi_model.specs.declared.progress.Progress.TheVariants.{Begun}
@@ -150,9 +152,13 @@ module _ (p : Program) (R : ℕ → Thread → Type 0) where
       of_region s i (joined s i) (of_law s i (event.Join region)) (λ k t r. MayJoin region t r) rule
       (λ k t r is found h law. each_thread s i (record (s.threads i) { current = r.encountering }) all
       (law.joins k t r is found (record { mine = refl; implicit = h.implicit; first = h.first; ended = h.ended }) (ap (λ (n : Rid). event.Join n) h.mine) (all i)))
-  thread_effect s i (event.FreeTask task) (item.Frees n) rule all =
-      of_current s i (freed s task) (of_law s i (event.FreeTask task)) _ rule (λ k t is h law. all)
-  thread_effect s i (event.FreeTask task) y rule all = absurd rule
+  thread_effect s i (event.FreeTask task) (item.Frees (freeable.Finished n)) rule all =
+      of_current s i (freed s task _) (of_law s i (event.FreeTask task)) _ rule (λ k t is h law. all)
+  thread_effect s i (event.FreeTask task) (item.Frees (freeable.Joined n number)) rule all =
+      of_current s i (freed s task _) (of_law s i (event.FreeTask task)) _ rule (λ k t is h law. all)
+  thread_effect s i (event.FreeTask task) y rule all = tt
+  thread_effect s i (event.FreeRegion region) (item.Frees (freeable.Joined n number)) rule all =
+      λ law. all
   thread_effect s i (event.FreeRegion region) y rule all = tt
   thread_effect s i (event.Defer task) (item.Defer seen f final) rule all =
       of_current s i (deferred p s task f final seen) (of_law s i (event.Defer task)) _ rule

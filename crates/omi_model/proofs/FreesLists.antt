@@ -1,10 +1,11 @@
--- No list has a task to be given back as an item: it stands in front of the list alone.
-use Rattle.std.proofs.Common.{◌≡◌, ℕ, Bool, true, false, List, [], ◌∷◌, Option, Some, refl, sym, subst, ◌+◌}
+-- No list has what may be given back as an item: it stands in front of the list alone.
+use Rattle.std.proofs.Common.{◌≡◌, ℕ, true, false, List, [], ◌∷◌, Option, Some, refl, sym, subst, ◌+◌}
 use Rattle.omi_script.specs.Bodies.{body_of}
 use Rattle.omi_script.specs.declared.program.Program.{Program}
 use Rattle.omi_model.specs.declared.encounter.Encounter.{Encounter}
 use Rattle.omi_model.specs.declared.event.Event.{Event}
 use Rattle.omi_model.specs.declared.event.Event.TheVariants as event
+use Rattle.omi_model.specs.declared.freeable.Freeable.{Freeable}
 use Rattle.omi_model.specs.declared.id.Tid.{Tid}
 use Rattle.omi_model.specs.declared.item.Item.{Item}
 use Rattle.omi_model.specs.declared.item.Item.TheVariants as item
@@ -14,10 +15,10 @@ use Rattle.omi_model.specs.LawStays.{Stays}
 use Rattle.omi_model.specs.Lists.{fits, stays, take_item}
 use Rattle.omi_model.specs.Opening.{opening}
 use Rattle.omi_model.specs.Reached.{Reached, Step}
-use Rattle.omi_model.specs.Rows.{main_items, member_items, task_items}
+use Rattle.omi_model.specs.Rows.{main_items, member_items}
 use Rattle.omi_model.specs.Shapes.{shape_of}
 use Rattle.omi_model.specs.State.{State}
-use Rattle.omi_model.proofs.EachObject.{EachTask, IsTaskLaw, over_events, start_list, task_step}
+use Rattle.omi_model.proofs.EachObject.{EachTask, IsTaskLaw, over_events, task_step}
 use Rattle.omi_model.proofs.ListLaws.{by_taken, passes_front, take_fits, take_keeps}
 use Rattle.omi_model.proofs.OpeningObjects.{each_first_task}
 use Rattle.omi_model.proofs.RowLaws.{KeepsPlain, KeepsRows, barrier_keeps, critical_keeps, drop_keeps, last_keeps, main_keeps, member_keeps, row_keeps, shown_keeps, start_keeps, task_keeps}
@@ -62,7 +63,7 @@ module _ (p : Program) where
       (barrier_keeps p at HasNoFrees (rows at) _ (item.Done ∷ []) tt)
 
   -- what an event takes off such a list it takes off what stands in front of it, too
-  pub taken_behind : (at : Encounter) (e : Event) (f : Option Tid) (xs : List Item) (y : Item) (ys : List Item)
+  pub taken_behind : (at : Encounter) (e : Event) (f : Option Freeable) (xs : List Item) (y : Item) (ys : List Item)
       → HasNoFrees xs → take_item p at e xs ≡ Some (y, ys) → take_item p at e (in_front f xs) ≡ Some (y, ys)
   taken_behind at (event.FreeTask task) f xs y ys none taken =
       absurd (of_frees y (take_fits p at (event.FreeTask task) xs y ys taken) (take_frees at (event.FreeTask task) xs y ys taken none))
@@ -71,10 +72,11 @@ module _ (p : Program) where
       of_frees (item.Frees n) fit h = h
       of_frees z fit h = false_true fit
   taken_behind at (event.FreeRegion region) f xs y ys none taken =
-      absurd (fits_none y (take_fits p at (event.FreeRegion region) xs y ys taken))
+      absurd (of_frees y (take_fits p at (event.FreeRegion region) xs y ys taken) (take_frees at (event.FreeRegion region) xs y ys taken none))
     where
-      fits_none : (z : Item) → fits (event.FreeRegion region) z ≡ true → ⊥
-      fits_none z fit = false_true fit
+      of_frees : (z : Item) → fits (event.FreeRegion region) z ≡ true → HasNoFrees (z ∷ ys) → ⊥
+      of_frees (item.Frees n) fit h = h
+      of_frees z fit h = false_true fit
   taken_behind at e f xs y ys none taken =
       subst (λ o. o ≡ Some (y, ys)) (sym (passes_front p at e f xs refl)) taken
 

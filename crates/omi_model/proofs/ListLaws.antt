@@ -1,5 +1,5 @@
 -- Laws of to-do lists: what holds of a list holds of an event's item and what stands behind it.
-use Rattle.std.proofs.Common.{◌≡◌, Bool, true, false, List, [], ◌∷◌, Some, None, if◌then◌else◌, refl, subst, Option, sym}
+use Rattle.std.proofs.Common.{◌≡◌, Bool, true, false, List, [], ◌∷◌, Some, None, if◌then◌else◌, refl, subst, Option, sym, ap, ◌∙◌}
 use Rattle.omi_script.specs.declared.program.Program.{Program}
 use Rattle.omi_script.specs.declared.statement.Stmt.{Stmt}
 use Rattle.omi_model.specs.declared.encounter.Encounter.{Encounter}
@@ -11,7 +11,7 @@ use Rattle.omi_model.specs.Lists.{fits, may_drop, opened, take_item}
 use Rattle.omi_model.specs.Rows.{behind, first_of}
 use Rattle.omi_model.proofs.Slots.{none_some, some_same, false_true}
 use Rattle.omi_model.specs.Changes.{in_front}
-use Rattle.omi_model.specs.declared.id.Tid.{Tid}
+use Rattle.omi_model.specs.declared.freeable.Freeable.{Freeable}
 use Rattle.omi_model.specs.LawStays.{is_free}
 
 -- a law of lists is kept where an item is passed over and where a statement is replaced by its row
@@ -60,33 +60,41 @@ take_fits p at e (x ∷ xs) y ys is = fit (take_fits p at e xs y ys) (fits e (op
 
 -- ---- in front of a list
 
--- an event takes its item of the list, or a task is given back in front of it
-pub by_taken : (p : Program) (at : Encounter) (e : Event) (f : Option Tid) (xs : List Item) (y : Item) (ys : List Item)
+-- an event takes its item of the list, or something is given back in front of it
+pub by_taken : (p : Program) (at : Encounter) (e : Event) (f : Option Freeable) (xs : List Item) (y : Item) (ys : List Item)
     (Z : Event → Item → List Item → Type 0) → take_item p at e (in_front f xs) ≡ Some (y, ys)
     → (take_item p at e xs ≡ Some (y, ys) → Z e y ys)
-    → ((task n : Tid) → Z (event.FreeTask task) (item.Frees n) xs) → Z e y ys
+    → ((g : Event) (n : Freeable) → Z g (item.Frees n) xs) → Z e y ys
 by_taken p at e None xs y ys Z is from free = from is
-by_taken p at (event.FreeTask task) (Some n) xs y ys Z is from free =
-    let same : front n ≡ (y, ys) = some_same refl is in
-    subst (λ (o : Item × List Item). Z (event.FreeTask task) o.0 o.1) same (free task n)
+by_taken p at e (Some n) xs y ys Z is from free = of_event e refl is
   where
-    front : Tid → Item × List Item
-    front n = (item.Frees n, xs)
-by_taken p at e (Some n) xs y ys Z is from free = from is
+    front : Item × List Item
+    front = (item.Frees n, xs)
+
+    given_back : Some front ≡ Some (y, ys) → Z e y ys
+    given_back f =
+        let same : front ≡ (y, ys) = some_same refl f in
+        subst (λ (o : Item × List Item). Z e o.0 o.1) same (free e n)
+
+    of_event : (g : Event) → e ≡ g → take_item p at g (in_front (Some n) xs) ≡ Some (y, ys) → Z e y ys
+    of_event (event.FreeTask task) same f = given_back f
+    of_event (event.FreeRegion region) same f = given_back f
+    of_event g same f = from (ap (λ d. take_item p at d xs) same ∙ f)
 
 -- any other event passes it over
-pub passes_front : (p : Program) (at : Encounter) (e : Event) (f : Option Tid) (xs : List Item) → is_free e ≡ false
+pub passes_front : (p : Program) (at : Encounter) (e : Event) (f : Option Freeable) (xs : List Item) → is_free e ≡ false
     → take_item p at e (in_front f xs) ≡ take_item p at e xs
 passes_front p at e None xs other = refl
 passes_front p at (event.FreeTask task) (Some n) xs other = absurd (false_true (sym other))
+passes_front p at (event.FreeRegion region) (Some n) xs other = absurd (false_true (sym other))
 passes_front p at e (Some n) xs other = refl
 
--- an item that stands for a task to be given back
+-- an item that stands for what may be given back
 abbrev pub is_frees : Item → Bool
 is_frees (item.Frees n) = true
 is_frees y = false
 
-pub taken_plain : (p : Program) (at : Encounter) (e : Event) (f : Option Tid) (xs : List Item) (y : Item) (ys : List Item)
+pub taken_plain : (p : Program) (at : Encounter) (e : Event) (f : Option Freeable) (xs : List Item) (y : Item) (ys : List Item)
     → is_frees y ≡ false → take_item p at e (in_front f xs) ≡ Some (y, ys) → take_item p at e xs ≡ Some (y, ys)
 taken_plain p at e f xs y ys plain is =
     by_taken p at e f xs y ys (λ g z zs. is_frees z ≡ false → take_item p at g xs ≡ Some (z, zs)) is (λ from h. from)

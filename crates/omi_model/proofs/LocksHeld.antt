@@ -8,6 +8,7 @@ use Rattle.omi_script.specs.declared.program.Program.{Program}
 use Rattle.omi_model.specs.declared.encounter.Encounter.{Encounter}
 use Rattle.omi_model.specs.declared.event.Event.{Event}
 use Rattle.omi_model.specs.declared.event.Event.TheVariants as event
+use Rattle.omi_model.specs.declared.freeable.Freeable.TheVariants as freeable
 use Rattle.omi_model.specs.declared.id.Tid.{Tid}
 use Rattle.omi_model.specs.declared.item.Item.{Item}
 use Rattle.omi_model.specs.declared.item.Item.TheVariants as item
@@ -28,7 +29,8 @@ use Rattle.omi_model.specs.Rows.{shown}
 use Rattle.omi_model.specs.Rules.{Rule, effect}
 use Rattle.omi_model.specs.Settings.{entered, left, with_lock, with_tool}
 use Rattle.omi_model.specs.State.{State, task_of}
-use Rattle.omi_model.specs.Tasking.{deferred, finished, freed, started, started_alone, started_now}
+use Rattle.omi_model.specs.Freeing.{freed}
+use Rattle.omi_model.specs.Tasking.{deferred, finished, started, started_alone, started_now}
 use Rattle.omi_model.specs.Teams.{forked, joined, task_ended}
 use Rattle.omi_model.proofs.ChainsKept.{current_begun}
 use Rattle.omi_model.proofs.EachObject.{EachTask, IsTaskLaw, ahead_of_current, start_list, task_step_from}
@@ -112,9 +114,12 @@ locks_effect p s i (event.ImplicitEnd task) y rule other =
     of_current_region s i (task_ended s i) (λ u. u.locks ≡ s.locks) _ rule (λ k t r is found h. refl)
 locks_effect p s i (event.Join region) y rule other =
     of_region s i (joined s i) (λ u. u.locks ≡ s.locks) _ rule (λ k t r is found h. refl)
-locks_effect p s i (event.FreeTask task) (item.Frees n) rule other =
-    of_current s i (freed s task) (λ u. u.locks ≡ s.locks) _ rule (λ k t is h. refl)
-locks_effect p s i (event.FreeTask task) y rule other = absurd rule
+locks_effect p s i (event.FreeTask task) (item.Frees (freeable.Finished n)) rule other =
+    of_current s i (freed s task _) (λ u. u.locks ≡ s.locks) _ rule (λ k t is h. refl)
+locks_effect p s i (event.FreeTask task) (item.Frees (freeable.Joined n number)) rule other =
+    of_current s i (freed s task _) (λ u. u.locks ≡ s.locks) _ rule (λ k t is h. refl)
+locks_effect p s i (event.FreeTask task) y rule other = tt
+locks_effect p s i (event.FreeRegion region) (item.Frees (freeable.Joined n number)) rule other = refl
 locks_effect p s i (event.FreeRegion region) y rule other = tt
 locks_effect p s i (event.Defer task) (item.Defer seen f final) rule other =
     of_current s i (deferred p s task f final seen) (λ u. u.locks ≡ s.locks) _ rule (λ k t is h. refl)

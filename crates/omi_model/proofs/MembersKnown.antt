@@ -132,3 +132,16 @@ members_known p events s reached =
         waiting = λ w. absurd (begun_waits w);
       });
     })
+
+-- where the list of a thread has moved on, member 0 is still scheduled from the task that encountered its region
+pub first_scheduled : (s middle : State) → AreMembersKnown s → IsRelisted s middle → (k : Tid) (t : Task) (r : Region)
+    → task_of middle k ≡ Some t → t.implicit ≡ true → t.number ≡ 0 → region_of middle t.region ≡ Some r
+    → t.scheduling ≡ r.encountering
+first_scheduled s middle known before k t r live im zero_number found =
+    let (w, xs, live', same) = before.tasks k t live in
+    let met =
+    (known.encountered k w live').scheduling (ap (λ (x : Task). x.implicit) (sym same) ∙ im) r
+    (ap (λ (x : Task). region_of s x.region) (sym same) ∙ (sym (before.regions t.region) ∙ found)) in
+    ap (λ (x : Task). x.scheduling) same
+    ∙
+    (met ∙ ap (λ n. if n == 0 then r.encountering else None) (ap (λ (x : Task). x.number) (sym same) ∙ zero_number))

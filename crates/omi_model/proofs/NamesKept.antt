@@ -15,7 +15,7 @@ use Rattle.omi_model.specs.Reached.{Step}
 use Rattle.omi_model.specs.Rules.{effect}
 use Rattle.omi_model.specs.State.{State}
 use Rattle.omi_model.specs.Teams.{member_task, new_region, with_members}
-use Rattle.omi_model.proofs.SlotEffects.{OfSlots, slots_effect}
+use Rattle.omi_model.proofs.SlotEffects.{OfSlots, over_freeing, slots_effect}
 use Rattle.omi_model.proofs.Slots.{each_on, each_slot, found_generation, gone_generations, gone_was, made_other, on_generations}
 use Rattle.omi_model.proofs.StaysKept.{AreNew, new_team}
 use Rattle.omi_model.proofs.Steps.{from_some, list_moves, move_of, relisted}
@@ -96,7 +96,12 @@ kept_effect p s i = record {
   arrives = λ k t is. (kept_on s.regions t.region.0 _, kept_same s.tasks);
   releases = λ k t r is found may. (kept_on s.regions t.region.0 _, kept_same s.tasks);
   ends = λ task k t is. (kept_on s.regions t.region.0 _, kept_on s.tasks k.0 _);
-  joins = λ region k t r is. (kept_on s.regions t.region.0 _, kept_on s.tasks k.0 _);
+  joins = λ region k t r is. (
+    kept_on s.regions t.region.0 _,
+    over_freeing (AreKept s.tasks) (λ slots n f h. kept_trans s.tasks slots (on slots n.0 f) h (kept_on slots n.0 f)) _
+        r.encountering (on s.tasks k.0 _) (kept_on s.tasks k.0 _),
+  );
+  frees_region = λ region n number may. (kept_gone s.regions region.0, kept_same s.tasks);
 }
 
 -- the names of a state's regions and of its tasks

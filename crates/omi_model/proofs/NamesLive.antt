@@ -1,5 +1,5 @@
 -- Each name that an object or a thread holds stays the name of a live object.
-use Rattle.std.proofs.Common.{◌≡◌, ◌==◌, ℕ, zero, suc, Bool, true, false, List, [], ◌∷◌, slice_get, Some, None, if◌then◌else◌, refl, sym, ap, ◌∙◌, subst, eq-eqb}
+use Rattle.std.proofs.Common.{◌≡◌, ◌==◌, ℕ, zero, suc, Bool, true, false, List, [], ◌∷◌, slice_get, Some, None, if◌then◌else◌, refl, sym, ap, ◌∙◌, subst}
 use Rattle.omi_script.specs.declared.program.Program.{Program}
 use Rattle.omi_model.specs.declared.event.Event.{Event}
 use Rattle.omi_model.specs.declared.id.Id.{Id}
@@ -19,7 +19,7 @@ use Rattle.omi_model.specs.State.{State, region_of, task_of}
 use Rattle.omi_model.specs.Teams.{master_of, member_task}
 use Rattle.omi_model.proofs.EachObject.{EachRegion, EachTask, IsRegionLaw, IsTaskLaw, region_step, task_step}
 use Rattle.omi_model.proofs.EachThread.{EachThread, IsThreadLaw, thread_step}
-use Rattle.omi_model.proofs.MembersKnown.{members_known}
+use Rattle.omi_model.proofs.MembersKnown.{first_scheduled, members_known}
 use Rattle.omi_model.proofs.NamesKept.{names_kept}
 use Rattle.omi_model.proofs.NeededTasks.{needed_current, needed_encountering, needed_scheduling}
 use Rattle.omi_model.proofs.OpeningObjects.{each_first_thread, first_alone_named}
@@ -210,25 +210,12 @@ module _ (p : Program) (events : List (ℕ × Event)) (s : State) (reached : Rea
     forks = λ region team f k t r is found may new q n g. first_name next team n (λ j m at. (_, new j m at, not_deferred (j == 0))) g;
     joins_team = λ task may of q n g. subst (IsLiveTask next) (some_same refl g) (live_task middle next later task (may.member, may.live, λ d. not_waiting may.member may.waiting d) (λ t live. needed_waiting middle task t (ap (λ (x : Task). x.progress) (some_same live may.live) ∙ may.waiting)));
     ends = λ k t r is found im other over q n g. absurd (none_some refl g);
-    joins = λ k t r is found may of q n g. from_scheduling k t is n (first k t r is found may.implicit may.first ∙ g);
+    joins = λ k t r is found may of q n g. from_scheduling k t is n (first_scheduled s middle (members_known p events s reached) before k t r is.live may.implicit may.first found ∙ g);
     makes = λ task f final k t is new q n g. subst (IsLiveTask next) (some_same refl g) (_, new, λ d. not_deferred true d);
     starts = λ task x k t is may (u, found, begun, from) q n g. subst (IsLiveTask next) (some_same refl g) (u, found, λ d. not_deferred true (sym begun ∙ d));
     finishes = λ k t is ex over q n g. from_scheduling k t is n g;
   }
     where
-      -- member 0 was scheduled from the task that encountered the region
-      first : (k : Tid) (t : Task) (r : Region) → IsCurrent middle i k t → region_of middle t.region ≡ Some r
-          → t.implicit ≡ true → t.number ≡ 0 → t.scheduling ≡ r.encountering
-      first k t r is found im zero_number =
-          let (v, xs, live, same) = before.tasks k t is.live in
-          let here : region_of s v.region ≡ Some r =
-          ap (λ (x : Task). region_of s x.region) (sym same) ∙ (sym (before.regions t.region) ∙ found) in
-          let met = ((members_known p events s reached).encountered k v live).scheduling
-          (ap (λ (x : Task). x.implicit) (sym same) ∙ im) r here in
-          let number : v.number ≡ 0 = ap (λ (x : Task). x.number) (sym same) ∙ zero_number in
-          ap (λ (x : Task). x.scheduling) same
-          ∙ (met ∙ ap (λ b. if b then r.encountering else None) (eq-eqb v.number 0 number))
-
       from_scheduling : (k : Tid) (t : Task) → IsCurrent middle i k t → (n : Tid) → t.scheduling ≡ Some n
           → IsLiveTask next n
       from_scheduling k t is n g =

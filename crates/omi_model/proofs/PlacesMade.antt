@@ -17,7 +17,7 @@ use Rattle.omi_model.specs.Rules.{effect}
 use Rattle.omi_model.specs.State.{State}
 use Rattle.omi_model.specs.Changes.{encounter}
 use Rattle.omi_model.specs.Teams.{member_task, with_members}
-use Rattle.omi_model.proofs.SlotEffects.{OfSlots, slots_effect}
+use Rattle.omi_model.proofs.SlotEffects.{OfSlots, over_freeing, slots_effect}
 use Rattle.omi_model.proofs.Slots.{each_slot, gone_live}
 use Rattle.omi_model.proofs.Steps.{from_some, list_moves, move_of, on_live, relisted}
 use Rattle.omi_model.specs.Lists.{stays}
@@ -70,7 +70,9 @@ module _ (P : ℕ → ℕ → Type 0) where
       arrives = λ k t is here. all;
       releases = λ k t r is found may here. all;
       ends = λ task k t is here. lives_on s.tasks k.0 (λ u. record u { progress = Finished }) all;
-      joins = λ region k t r is here. lives_on s.tasks k.0 (λ u. record u { progress = Finished }) all;
+      joins = λ region k t r is here. over_freeing (LivesIn P) (λ slots n f h. lives_on slots n.0 f h) _
+          r.encountering (on s.tasks k.0 _) (lives_on s.tasks k.0 (λ u. record u { progress = Finished }) all);
+      frees_region = λ region n number may here. all;
     }
 
   lives_step : (p : Program) (s : State) (i : ℕ) (e : Event) (next : State) → Step p s i e next → MakesIn P e

@@ -14,7 +14,7 @@ use Rattle.omi_model.specs.Lists.{may_drop}
 use Rattle.omi_model.specs.Rows.{barrier_items, body_items, call_items, end_of_member, first_item, items_behind, last_of_member, main_items, member_items, task_items, shown, work_state, working}
 use Rattle.omi_model.proofs.EachObject.{start_list}
 use Rattle.omi_model.proofs.Slots.{false_true}
-use Rattle.omi_model.specs.declared.id.Tid.{Tid}
+use Rattle.omi_model.specs.declared.freeable.Freeable.{Freeable}
 
 -- the items that are not of a fork, a wait, a barrier or a lock, and that do not close a list
 abbrev pub is_plain : Item → Bool
@@ -171,7 +171,7 @@ last_keeps P join end n = go (n == 0)
 pub drop_keeps : (P : List Item → Type 0) → ((xs : List Item) → P (item.Asks ∷ xs) → P xs)
     → ((state : ℕ) (xs : List Item) → P (item.Tasks state ∷ xs) → P xs)
     → ((xs : List Item) → P (item.OneTask ∷ xs) → P xs)
-    → ((n : Tid) (xs : List Item) → P (item.Frees n ∷ xs) → P xs)
+    → ((n : Freeable) (xs : List Item) → P (item.Frees n ∷ xs) → P xs)
     → (x : Item) (xs : List Item) → may_drop x ≡ true → P (x ∷ xs) → P xs
 drop_keeps P asks tasks one frees item.Asks xs may h = asks xs h
 drop_keeps P asks tasks one frees (item.Tasks state) xs may h = tasks state xs h

@@ -3,6 +3,7 @@ use Rattle.std.proofs.Common.{◌≡◌, ◌==◌, ◌⊎◌, inl, inr, ℕ, Boo
 use Rattle.omi_script.specs.declared.program.Program.{Program}
 use Rattle.omi_model.specs.declared.event.Event.{Event}
 use Rattle.omi_model.specs.declared.event.Event.TheVariants as event
+use Rattle.omi_model.specs.declared.freeable.Freeable.{Freeable}
 use Rattle.omi_model.specs.declared.id.Rid.{Rid}
 use Rattle.omi_model.specs.declared.id.Tid.{Tid}
 use Rattle.omi_model.specs.declared.item.Item.{Item}
@@ -57,7 +58,7 @@ module _ (p : Program) (events : List (ℕ × Event)) (s : State) (reached : Rea
 
   -- the current task, in the state before
   pub was : (k : Tid) (t : Task) → IsCurrent middle i k t
-      → (v : Task) × (xs : Option Tid × List Item) × IsCurrent s i k v × (t ≡ relisted_to xs v)
+      → (v : Task) × (xs : Option Freeable × List Item) × IsCurrent s i k v × (t ≡ relisted_to xs v)
   was k t is =
       let (v, xs, live, same) = before.tasks k t is.live in
       let current : IsCurrent s i k v = record { name = sym (before.currents i) ∙ is.name; live = live } in (v, xs, current, same)
@@ -77,7 +78,7 @@ module _ (p : Program) (events : List (ℕ × Event)) (s : State) (reached : Rea
   under item.OneTask of k t is u may = inl may
   under x of k t is u may = absurd may
 
-  may_before : (x : Item) (j : Tid) (t v u : Task) (xs : Option Tid × List Item) → t ≡ relisted_to xs v → MayStartAt x j t u
+  may_before : (x : Item) (j : Tid) (t v u : Task) (xs : Option Freeable × List Item) → t ≡ relisted_to xs v → MayStartAt x j t u
       → MayStartAt x j v u
   may_before (item.Tasks state) j t v u xs same may =
       subst (λ (y : Task). MayStartAt (item.Tasks state) j y u) same may

@@ -5,6 +5,8 @@ use Rattle.std.specs.Prelude.{IfSome, ⊤}
 use Rattle.omi_script.specs.declared.program.Program.{Program}
 use Rattle.omi_model.specs.declared.event.Event.{Event}
 use Rattle.omi_model.specs.declared.event.Event.TheVariants as event
+use Rattle.omi_model.specs.declared.freeable.Freeable.{Freeable}
+use Rattle.omi_model.specs.declared.freeable.Freeable.TheVariants as freeable
 use Rattle.omi_model.specs.declared.id.Rid.{Rid}
 use Rattle.omi_model.specs.declared.id.Tid.{Tid}
 use Rattle.omi_model.specs.declared.item.Item.{Item}
@@ -13,12 +15,13 @@ use Rattle.omi_model.specs.declared.region.Region.{Region}
 use Rattle.omi_model.specs.declared.task.Task.{Task}
 use Rattle.omi_model.specs.Barriers.{MayRelease, arrived, released}
 use Rattle.omi_model.specs.Changes.{IsCurrent}
+use Rattle.omi_model.specs.Freeing.{MayFreeRegion, freed, freeing}
 use Rattle.omi_model.specs.Fresh.{IsFresh}
 use Rattle.omi_model.specs.Put.{Slots, gone, made, named, on}
 use Rattle.omi_model.specs.Rules.{Rule, effect}
 use Rattle.omi_model.specs.Settings.{entered, left, with_tool}
 use Rattle.omi_model.specs.State.{State, region_of, task_of}
-use Rattle.omi_model.specs.Tasking.{deferred, finished, freed, freeing, started, started_alone, started_now}
+use Rattle.omi_model.specs.Tasking.{deferred, finished, started, started_alone, started_now}
 use Rattle.omi_model.specs.Teams.{MayFork, forked, joined, member_task, new_region, task_ended, with_members}
 use Rattle.omi_model.proofs.Slots.{on_other, on_same, same_or_not, some_same}
 use Rattle.omi_model.proofs.Steps.{of_current, of_current_region, of_region, of_set}
@@ -27,6 +30,13 @@ pub same_current : (s : State) (i : ℕ) (k n : Tid) (t u : Task) → IsCurrent 
     → t ≡ u
 same_current s i k n t u a b =
     let same : k ≡ n = some_same a.name b.name in some_same a.live (ap (task_of s) same ∙ b.live)
+
+-- a law of all tasks that is kept where one is changed is kept where another one may be given back next
+pub over_freeing : (P : Slots Task → Type 0)
+    → ((slots : Slots Task) (n : Tid) (f : Task → Task) → P slots → P (on slots n.0 f))
+    → (next : Option Freeable) (k : Option Tid) (slots : Slots Task) → P slots → P (freeing next k slots)
+over_freeing P keeps next None slots h = h
+over_freeing P keeps next (Some k) slots h = keeps slots k (λ u. record u { frees = next }) h
 
 -- one region is changed, and what it is by the region that was
 pub changed : (slots : Slots Region) (m : Rid) (f : Region → Region) (P : Region → Region → Type 0) (n : Rid) (r : Region)
@@ -53,6 +63,7 @@ changes_regions event.Arrive = true
 changes_regions event.Release = true
 changes_regions (event.ImplicitEnd task) = true
 changes_regions (event.Join region) = true
+changes_regions (event.FreeRegion region) = true
 changes_regions e = false
 
 -- what has to be shown of a law of the slots behind an event
@@ -76,6 +87,8 @@ pub record OfSlots (p : Program) (s : State) (i : ℕ) (Q : Event → Slots Regi
       → Q (event.ImplicitEnd task) (task_ended s i k t).regions (task_ended s i k t).tasks
   pub joins : (region : Rid) (k : Tid) (t : Task) (r : Region) → IsCurrent s i k t
       → Q (event.Join region) (joined s i k t r).regions (joined s i k t r).tasks
+  pub frees_region : (region n : Rid) (number : ℕ) → MayFreeRegion s region n number
+      → Q (event.FreeRegion region) (gone s.regions region.0) s.tasks
 
 module _ (p : Program) (s : State) (i : ℕ) (Q : Event → Slots Region → Slots Task → Type 0)
     (q : OfSlots p s i Q) where
@@ -88,7 +101,7 @@ module _ (p : Program) (s : State) (i : ℕ) (Q : Event → Slots Region → Slo
   task_effect e same n f = q.tasks e same s.tasks (q.stays e same) n f
 
   -- and which task may be given back next
-  freeing_effect : (e : Event) → changes_regions e ≡ false → (next : Option Tid) (n : Tid) (f : Task → Task)
+  freeing_effect : (e : Event) → changes_regions e ≡ false → (next : Option Freeable) (n : Tid) (f : Task → Task)
       (k : Option Tid) → Q e s.regions (freeing next k (on s.tasks n.0 f))
   freeing_effect e same next n f None = task_effect e same n f
   freeing_effect e same next n f (Some k) =
@@ -118,10 +131,15 @@ module _ (p : Program) (s : State) (i : ℕ) (Q : Event → Slots Region → Slo
       (λ k t r is found h. q.ends task k t is)
   slots_effect (event.Join region) y rule =
       of_region s i (joined s i) (Of (event.Join region)) _ rule (λ k t r is found h. q.joins region k t r is)
-  slots_effect (event.FreeTask task) (item.Frees next) rule =
-      of_current s i (freed s task) (Of (event.FreeTask task)) _ rule
+  slots_effect (event.FreeTask task) (item.Frees (freeable.Finished n)) rule =
+      of_current s i (freed s task _) (Of (event.FreeTask task)) _ rule
       (λ k t is h. q.tasks (event.FreeTask task) refl (gone s.tasks task.0) (q.frees task) k _)
-  slots_effect (event.FreeTask task) y rule = absurd rule
+  slots_effect (event.FreeTask task) (item.Frees (freeable.Joined n number)) rule =
+      of_current s i (freed s task _) (Of (event.FreeTask task)) _ rule
+      (λ k t is h. q.tasks (event.FreeTask task) refl (gone s.tasks task.0) (q.frees task) k _)
+  slots_effect (event.FreeTask task) y rule = tt
+  slots_effect (event.FreeRegion region) (item.Frees (freeable.Joined n number)) (k, t, is, may) =
+      q.frees_region region n number may
   slots_effect (event.FreeRegion region) y rule = tt
   slots_effect (event.Defer task) (item.Defer seen f final) rule =
       of_current s i (deferred p s task f final seen) (Of (event.Defer task)) _ rule
@@ -143,7 +161,7 @@ module _ (p : Program) (s : State) (i : ℕ) (Q : Event → Slots Region → Slo
   slots_effect (event.Start task) y rule = tt
   slots_effect (event.Finish task) y rule =
       of_current s i (finished s i) (Of (event.Finish task)) _ rule
-      (λ k t is h. freeing_effect (event.Finish task) refl (Some k) k _ t.scheduling)
+      (λ k t is h. freeing_effect (event.Finish task) refl (Some (freeable.Finished k)) k _ t.scheduling)
   slots_effect (event.Set icv value) y rule =
       of_set s i icv value (Of (event.Set icv value)) rule (q.stays (event.Set icv value) refl)
       (λ k t v is e. task_effect (event.Set icv value) refl k _)
@@ -165,6 +183,8 @@ pub record OfRegions (s : State) (i : ℕ) (Q : Event → Slots Region → Type 
       → Q (event.ImplicitEnd task) (task_ended s i k t).regions
   pub joins : (region : Rid) (k : Tid) (t : Task) (r : Region) → IsCurrent s i k t
       → Q (event.Join region) (joined s i k t r).regions
+  pub frees_region : (region n : Rid) (number : ℕ) → MayFreeRegion s region n number
+      → Q (event.FreeRegion region) (gone s.regions region.0)
 
 pub regions_effect : (p : Program) (s : State) (i : ℕ) (Q : Event → Slots Region → Type 0) → OfRegions s i Q
     → (e : Event) (y : Item) → Rule s i e y → IfSome (effect p s i e y) (λ u. Q e u.regions)
@@ -179,4 +199,5 @@ regions_effect p s i Q q = slots_effect p s i (λ e regions tasks. Q e regions) 
   releases = q.releases;
   ends = q.ends;
   joins = q.joins;
+  frees_region = q.frees_region;
 })

@@ -1,5 +1,5 @@
 -- What stays over every event.
-use Rattle.std.proofs.Common.{◌≡◌, ◌<◌, ◌≤◌, ◌+◌, ◌-◌, inl, inr, ℕ, zero, suc, Bool, true, false, List, [], ◌∷◌, ◌++◌, length, map, get_or, slice_get, slice_index, slice_set, Option, Some, None, refl, sym, ap, ◌∙◌, subst, arith}
+use Rattle.std.proofs.Common.{◌≡◌, ◌<◌, ◌≤◌, ◌+◌, ◌-◌, ◌⊎◌, inl, inr, ℕ, zero, suc, Bool, true, false, List, [], ◌∷◌, ◌++◌, length, map, get_or, slice_get, slice_index, slice_set, Option, Some, None, refl, sym, ap, ◌∙◌, subst, arith}
 use Rattle.std.specs.Prelude.{IfSome}
 use Rattle.std.specs.List.{All}
 use Rattle.std.proofs.lemmas.List.{get_or-map, length-map, length-set}
@@ -7,6 +7,8 @@ use Rattle.omi_script.specs.declared.program.Program.{Program}
 use Rattle.omi_model.specs.declared.claim.Claim.TheVariants as claim
 use Rattle.omi_model.specs.declared.event.Event.{Event}
 use Rattle.omi_model.specs.declared.event.Event.TheVariants as event
+use Rattle.omi_model.specs.declared.freeable.Freeable.{Freeable}
+use Rattle.omi_model.specs.declared.freeable.Freeable.TheVariants as freeable
 use Rattle.omi_model.specs.declared.id.Id.{Id}
 use Rattle.omi_model.specs.declared.id.Rid.{Rid}
 use Rattle.omi_model.specs.declared.id.Tid.{Tid}
@@ -19,6 +21,7 @@ use Rattle.omi_model.specs.declared.task.Task.{Task}
 use Rattle.omi_model.specs.declared.task.Variables.{Variables}
 use Rattle.omi_model.specs.declared.thread.Thread.{Thread}
 use Rattle.omi_model.specs.Changes.{on_region, on_task, on_thread, with_list, encounter}
+use Rattle.omi_model.specs.Freeing.{IsOver, IsSpent, MayFree, MayFreeMember, MayFreeRegion, freed, freeing, region_freed}
 use Rattle.omi_model.specs.Fresh.{AreDistinct, IsFresh}
 use Rattle.omi_model.specs.LawStays.{IsTeamNeeded, IsNeeded, IsNeededRegion, IsSameRegion, IsSameTask, Stays, StaysOver, stage_of, is_free}
 use Rattle.omi_model.specs.Lists.{stays}
@@ -29,7 +32,7 @@ use Rattle.omi_model.specs.Rules.{Rule, effect}
 use Rattle.omi_model.specs.Barriers.{arrived, released}
 use Rattle.omi_model.specs.Settings.{entered, left, with_tool}
 use Rattle.omi_model.specs.State.{State, region_of, task_of}
-use Rattle.omi_model.specs.Tasking.{MayFree, deferred, finished, freed, freeing, scheduled, started, started_alone, started_now}
+use Rattle.omi_model.specs.Tasking.{deferred, finished, scheduled, started, started_alone, started_now}
 use Rattle.omi_model.specs.Teams.{forked, joined, master_of, member_task, task_ended, with_members}
 use Rattle.omi_model.proofs.Slots.{Later, each_on, each_put, false_true, found_live, gone_other, gone_was, id_same, later_made, later_on, made_beside, made_stays, none_some, some_same}
 use Rattle.omi_model.proofs.Steps.{from_some, is_relisted, list_moves, move_of, moved_on, of_current, of_current_region, of_region, of_set, relisted, relisted_to}
@@ -215,7 +218,7 @@ stage_most NotBegun = omega arith
 stage_most Begun = omega arith
 stage_most Finished = omega arith
 
-other_task : (t : Task) (enter tool : ℕ) (v : Variables) (zs : List Item) (next : Option Tid)
+other_task : (t : Task) (enter tool : ℕ) (v : Variables) (zs : List Item) (next : Option Freeable)
     → IsSameTask t (record t { enter = enter; tool = tool; variables = v; list = zs; frees = next })
 other_task t enter tool v zs next = record { implicit = refl; region = refl; generating = refl; function = refl; is_final = refl; stage = omega arith; started = λ h. h; thread = λ h. refl; number = λ h. refl; scheduling = λ h. refl }
 
@@ -324,7 +327,7 @@ keeps_setting : (s : State) (k : Tid) (f : Task → Task) → ((t : Task) → Is
 keeps_setting s k f keeps = keeps_task s k f (λ t e. keeps t)
 
 -- another task may be given back next
-keeps_freeing : (s : State) (next k : Option Tid)
+keeps_freeing : (s : State) (next : Option Freeable) (k : Option Tid)
     → KeepsAll s (record s { tasks = freeing next k s.tasks })
 keeps_freeing s next None = keeps_same s
 keeps_freeing s next (Some k) =
@@ -370,9 +373,13 @@ keeps_effect p s i (event.ImplicitEnd task) y other rule =
 keeps_effect p s i (event.Join region) y other rule =
     of_region s i (joined s i) (KeepsAll s) _ rule
     (λ k t r is found h. let first : State = on_task s k (λ u. record u { progress = Finished }) in
-    keeps_current s _ i r.encountering (keeps_trans s first _ (keeps_setting s k (λ u. record u { progress = Finished }) finished_task) (keeps_region first t.region (λ q. record q { joined = true }) (λ q e. joined_region q))))
+    let free : Option Freeable = Some (freeable.Joined t.region 0) in
+    let second : State = record first { tasks = freeing free r.encountering first.tasks } in
+    keeps_current s (on_region second t.region (λ q. record q { joined = true })) i r.encountering
+    (keeps_trans s first _ (keeps_setting s k (λ u. record u { progress = Finished }) finished_task)
+    (keeps_trans first second _ (keeps_freeing first free r.encountering) (keeps_region second t.region (λ q. record q { joined = true }) (λ q e. joined_region q)))))
 keeps_effect p s i (event.FreeTask task) y other rule = absurd (false_true (sym other))
-keeps_effect p s i (event.FreeRegion region) y other rule = tt
+keeps_effect p s i (event.FreeRegion region) y other rule = absurd (false_true (sym other))
 keeps_effect p s i (event.Defer task) (item.Defer seen f final) other rule =
     of_current s i (deferred p s task f final seen) (KeepsAll s) _ rule
     (λ k t is fresh. keeps_made s task _ i fresh)
@@ -394,7 +401,7 @@ keeps_effect p s i (event.Start task) y other rule = tt
 keeps_effect p s i (event.Finish task) y other rule =
     of_current s i (finished s i) (KeepsAll s) _ rule
     (λ k t is h. let first : State = on_task s k (λ u. record u { progress = Finished }) in
-    keeps_current s _ i t.scheduling (keeps_trans s first _ (keeps_setting s k (λ u. record u { progress = Finished }) finished_task) (keeps_freeing first (Some k) t.scheduling)))
+    keeps_current s _ i t.scheduling (keeps_trans s first _ (keeps_setting s k (λ u. record u { progress = Finished }) finished_task) (keeps_freeing first (Some (freeable.Finished k)) t.scheduling)))
 keeps_effect p s i (event.Set icv value) y other rule =
     of_set s i icv value (KeepsAll s) rule (keeps_global s s.locks value)
     (λ k t v is e. keeps_setting s k (λ u. record u { variables = v }) (λ u. other_task u u.enter u.tool v u.list u.frees))
@@ -427,23 +434,58 @@ list_keeps s i zs k t live = (keeps_list s i zs).tasks k t live
 pub stays_list : (s : State) (i : ℕ) (zs : List Item) → Stays s (with_list s i zs)
 stays_list s i zs = stays_of s (with_list s i zs) (keeps_list s i zs)
 
+-- a task that is over has no live child and runs no more
+spent_idle : (s : State) (task : Tid) (old : Task) → IsSpent s task old
+    → (old.progress ≡ Finished → ⊥) ⊎ ((n : Tid) × (v : Task) × (task_of s n ≡ Some v) × (v.generating ≡ Some task))
+    → ⊥
+spent_idle s task old spent (inl runs) = runs spent.over
+spent_idle s task old spent (inr (m, v, found, by)) =
+    spent.childless m.0.creator m.0.slot v (found_live m.0.generation (s.tasks m.0.creator m.0.slot) v found) by
+
+-- the members of a region that is over are not needed for it
+over_not_needed : (s : State) (n : Rid) (r : Region) → IsOver s n r → IsTeamNeeded s n → ⊥
+over_not_needed s n r over (inl (q, found, unjoined)) =
+    false_true (sym unjoined ∙ (ap (λ (x : Region). x.joined) (some_same found over.live) ∙ over.joined))
+over_not_needed s n r over (inr (inl (k, v, live, ex, of))) =
+    over.alone k.0.creator k.0.slot v (found_live k.0.generation (s.tasks k.0.creator k.0.slot) v live) ex of
+over_not_needed s n r over (inr (inr (m, q, live, of))) =
+    over.inmost m.0.creator m.0.slot q (found_live m.0.generation (s.regions m.0.creator m.0.slot) q live) of
+
 -- a task that may be given back is not needed
 free_not_needed : (s : State) (task next : Tid) → MayFree s task next → (t : Task) → task_of s task ≡ Some t
     → IsNeeded s task t → ⊥
-free_not_needed s task next may t live need = go need
+free_not_needed s task next may t live need =
+    go (subst (IsNeeded s task) (some_same live may.spent.live) need)
   where
-    old_is : may.old ≡ t
-    old_is = some_same may.live live
+    go : IsNeeded s task may.old → ⊥
+    go (inl (im, team)) = false_true (sym may.explicit ∙ im)
+    go (inr rest) = spent_idle s task may.old may.spent rest
 
-    go : IsNeeded s task t → ⊥
-    go (inl (im, team)) = false_true (sym may.explicit ∙ (ap (λ (y : Task). y.implicit) old_is ∙ im))
-    go (inr (inl runs)) = runs (ap (λ (y : Task). y.progress) (sym old_is) ∙ may.over)
-    go (inr (inr (m, v, found, by))) =
-        may.childless m.0.creator m.0.slot v (found_live m.0.generation (s.tasks m.0.creator m.0.slot) v found) by
+member_not_needed : (s : State) (task : Tid) (n : Rid) (number : ℕ) → MayFreeMember s task n number → (t : Task)
+    → task_of s task ≡ Some t → IsNeeded s task t → ⊥
+member_not_needed s task n number may t live need =
+    go (subst (IsNeeded s task) (some_same live may.spent.live) need)
+  where
+    go : IsNeeded s task may.old → ⊥
+    go (inl (im, team)) = over_not_needed s n may.region may.ended (subst (IsTeamNeeded s) may.mine team)
+    go (inr rest) = spent_idle s task may.old may.spent rest
+
+-- and so is a region
+region_not_needed : (s : State) (region n : Rid) (number : ℕ) → MayFreeRegion s region n number → (r : Region)
+    → region_of s region ≡ Some r → IsNeededRegion s region r → ⊥
+region_not_needed s region n number may r live need =
+    go (subst (IsNeededRegion s region) (some_same live may.ended.live) need)
+  where
+    go : IsNeededRegion s region may.old → ⊥
+    go (inl unjoined) = false_true (sym unjoined ∙ may.ended.joined)
+    go (inr (inl (k, v, found, of))) =
+        may.empty k.0.creator k.0.slot v (found_live k.0.generation (s.tasks k.0.creator k.0.slot) v found) of
+    go (inr (inr (m, q, found, of))) =
+        may.ended.inmost m.0.creator m.0.slot q (found_live m.0.generation (s.regions m.0.creator m.0.slot) q found) of
 
 -- where a task that is not needed is given back, every other one stays
 module _ (s : State) (task k : Tid) (free : (t : Task) → task_of s task ≡ Some t → IsNeeded s task t → ⊥)
-    (x : Option Tid) where
+    (x : Option Freeable) where
   abbrev without : State
   without = on_task (record s { tasks = gone s.tasks task.0 }) k (λ u. record u { frees = x })
 
@@ -478,6 +520,25 @@ module _ (s : State) (task k : Tid) (free : (t : Task) → task_of s task ≡ So
           (λ y e (u, was, same). (u, was, same_task_trans u y _ same (other_task y y.enter y.tool y.variables y.list x)))
           n.0 v found
 
+-- where a region that is not needed is given back, every other one stays, and all tasks do
+region_freed_stays : (s : State) (region : Rid)
+    → ((r : Region) → region_of s region ≡ Some r → IsNeededRegion s region r → ⊥) → Stays s (region_freed s region)
+region_freed_stays s region free = record {
+  tasks = λ k t live need. (t, live, same_task t);
+  alike = λ k t v live found. subst (IsSameTask t) (some_same live found) (same_task t);
+  regions = λ n r live need. (
+    r,
+    gone_other s.regions region.0 n.0 r
+        (λ same. let named_so : n ≡ region = ap (λ (a : Id). record { 0 = a }) same in
+        free r (ap (region_of s) (sym named_so) ∙ live) (subst (λ (a : Rid). IsNeededRegion s a r) named_so need)) live,
+    same_region r,
+  );
+  alike_regions = λ n r q live found.
+      subst (IsSameRegion r) (some_same live (gone_was s.regions region.0 n.0 q found)) (same_region r);
+  begun = λ i h. h;
+  count = refl;
+}
+
 -- the effect of an event, and a whole event
 pub stays_effect : (p : Program) (s : State) (i : ℕ) (e : Event) (y : Item) → Rule s i e y
     → IfSome (effect p s i e y) (Stays s)
@@ -488,9 +549,14 @@ stays_effect p s i e y rule = of_event e y rule
     go (Some u) h = stays_of s u h
 
     of_event : (e : Event) (y : Item) → Rule s i e y → IfSome (effect p s i e y) (Stays s)
-    of_event (event.FreeTask task) (item.Frees next) free =
-        of_current s i (freed s task) (Stays s) _ free (λ k t is may. freed_stays s task k (free_not_needed s task next may) _)
-    of_event (event.FreeTask task) y free = absurd free
+    of_event (event.FreeTask task) (item.Frees (freeable.Finished n)) free =
+        of_current s i (freed s task _) (Stays s) _ free (λ k t is may. freed_stays s task k (free_not_needed s task n may) _)
+    of_event (event.FreeTask task) (item.Frees (freeable.Joined n number)) free =
+        of_current s i (freed s task _) (Stays s) _ free
+        (λ k t is may. freed_stays s task k (member_not_needed s task n number may) _)
+    of_event (event.FreeTask task) y free = tt
+    of_event (event.FreeRegion region) (item.Frees (freeable.Joined n number)) (k, t, is, may) =
+        region_freed_stays s region (region_not_needed s region n number may)
     of_event (event.FreeRegion region) y free = tt
     of_event e y r = go (effect p s i e y) (keeps_effect p s i e y refl r)
 
@@ -540,7 +606,7 @@ stays_step p s i e next step =
         let (u, xs, was, same) = (is_relisted s i zs).tasks k v found in
         go u xs same (some_same live was) need
       where
-        go : (u : Task) (xs : Option Tid × List Item) → v ≡ relisted_to xs u → t ≡ u → IsNeeded s k t
+        go : (u : Task) (xs : Option Freeable × List Item) → v ≡ relisted_to xs u → t ≡ u → IsNeeded s k t
             → IsNeeded (with_list s i zs) k v
         go u xs same is (inl (im, team)) = inl (
           ap (λ (y : Task). y.implicit) same ∙ (ap (λ (y : Task). y.implicit) (sym is) ∙ im),

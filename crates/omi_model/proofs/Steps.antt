@@ -6,6 +6,8 @@ use Rattle.std.specs.Option.{option_and_then, option_map, option_map_or}
 use Rattle.omi_script.specs.declared.program.Program.{Program}
 use Rattle.omi_model.specs.declared.event.Event.{Event}
 use Rattle.omi_model.specs.declared.event.Event.TheVariants as event
+use Rattle.omi_model.specs.declared.freeable.Freeable.{Freeable}
+use Rattle.omi_model.specs.declared.freeable.Freeable.TheVariants as freeable
 use Rattle.omi_model.specs.declared.id.Id.{Id}
 use Rattle.omi_model.specs.declared.id.Rid.{Rid}
 use Rattle.omi_model.specs.declared.id.Tid.{Tid}
@@ -19,6 +21,7 @@ use Rattle.omi_model.specs.declared.task.Variables.{Variables}
 use Rattle.omi_model.specs.declared.thread.Thread.{Thread}
 use Rattle.omi_model.specs.Barriers.{AreFinished}
 use Rattle.omi_model.specs.Changes.{IsCurrent, OfCurrent, OfCurrentRegion, ahead_of, by_current, by_region, encounter, on_task, on_thread, with_list}
+use Rattle.omi_model.specs.Freeing.{IsOver, IsSpent, MayFree, MayFreeMember, MayFreeRegion}
 use Rattle.omi_model.specs.Fresh.{IsFresh}
 use Rattle.omi_model.specs.Lists.{stays, take_item}
 use Rattle.omi_numbers.specs.declared.variables.TheConstants.{MAX_ACTIVE_LEVELS_VAR}
@@ -27,12 +30,12 @@ use Rattle.omi_model.specs.Reached.{Step}
 use Rattle.omi_model.specs.Rules.{Rule, effect, moved}
 use Rattle.omi_model.specs.Settings.{with_set, with_task_variable, with_variable, with_variable_of}
 use Rattle.omi_model.specs.State.{State, region_of, task_of}
-use Rattle.omi_model.specs.Tasking.{AreChildrenFinished, IsTaken, MayFree, MayStart, MayStartAt}
+use Rattle.omi_model.specs.Tasking.{AreChildrenFinished, IsTaken, MayStart, MayStartAt}
 use Rattle.omi_model.specs.Teams.{MayAsk, MayFork, got_threads}
 use Rattle.omi_model.proofs.Slots.{each_on, each_put, each_slot, later_on, none_some, on_empty, on_generations, on_same, some_same}
 
 -- a task with another list, and one whose list has moved on
-abbrev pub relisted_to : Option Tid × List Item → Task → Task
+abbrev pub relisted_to : Option Freeable × List Item → Task → Task
 relisted_to x t = record t { frees = x.0; list = x.1 }
 
 abbrev pub relisted : List Item → Task → Task
@@ -253,19 +256,70 @@ module _ (s : State) (i : ℕ) (k0 : Tid) (is_current : (s.threads i).current �
         allowed = allowed x may.new may.allowed;
       }
 
+  -- a fact of no live task that reads neither list nor what may be given back
+  none_moved : (P : Task → Type 0) → ((x : Task) → P (relisted zs x) → P x)
+      → ((c j : ℕ) (u : Task) → (s.tasks c j).live ≡ Some u → P u → ⊥) → (c j : ℕ) (u : Task)
+      → (next.tasks c j).live ≡ Some u → P u → ⊥
+  none_moved P same none c j u found =
+      on_live s.tasks k0.0 (relisted zs) (λ x. P x → ⊥) (λ x h q. h (same x q)) c j (none c j) u found
+
+  spent_moved : (task : Tid) (old : Task) → IsSpent s task old
+      → (v : Task) × IsSpent next task v × (xs : Option Freeable × List Item) × (v ≡ relisted_to xs old)
+  spent_moved task old spent =
+      let (v, live, same) =
+      later_on (λ (u v : Task). (xs : Option Freeable × List Item) × (v ≡ relisted_to xs u))
+      (λ u. ((u.frees, u.list), refl)) s.tasks k0.0 (relisted zs) (λ u e. ((None, zs), refl)) task.0 old spent.live in (
+        v,
+        record {
+          live = live;
+          over = ap (λ (x : Task). x.progress) same.1 ∙ spent.over;
+          childless = none_moved (λ x. x.generating ≡ Some task) (λ x h. h) spent.childless;
+        },
+        same.0,
+        same.1,
+      )
+
+  over_moved : (n : Rid) (r : Region) → IsOver s n r → IsOver next n r
+  over_moved n r over = record {
+    live = over.live;
+    joined = over.joined;
+    alone = λ c j u found ex of. none_moved (λ x. (x.implicit ≡ false) × (x.region ≡ n)) (λ x h. h) (λ d h x live q. over.alone d h x live q.0 q.1) c j u found (ex, of);
+    inmost = over.inmost;
+  }
+
   free_moved : (task n : Tid) → MayFree s task n → MayFree next task n
   free_moved task n may =
-      let (v, live, same) =
-      later_on (λ (u v : Task). (xs : Option Tid × List Item) × (v ≡ relisted_to xs u))
-      (λ u. ((u.frees, u.list), refl)) s.tasks k0.0 (relisted zs) (λ u e. ((None, zs), refl)) task.0 may.old may.live in
+      let (v, spent, xs, same) = spent_moved task may.old may.spent in
       record {
         next_is = may.next_is;
         old = v;
-        live = live;
-        explicit = ap (λ (x : Task). x.implicit) same.1 ∙ may.explicit;
-        over = ap (λ (x : Task). x.progress) same.1 ∙ may.over;
-        childless = λ c j u found. on_live s.tasks k0.0 (relisted zs) (λ x. x.generating ≡ Some task → ⊥) (λ x h. h) c j (may.childless c j) u found;
+        spent = spent;
+        explicit = ap (λ (x : Task). x.implicit) same ∙ may.explicit;
       }
+
+  free_member_moved : (task : Tid) (n : Rid) (number : ℕ) → MayFreeMember s task n number
+      → MayFreeMember next task n number
+  free_member_moved task n number may =
+      let (v, spent, xs, same) = spent_moved task may.old may.spent in
+      record {
+        region = may.region;
+        ended = over_moved n may.region may.ended;
+        old = v;
+        spent = spent;
+        implicit = ap (λ (x : Task). x.implicit) same ∙ may.implicit;
+        mine = ap (λ (x : Task). x.region) same ∙ may.mine;
+        number_is = ap (λ (x : Task). x.number) same ∙ may.number_is;
+      }
+
+  free_region_moved : (region n : Rid) (number : ℕ) → MayFreeRegion s region n number
+      → MayFreeRegion next region n number
+  free_region_moved region n number may = record {
+    same = may.same;
+    old = may.old;
+    ended = over_moved region may.old may.ended;
+    all = may.all;
+    empty = none_moved (λ x. x.region ≡ region) (λ x h. h) may.empty;
+  }
 
   busy_rule : (e : Event) (y : Item) → Rule s i e y → Rule next i e y
   busy_rule event.Begin y rule = rule
@@ -288,8 +342,13 @@ module _ (s : State) (i : ℕ) (k0 : Tid) (is_current : (s.threads i).current �
   busy_rule (event.Join region) y rule =
       of_region_moved _ _
       (λ k t r h. record { mine = h.mine; implicit = h.implicit; first = h.first; ended = h.ended }) rule
-  busy_rule (event.FreeTask task) (item.Frees n) rule = of_moved _ _ (λ k t h. free_moved task n h) rule
+  busy_rule (event.FreeTask task) (item.Frees (freeable.Finished n)) rule =
+      of_moved _ _ (λ k t h. free_moved task n h) rule
+  busy_rule (event.FreeTask task) (item.Frees (freeable.Joined n number)) rule =
+      of_moved _ _ (λ k t h. free_member_moved task n number h) rule
   busy_rule (event.FreeTask task) y rule = absurd rule
+  busy_rule (event.FreeRegion region) (item.Frees (freeable.Joined n number)) rule =
+      of_moved _ _ (λ k t h. free_region_moved region n number h) rule
   busy_rule (event.FreeRegion region) y rule = absurd rule
   busy_rule (event.Seen j) y rule = of_moved _ _ (λ k t h. taken_moved t.region j h) rule
   busy_rule (event.Defer task) y rule =
@@ -351,8 +410,11 @@ module _ (s : State) (i : ℕ) (none : (s.threads i).current ≡ None) (zs : Lis
   idle_rule event.Pass y rule = absurd (no_region rule)
   idle_rule (event.ImplicitEnd task) y rule = absurd (no_region rule)
   idle_rule (event.Join region) y rule = absurd (no_region rule)
-  idle_rule (event.FreeTask task) (item.Frees n) rule = absurd (no_current rule)
+  idle_rule (event.FreeTask task) (item.Frees (freeable.Finished n)) rule = absurd (no_current rule)
+  idle_rule (event.FreeTask task) (item.Frees (freeable.Joined n number)) rule = absurd (no_current rule)
   idle_rule (event.FreeTask task) y rule = absurd rule
+  idle_rule (event.FreeRegion region) (item.Frees (freeable.Joined n number)) rule =
+      absurd (no_current rule)
   idle_rule (event.FreeRegion region) y rule = absurd rule
   idle_rule (event.Seen j) y rule = absurd (no_current rule)
   idle_rule (event.Defer task) y rule = absurd (no_current rule)
@@ -374,7 +436,7 @@ rule_moved s i e y zs rule =
 -- a state whose list has moved on has the same objects but for a list
 pub record IsRelisted (s u : State) : Type 0 where
   pub tasks : (k : Tid) (t : Task) → task_of u k ≡ Some t
-      → (v : Task) × (xs : Option Tid × List Item) × (task_of s k ≡ Some v) × (t ≡ relisted_to xs v)
+      → (v : Task) × (xs : Option Freeable × List Item) × (task_of s k ≡ Some v) × (t ≡ relisted_to xs v)
   pub regions : (n : Rid) → region_of u n ≡ region_of s n
   pub currents : (j : ℕ) → (u.threads j).current ≡ (s.threads j).current
   pub asks : (j : ℕ) → (u.threads j).asks ≡ (s.threads j).asks
@@ -382,7 +444,7 @@ pub record IsRelisted (s u : State) : Type 0 where
 pub is_relisted : (s : State) (i : ℕ) (zs : List Item) → IsRelisted s (with_list s i zs)
 is_relisted s i zs = list_moves s i zs (IsRelisted s)
     (λ k is. record {
-      tasks = λ n t e. each_on (λ m u. (v : Task) × (xs : Option Tid × List Item) × (task_of s (record { 0 = m }) ≡ Some v) × (u ≡ relisted_to xs v)) s.tasks k.0 (relisted zs)
+      tasks = λ n t e. each_on (λ m u. (v : Task) × (xs : Option Freeable × List Item) × (task_of s (record { 0 = m }) ≡ Some v) × (u ≡ relisted_to xs v)) s.tasks k.0 (relisted zs)
           (λ m u f. (u, (u.frees, u.list), f, refl)) (λ u f h. (u, (None, zs), f, refl)) n.0 t e;
       regions = λ n. refl;
       currents = λ j. refl;

@@ -7,6 +7,7 @@ use Rattle.omi_script.specs.declared.program.Program.{Program}
 use Rattle.omi_model.specs.declared.encounter.Encounter.{Encounter}
 use Rattle.omi_model.specs.declared.event.Event.{Event}
 use Rattle.omi_model.specs.declared.event.Event.TheVariants as event
+use Rattle.omi_model.specs.declared.freeable.Freeable.{Freeable}
 use Rattle.omi_model.specs.declared.id.Tid.{Tid}
 use Rattle.omi_model.specs.declared.item.Item.{Item}
 use Rattle.omi_model.specs.declared.item.Item.TheVariants as item
@@ -97,7 +98,7 @@ module _ (p : Program) (s : State) (i : ℕ) (e : Event) (next : State) (step : 
   pub m : IsMove p s i e next
   m = move_of p s i e next step
 
-  front_right : (f : Option Tid) (xs : List Item) → AreRight xs → AreRight (in_front f xs)
+  front_right : (f : Option Freeable) (xs : List Item) → AreRight xs → AreRight (in_front f xs)
   front_right None xs h = h
   front_right (Some n) xs h = (tt, h)
 

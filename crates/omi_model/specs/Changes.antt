@@ -3,6 +3,7 @@ use Rattle.std.specs.Prelude.{◌≡◌, ℕ, false, List, ◌∷◌, Option, So
 use Rattle.std.specs.Option.{option_and_then, option_map, option_map_or}
 use Rattle.omi_model.specs.declared.id.Tid.{Tid}
 use Rattle.omi_model.specs.declared.id.Rid.{Rid}
+use Rattle.omi_model.specs.declared.freeable.Freeable.{Freeable}
 use Rattle.omi_model.specs.declared.item.Item.{Item}
 use Rattle.omi_model.specs.declared.item.Item.TheVariants as item
 use Rattle.omi_model.specs.Put.{put, on}
@@ -53,10 +54,10 @@ OfCurrentRegion s i P = (k : Tid) × (t : Task) × (r : Region) × IsCurrent s i
 abbrev pub list_of : State → ℕ → List Item
 list_of s i = option_map_or (λ t. t.list) (current_task s i) (s.threads i).list
 
--- a finished task may be given back in front of a list
-abbrev pub in_front : Option Tid → List Item → List Item
+-- what may be given back stands in front of a list
+abbrev pub in_front : Option Freeable → List Item → List Item
 in_front None list = list
-in_front (Some k) list = item.Frees k ∷ list
+in_front (Some next) list = item.Frees next ∷ list
 
 -- all that a thread may go on with
 abbrev pub ahead_of : State → ℕ → List Item
@@ -64,7 +65,7 @@ ahead_of s i =
     option_map_or (λ t. in_front t.frees t.list) (current_task s i) (s.threads i).list
 
 -- the list moves on: what could be given back in front of it is passed over
-abbrev pub with_ahead : State → ℕ → Option Tid → List Item → State
+abbrev pub with_ahead : State → ℕ → Option Freeable → List Item → State
 with_ahead s i frees list =
     option_map_or (λ k. on_task s k (λ t. record t { frees = frees; list = list }))
     (s.threads i).current (on_thread s i (λ h. record h { list = list }))

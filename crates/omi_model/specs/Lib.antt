@@ -8,6 +8,7 @@ pub mod Rows
 pub mod Lists
 pub mod Opening
 pub mod Changes
+pub mod Freeing
 pub mod Teams
 pub mod Barriers
 pub mod Tasking

@@ -20,7 +20,7 @@ abbrev pub may_drop : Item → Bool
 may_drop item.Asks = true
 may_drop (item.Tasks state) = true
 may_drop item.OneTask = true
-may_drop (item.Frees task) = true
+may_drop (item.Frees next) = true
 may_drop x = false
 
 -- the event is this item's. Slots for deferred tasks are looked at in the order 0 to 3.
@@ -47,6 +47,7 @@ fits (event.Start task) (item.Tasks state) = true
 fits (event.Start task) item.OneTask = true
 fits (event.Finish task) item.Finish = true
 fits (event.FreeTask task) (item.Frees next) = true
+fits (event.FreeRegion region) (item.Frees next) = true
 fits event.WaitDone item.WaitDone = true
 fits event.Yield item.Yield = true
 fits (event.Set icv value) (item.Set v x) = icv == v && value == x

@@ -1,21 +1,23 @@
 -- The event rules: when an event of a thread is legal besides its place in the to-do list, and the state after it. What an event changes stands in the file of its concern; all else stays.
-use Rattle.std.specs.Prelude.{◌≡◌, ◌<◌, ℕ, List, Option, Some, None, ⊤}
+use Rattle.std.specs.Prelude.{◌≡◌, ◌<◌, ◌+◌, ℕ, List, Option, Some, None, ⊤}
 use Rattle.std.specs.Option.{option_and_then}
 use Rattle.omi_script.specs.declared.program.Program.{Program}
 use Rattle.omi_model.specs.declared.event.Event.{Event}
 use Rattle.omi_model.specs.declared.event.Event.TheVariants as event
+use Rattle.omi_model.specs.declared.freeable.Freeable.TheVariants as freeable
 use Rattle.omi_model.specs.declared.item.Item.{Item}
 use Rattle.omi_model.specs.declared.item.Item.TheVariants as item
 use Rattle.omi_model.specs.Barriers.{MayArrive, arrived, MayRelease, released, MayPass}
 use Rattle.omi_model.specs.Changes.{OfCurrent, OfCurrentRegion, ahead_of, by_current, by_region, with_list, encounter}
+use Rattle.omi_model.specs.Freeing.{MayFree, MayFreeMember, MayFreeRegion, above, freed, region_freed}
 use Rattle.omi_model.specs.Fresh.{IsFresh}
 use Rattle.omi_model.specs.Lists.{take_item, stays}
 use Rattle.omi_model.specs.Settings.{with_state, entered, left, with_set, with_tool, with_lock}
 use Rattle.omi_model.specs.State.{State}
-use Rattle.omi_model.specs.Tasking.{IsTaken, deferred, started_now, MayStart, started, started_alone, MayFinish, finished, MayFree, freed, AreChildrenFinished}
+use Rattle.omi_model.specs.Tasking.{IsTaken, deferred, started_now, MayStart, started, started_alone, MayFinish, finished, AreChildrenFinished}
 use Rattle.omi_model.specs.Teams.{MayBegin, begun, MayOffer, offered, wanted_size, wanting, MayAsk, asked, MayFork, forked, MayBeginTask, task_begun, MayEnd, task_ended, MayJoin, joined}
 
--- What has to hold for an event of a thread that takes an item. An event without a rule is never legal: the record of a region is not given back.
+-- What has to hold for an event of a thread that takes an item.
 abbrev pub Rule : State → ℕ → Event → Item → Type 0
 Rule s i event.Begin x = MayBegin (s.threads i)
 Rule s i event.Offer x = MayOffer (s.threads i)
@@ -32,8 +34,13 @@ Rule s i event.Release x = OfCurrentRegion s i (λ k t r. MayRelease s t r)
 Rule s i event.Pass x = OfCurrentRegion s i (λ k t r. MayPass t r)
 Rule s i (event.ImplicitEnd task) x = OfCurrentRegion s i (λ k t r. MayEnd task k t)
 Rule s i (event.Join region) x = OfCurrentRegion s i (λ k t r. MayJoin region t r)
-Rule s i (event.FreeTask task) (item.Frees next) = OfCurrent s i (λ k t. MayFree s task next)
+Rule s i (event.FreeTask task) (item.Frees (freeable.Finished next)) =
+    OfCurrent s i (λ k t. MayFree s task next)
+Rule s i (event.FreeTask task) (item.Frees (freeable.Joined n number)) =
+    OfCurrent s i (λ k t. MayFreeMember s task n number)
 Rule s i (event.FreeTask task) x = ⊥
+Rule s i (event.FreeRegion region) (item.Frees (freeable.Joined n number)) =
+    OfCurrent s i (λ k t. MayFreeRegion s region n number)
 Rule s i (event.FreeRegion region) x = ⊥
 Rule s i (event.Seen j) x = OfCurrent s i (λ k t. IsTaken s i t.region j)
 Rule s i (event.Defer task) x = OfCurrent s i (λ k t. IsFresh s.tasks i task.0)
@@ -69,7 +76,13 @@ effect p s i event.Release x = by_current s i (λ k t. released s t)
 effect p s i event.Pass x = Some s
 effect p s i (event.ImplicitEnd task) x = by_current s i (task_ended s i)
 effect p s i (event.Join region) x = by_region s i (joined s i)
-effect p s i (event.FreeTask task) x = by_current s i (freed s task)
+effect p s i (event.FreeTask task) (item.Frees (freeable.Finished next)) =
+    by_current s i (freed s task (above s task))
+effect p s i (event.FreeTask task) (item.Frees (freeable.Joined n number)) =
+    by_current s i (freed s task (Some (freeable.Joined n (number + 1))))
+effect p s i (event.FreeTask task) x = None
+effect p s i (event.FreeRegion region) (item.Frees (freeable.Joined n number)) =
+    Some (region_freed s region)
 effect p s i (event.FreeRegion region) x = None
 effect p s i (event.Seen j) x = Some s
 effect p s i (event.Defer task) (item.Defer seen f final) =

@@ -3,13 +3,15 @@ use Rattle.std.specs.Prelude.{◌≡◌, ◌≢◌, ◌==◌, ◌⊎◌, ◌<◌
 use Rattle.std.specs.List.{filter_map}
 use Rattle.omi_script.specs.declared.program.Program.{Program}
 use Rattle.omi_model.specs.declared.claim.Claim.TheVariants as claim
+use Rattle.omi_model.specs.declared.freeable.Freeable.TheVariants as freeable
 use Rattle.omi_model.specs.declared.id.Rid.{Rid}
 use Rattle.omi_model.specs.declared.id.Tid.{Tid}
 use Rattle.omi_model.specs.declared.progress.Progress.TheVariants.{NotBegun, Begun, Finished}
 use Rattle.omi_model.specs.Changes.{on_thread, on_task, on_region, with_current}
 use Rattle.omi_model.specs.Fresh.{IsFresh, AreDistinct}
 use Rattle.omi_numbers.specs.Addresses.{exit_frame, exit_below}
-use Rattle.omi_model.specs.Put.{Slots, made}
+use Rattle.omi_model.specs.Freeing.{freeing}
+use Rattle.omi_model.specs.Put.{Slots, made, on}
 use Rattle.omi_model.specs.Rows.{member_items}
 use Rattle.omi_model.specs.State.{State, task_of}
 use Rattle.omi_model.specs.declared.thread.Thread.{Thread}
@@ -187,10 +189,12 @@ pub record MayJoin (region : Rid) (t : Task) (r : Region) : Type 0 where
   pub first : t.number ≡ 0
   pub ended : All (λ b. b ≡ true) (drop 1 r.ended)
 
--- the region is over, and its encountering task goes on
+-- the region is over, and its encountering task goes on: the region may be given back
 abbrev pub joined : State → ℕ → Tid → Task → Region → State
 joined s i k t r =
     with_current
-    (on_region (on_task s k (λ u. record u { progress = Finished })) t.region
-    (λ n. record n { joined = true }))
+    (record (on_region s t.region (λ n. record n { joined = true })) {
+      tasks = freeing (Some (freeable.Joined t.region 0)) r.encountering
+          (on s.tasks k.0 (λ u. record u { progress = Finished }));
+    })
     i r.encountering

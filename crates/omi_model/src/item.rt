@@ -1,6 +1,6 @@
 //! What a task, or a worker without a task, still has to do.
 
-use crate::Tid;
+use crate::Freeable;
 use omi_script::Stmt;
 
 /// One item of a to-do list. Most stand for one event; a statement stands for the row of events that replaces it.
@@ -39,8 +39,8 @@ pub enum Item {
     /// A task over `f` starts at once.
     StartNow { f: u8, is_final: bool },
     Finish,
-    /// The task that has just finished is given back, and then those above it along the chain of generating tasks.
-    Frees { task: Tid },
+    /// What has just finished or was joined is given back.
+    Frees { next: Freeable },
     WaitDone,
     /// At most one deferred task starts.
     OneTask,

@@ -5,6 +5,7 @@
 mod claim;
 mod encounter;
 mod event;
+mod freeable;
 mod id;
 mod item;
 mod item_list;
@@ -24,6 +25,7 @@ mod view;
 pub use claim::Claim;
 pub use encounter::Encounter;
 pub use event::Event;
+pub use freeable::Freeable;
 pub use id::{Id, Rid, Tid};
 pub use item::Item;
 pub use item_list::ItemList;

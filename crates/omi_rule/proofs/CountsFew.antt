@@ -9,7 +9,7 @@ use Rattle.omi_layout.specs.Field.{tasks}
 use Rattle.omi_layout.specs.Table.{per_thread, thread_count}
 use Rattle.omi_layout.specs.Valid.{IsValid}
 use Rattle.omi_layout.proofs.Arenas.{tasks_of_valid, threads_of_valid}
-use Rattle.omi_rule_words.specs.Counts.{children_owed, generating_of, is_region, is_some_region, is_some_task, is_unfinished, of_live, one, pending_owed, sum_below, sum_of_owed, sum_of_slots, unfinished_children, unfinished_in}
+use Rattle.omi_rule_words.specs.Counts.{children_owed, is_explicit, live_children, own_reference, references_owed, generating_of, is_region, is_some_region, is_some_task, is_unfinished, of_live, one, pending_owed, sum_below, sum_of_owed, sum_of_slots, unfinished_children, unfinished_in}
 use Rattle.omi_rule_words.specs.Owes.{Owed}
 
 one_few : (b : Bool) → one b ≤ 1
@@ -55,6 +55,14 @@ module _ (w : List ℕ) (s : State) (valid : IsValid w) (same : s.count ≡ thre
       owed_few owes (children_owed s k)
       (λ o. let first = one_few (is_some_task k o.raised) in let second = one_few (is_some_task k (option_and_then (generating_of s) o.lowered)) in omega (arith, first, second)) in
       omega (arith, live, owed)
+
+  pub references_few : (owes : ℕ → Owed) (k : Tid) (t : Task)
+      → own_reference t + (live_children w s k + sum_of_owed s owes (references_owed k)) ≤ 1 + (4096 * 64 + 2 * 64)
+  references_few owes k t =
+      let own = one_few (is_explicit t) in
+      let live = slots_few (λ t. is_explicit t && is_some_task k t.generating) in
+      let owed = owed_few owes (references_owed k) (λ o. let first = one_few (is_some_task k o.referred) in omega (arith, first)) in
+      omega (arith, own, live, owed)
 
   pub pending_few : (owes : ℕ → Owed) (n : Rid)
       → unfinished_in w s n + sum_of_owed s owes (pending_owed n) ≤ 4096 * 64 + 2 * 64

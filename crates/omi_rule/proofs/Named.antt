@@ -18,7 +18,7 @@ use Rattle.omi_model.specs.Rules.{effect}
 use Rattle.omi_model.specs.State.{State, task_of}
 use Rattle.omi_model.specs.Teams.{member_task, with_members}
 use Rattle.omi_model.proofs.EachObject.{over_events}
-use Rattle.omi_model.proofs.SlotEffects.{OfSlots, slots_effect}
+use Rattle.omi_model.proofs.SlotEffects.{OfSlots, over_freeing, slots_effect}
 use Rattle.omi_model.proofs.Slots.{each_slot, none_some, gone_generations, gone_live}
 use Rattle.omi_model.proofs.Steps.{from_some, list_moves, move_of, moved_on}
 use Rattle.omi_rep.specs.Shows.{LiveAreNamed}
@@ -86,7 +86,11 @@ module _ (p : Program) (z : State) (i : ℕ) (all : AllCounted z) where
     arrives = λ k t is. (by_region t.region _, all.1);
     releases = λ k t r is found may. (by_region t.region _, all.1);
     ends = λ task k t is. (by_region t.region _, by_task k _);
-    joins = λ region k t r is. (by_region t.region _, by_task k _);
+    joins = λ region k t r is. (
+      by_region t.region _,
+      over_freeing AreCounted (λ slots n f h. counted_on slots n.0 f h) _ r.encountering (on z.tasks k.0 _) (by_task k _),
+    );
+    frees_region = λ region n number may. (counted_gone z.regions region.0 all.0, all.1);
   }
 
   list_counted : (zs : List Item) → AllCounted (with_list z i zs)

@@ -1,5 +1,5 @@
 -- What an event that gives no record back leaves: names that were made are not made again, and explicit tasks that have finished live on.
-use Rattle.std.proofs.Common.{◌≡◌, ℕ, Bool, true, false, Some, refl}
+use Rattle.std.proofs.Common.{◌≡◌, ℕ, false, Some}
 use Rattle.omi_script.specs.declared.program.Program.{Program}
 use Rattle.omi_model.specs.declared.event.Event.{Event}
 use Rattle.omi_model.specs.declared.id.Tid.{Tid}

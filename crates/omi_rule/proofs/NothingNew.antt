@@ -13,7 +13,7 @@ use Rattle.omi_model.specs.Put.{Slots, found, on, gone}
 use Rattle.omi_model.specs.Reached.{Step}
 use Rattle.omi_model.specs.Rules.{effect}
 use Rattle.omi_model.specs.State.{State}
-use Rattle.omi_model.proofs.SlotEffects.{OfSlots, slots_effect}
+use Rattle.omi_model.proofs.SlotEffects.{OfSlots, over_freeing, slots_effect}
 use Rattle.omi_model.proofs.Slots.{none_some, on_empty, on_generations, gone_generations, gone_live}
 use Rattle.omi_model.proofs.Steps.{from_some, list_moves, move_of, moved_on}
 use Rattle.omi_layout.specs.Table.{per_thread, thread_count}
@@ -80,7 +80,12 @@ module _ (z : State) (i : ℕ) where
     arrives = λ k t is not. (none_on z.regions t.region.0 _, none_same z.tasks);
     releases = λ k t r is found may not. (none_on z.regions t.region.0 _, none_same z.tasks);
     ends = λ task k t is not. (none_on z.regions t.region.0 _, none_on z.tasks k.0 _);
-    joins = λ region k t r is not. (none_on z.regions t.region.0 _, none_on z.tasks k.0 _);
+    joins = λ region k t r is not. (
+      none_on z.regions t.region.0 _,
+      over_freeing (IsNoneNew z.tasks) (λ slots n f h. none_trans z.tasks slots (on slots n.0 f) h (none_on slots n.0 f)) _
+          r.encountering (on z.tasks k.0 _) (none_on z.tasks k.0 _),
+    );
+    frees_region = λ region n number may not. (none_gone z.regions region.0, none_same z.tasks);
   }
 
   pub list_new : (zs : List Item) → NothingNew z (with_list z i zs)

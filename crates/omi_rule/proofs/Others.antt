@@ -1,5 +1,5 @@
 -- What an event of a thread leaves to the other threads: their parts of the state, and the tasks that run on them.
-use Rattle.std.proofs.Common.{◌≡◌, ◌≢◌, ◌+◌, ℕ, ◌⊎◌, inl, inr, ◌++◌, Bool, true, false, List, [], ◌∷◌, slice_get, slice_index, slice_set, Option, Some, refl, sym, ap, ◌∙◌, subst, None}
+use Rattle.std.proofs.Common.{◌≡◌, ◌≢◌, ◌+◌, ℕ, ◌⊎◌, inl, inr, ◌++◌, Bool, true, false, List, [], ◌∷◌, slice_get, slice_index, slice_set, Option, Some, if◌then◌else◌, ◌==◌, refl, sym, ap, ◌∙◌, subst, None}
 use Rattle.std.specs.Prelude.{IfSome, ⊤}
 use Rattle.std.specs.Option.{option_map}
 use Rattle.std.proofs.lemmas.List.{get_or-set_other}
@@ -8,6 +8,8 @@ use Rattle.omi_model.specs.declared.slot.Slot.{Slot}
 use Rattle.omi_script.specs.declared.program.Program.{Program}
 use Rattle.omi_model.specs.declared.event.Event.{Event}
 use Rattle.omi_model.specs.declared.event.Event.TheVariants as event
+use Rattle.omi_model.specs.declared.freeable.Freeable.{Freeable}
+use Rattle.omi_model.specs.declared.freeable.Freeable.TheVariants as freeable
 use Rattle.omi_model.specs.declared.id.Id.{Id}
 use Rattle.omi_model.specs.declared.id.Rid.{Rid}
 use Rattle.omi_model.specs.declared.id.Tid.{Tid}
@@ -19,6 +21,7 @@ use Rattle.omi_model.specs.declared.task.Task.{Task}
 use Rattle.omi_model.specs.declared.thread.Thread.{Thread}
 use Rattle.omi_model.specs.Barriers.{arrived, released}
 use Rattle.omi_model.specs.Changes.{IsCurrent, on_region, on_task, with_list}
+use Rattle.omi_model.specs.Freeing.{freed, freeing}
 use Rattle.omi_model.specs.Fresh.{IsFresh}
 use Rattle.omi_model.specs.LawChains.{IsChain}
 use Rattle.omi_model.specs.Put.{Slots, made, named, on, put}
@@ -26,15 +29,16 @@ use Rattle.omi_model.specs.Reached.{Reached, Step}
 use Rattle.omi_model.specs.Rules.{Rule, effect}
 use Rattle.omi_model.specs.Settings.{entered, left, with_tool}
 use Rattle.omi_model.specs.State.{State, region_of, task_of}
-use Rattle.omi_model.specs.Tasking.{MayFinish, MayStart, deferred, deferred_task, finished, freed, freeing, scheduled, started, started_alone, started_now}
-use Rattle.omi_model.specs.Teams.{MayFork, forked, joined, member_task, new_region, task_ended, with_members}
+use Rattle.omi_model.specs.Tasking.{MayFinish, MayStart, deferred, deferred_task, finished, scheduled, started, started_alone, started_now}
+use Rattle.omi_model.specs.Teams.{MayFork, MayJoin, forked, joined, member_task, new_region, task_ended, with_members}
 use Rattle.omi_model.proofs.ChainsKept.{have_chains}
+use Rattle.omi_model.proofs.EachObject.{IsGoingOn}
 use Rattle.omi_model.proofs.members.EncounterLaws.{encounters}
 use Rattle.omi_model.proofs.MembersKnown.{members_known}
 use Rattle.omi_rule.specs.LeavesOthers.{EventsLeaveOthers, IsSameForOthers, IsSameThread, LeavesOthers}
-use Rattle.omi_model.proofs.Slots.{each_put, made_beside, made_stays, none_some, on_other, on_same, put_other, same_or_not, some_same}
+use Rattle.omi_model.proofs.Slots.{each_on, each_put, made_beside, made_stays, none_some, on_other, on_same, put_other, same_or_not, some_same}
 use Rattle.omi_model.proofs.StaysKept.{AreNew, fresh_empty, new_team}
-use Rattle.omi_model.proofs.Steps.{from_some, is_relisted, list_moves, move_of, moved_on, of_current, of_current_region, of_region, of_set, on_fresh, relisted}
+use Rattle.omi_model.proofs.Steps.{from_some, is_relisted, list_moves, move_of, moved_on, of_current, of_current_region, of_region, of_set, on_fresh, relisted, relisted_to}
 use Rattle.omi_model.specs.LawStays.{is_free}
 use Rattle.omi_model.proofs.Chains.{top_of}
 
@@ -73,12 +77,12 @@ leaves_trans s t u i a b = record {
 
 -- ---- what is known of the thread's own
 
--- the current task of a thread runs on it, and the member with the number of that task does
+-- the current task of a thread runs on it, the member with the number of that task does, and the task that goes on where it ends
 pub record KnowsOwn (z : State) (i : ℕ) : Type 0 where
   pub thread : (k : Tid) (t : Task) → IsCurrent z i k t → t.thread ≡ i
   pub member : (k : Tid) (t : Task) (r : Region) → IsCurrent z i k t → region_of z t.region ≡ Some r
       → (m : Tid × ℕ) × (slice_get r.team t.number ≡ Some m) × (m.1 ≡ i)
-  pub scheduling : (k : Tid) (t : Task) → IsCurrent z i k t → (n : Tid) (u : Task) → t.scheduling ≡ Some n
+  pub goes_on : (k : Tid) (t : Task) → IsCurrent z i k t → (n : Tid) (u : Task) → IsGoingOn z t n
       → task_of z n ≡ Some u → u.thread ≡ i
 
 -- ---- changes
@@ -328,34 +332,42 @@ module _ (z : State) (i : ℕ) (knows : KnowsOwn z i) where
     tasks_fresh = λ j n other fresh. fresh;
   }
 
-  -- a task finishes, and it may be given back in front of all that the task has ahead from which it was scheduled
-  by_finish : (k : Tid) (t : Task) → IsCurrent z i k t → LeavesOthers z (finished z i k t) i
-  by_finish k t is = go t.scheduling refl
-    where
-      over : Slots Task
-      over = on z.tasks k.0 (λ u. record u { progress = Finished })
+  -- where the current task ends, the thread goes on with another task of its own, in front of whose list something may be given back
+  by_end : (k : Tid) (t : Task) → IsCurrent z i k t → (u : State) → LeavesOthers z u i
+      → ((n : Tid) (v : Task) → task_of u n ≡ Some v → (x : Task) × (task_of z n ≡ Some x) × (v.thread ≡ x.thread))
+      → (next : Option Freeable) (o : Option Tid) → ((n : Tid) → o ≡ Some n → IsGoingOn z t n)
+      → LeavesOthers z (record u { tasks = freeing next o u.tasks }) i
+  by_end k t is u first was next None on = first
+  by_end k t is u first was next (Some m) on = leaves_trans z u _ i first (record {
+    environment = refl;
+    count = refl;
+    threads = threads_same u i;
+    tasks = task_on u i m (λ v. record v { frees = next })
+        (λ v there. let (x, live, same) = was m v there in inl (same ∙ knows.goes_on k t is m x (on m refl) live));
+    regions = regions_same u i;
+    regions_fresh = λ j n other fresh. fresh;
+    tasks_fresh = λ j n other fresh. on_fresh u.tasks m.0 (λ v. record v { frees = next }) j n fresh;
+  })
 
-      go : (o : Option Tid) → t.scheduling ≡ o
-          → LeavesOthers z (record z { tasks = freeing (Some k) o over; threads = put z.threads i (record (z.threads i) { current = t.scheduling }) }) i
-      go None none = by_task_and_thread k (λ u. record u { progress = Finished }) _ (own_task z i k t is knows)
-      go (Some m) from = record {
-        environment = refl;
-        count = refl;
-        threads = thread_put z i _;
-        tasks = λ n u live other begun. beside n u live other begun (same_or_not n.0 m.0);
-        regions = regions_same z i;
-        regions_fresh = λ j n other fresh. fresh;
-        tasks_fresh = λ j n other fresh. on_fresh over m.0 (λ u. record u { frees = Some k }) j n (on_fresh z.tasks k.0 (λ u. record u { progress = Finished }) j n fresh);
-      }
-        where
-          beside : (n : Tid) (u : Task) → task_of z n ≡ Some u → u.thread ≢ i → (u.progress ≡ Deferred → ⊥)
-              → (n.0 ≡ m.0) ⊎ (n.0 ≡ m.0 → ⊥)
-              → named (on over m.0 (λ u. record u { frees = Some k })) n.0 ≡ Some u
-          beside n u live other begun (inl same) =
-              absurd (other (knows.scheduling k t is m u from (ap (named z.tasks) (sym same) ∙ live)))
-          beside n u live other begun (inr ne) =
-              on_other over m.0 (λ u. record u { frees = Some k }) n.0 ne
-              ∙ task_on z i k (λ u. record u { progress = Finished }) (own_task z i k t is knows) n u live other begun
+  -- a task that finishes runs where it ran
+  finished_was : (k n : Tid) (v : Task) → named (on z.tasks k.0 (λ u. record u { progress = Finished })) n.0 ≡ Some v
+      → (x : Task) × (task_of z n ≡ Some x) × (v.thread ≡ x.thread)
+  finished_was k n v live =
+      each_on (λ m y. (x : Task) × (named z.tasks m ≡ Some x) × (y.thread ≡ x.thread)) z.tasks k.0
+      (λ u. record u { progress = Finished }) (λ m y e. (y, e, refl)) (λ y e h. h) n.0 v live
+
+  by_finish : (k : Tid) (t : Task) → IsCurrent z i k t → LeavesOthers z (finished z i k t) i
+  by_finish k t is =
+      by_end k t is _ (by_task_and_thread k (λ u. record u { progress = Finished }) _ (own_task z i k t is knows))
+      (finished_was k) (Some (freeable.Finished k)) t.scheduling (λ n from. inl from)
+
+  by_join : (k : Tid) (t : Task) (r : Region) → IsCurrent z i k t → region_of z t.region ≡ Some r
+      → t.implicit ≡ true → t.number ≡ 0 → LeavesOthers z (joined z i k t r) i
+  by_join k t r is found im first =
+      by_end k t is _
+      (by_all k (λ u. record u { progress = Finished }) t.region (λ q. record q { joined = true }) _ (own_task z i k t is knows) (λ q live. joins q))
+      (finished_was k) (Some (freeable.Joined t.region 0)) r.encountering
+      (λ n from. inr (r, found, im, first, from))
 
   effect_leaves : (p : Program) (e : Event) (y : Item) → is_free e ≡ false → Rule z i e y → IfSome (effect p z i e y) of_leaves
   effect_leaves p event.Begin y held rule = by_thread _
@@ -407,10 +419,10 @@ module _ (z : State) (i : ℕ) (knows : KnowsOwn z i) where
       of_current_region z i (task_ended z i) of_leaves _ rule
       (λ k t r is found h. by_all k _ t.region _ _ (own_task z i k t is knows) (λ q live. ends t q))
   effect_leaves p (event.Join region) y held rule =
-      of_region z i (joined z i) of_leaves _ rule
-      (λ k t r is found h. by_all k _ t.region _ _ (own_task z i k t is knows) (λ q live. joins q))
+      of_region z i (joined z i) of_leaves (λ k t r. MayJoin region t r) rule
+      (λ k t r is found h. by_join k t r is found h.implicit h.first)
   effect_leaves p (event.FreeTask task) y held rule = absurd (cc held)
-  effect_leaves p (event.FreeRegion region) y held rule = tt
+  effect_leaves p (event.FreeRegion region) y held rule = absurd (cc held)
   effect_leaves p (event.Seen j) y held rule = unchanged
   effect_leaves p (event.Defer task) (item.Defer seen f final) held rule =
       of_current z i (deferred p z task f final seen) of_leaves (λ k t. IsFresh z.tasks i task.0) rule
@@ -481,12 +493,18 @@ knows_moved s i zs knows =
           let (m, at, runs) =
           knows.member k v r (record { name = sym (o.currents i) ∙ is.name; live = live }) there in
           (m, subst (λ (u : Task). slice_get r.team u.number ≡ Some m) (sym same) at, runs);
-      scheduling = λ k t is n u from there.
+      goes_on = λ k t is n u from there.
           let (v, xs, live, same) = o.tasks k t is.live in
           let (w, ys, was, alike) = o.tasks n u there in
           ap (λ (x : Task). x.thread) alike
-          ∙ knows.scheduling k v (record { name = sym (o.currents i) ∙ is.name; live = live }) n w (ap (λ (x : Task). x.scheduling) (sym same) ∙ from) was;
+          ∙ knows.goes_on k v (record { name = sym (o.currents i) ∙ is.name; live = live }) n w (goes_before t v same n from) was;
     }
+  where
+    goes_before : (t v : Task) {xs : Option Freeable × List Item} → t ≡ relisted_to xs v → (n : Tid)
+        → IsGoingOn (with_list s i zs) t n → IsGoingOn s v n
+    goes_before t v same n (inl from) = inl (ap (λ (x : Task). x.scheduling) (sym same) ∙ from)
+    goes_before t v same n (inr (r, found, im, first, from)) =
+        inr (r, ap (λ (x : Task). region_of s x.region) (sym same) ∙ (sym ((is_relisted s i zs).regions t.region) ∙ found), ap (λ (x : Task). x.implicit) (sym same) ∙ im, ap (λ (x : Task). x.number) (sym same) ∙ first, from)
 
 pub step_leaves : (p : Program) (s : State) (i : ℕ) (e : Event) (next : State) → is_free e ≡ false → KnowsOwn s i
     → Step p s i e next → LeavesOthers s next i
@@ -504,9 +522,16 @@ pub known_own : (p : Program) (events : List (ℕ × Event)) (s : State) → Rea
 known_own p events s reached i = record {
   thread = λ k t is. let (ks, chain) = have_chains p events s reached i in on_chain k t is ks chain;
   member = λ k t r is found. member k t r is found t.implicit refl;
-  scheduling = λ k t is n u from there. let (ks, chain) = have_chains p events s reached i in below k t is n u from there ks chain;
+  goes_on = λ k t is n u from there. let (ks, chain) = have_chains p events s reached i in below k t is n u (scheduled_from k t is n from) there ks chain;
 }
   where
+    -- member 0 was scheduled from the task that encountered its region
+    scheduled_from : (k : Tid) (t : Task) → IsCurrent s i k t → (n : Tid) → IsGoingOn s t n → t.scheduling ≡ Some n
+    scheduled_from k t is n (inl from) = from
+    scheduled_from k t is n (inr (r, found, im, first, from)) =
+        ((members_known p events s reached).encountered k t is.live).scheduling im r found
+        ∙ (ap (λ j. if j == 0 then r.encountering else None) first ∙ from)
+
     below : (k : Tid) (t : Task) → IsCurrent s i k t → (n : Tid) (u : Task) → t.scheduling ≡ Some n
         → task_of s n ≡ Some u → (ks : List Tid) → IsChain s i (s.threads i).current ks → u.thread ≡ i
     below k t is n u from there ks chain =
@@ -569,8 +594,11 @@ step_environment p events s reached i e next step =
 
     of_event : (z : State) → KnowsOwn z i → (e : Event) (y : Item) → Rule z i e y
         → IfSome (effect p z i e y) (λ u. u.environment ≡ z.environment)
-    of_event z knows (event.FreeTask task) (item.Frees n) rule =
-        of_current z i (freed z task) (λ u. u.environment ≡ z.environment) _ rule (λ k t is h. refl)
-    of_event z knows (event.FreeTask task) y rule = absurd rule
+    of_event z knows (event.FreeTask task) (item.Frees (freeable.Finished n)) rule =
+        of_current z i (freed z task _) (λ u. u.environment ≡ z.environment) _ rule (λ k t is h. refl)
+    of_event z knows (event.FreeTask task) (item.Frees (freeable.Joined n number)) rule =
+        of_current z i (freed z task _) (λ u. u.environment ≡ z.environment) _ rule (λ k t is h. refl)
+    of_event z knows (event.FreeTask task) y rule = tt
+    of_event z knows (event.FreeRegion region) (item.Frees (freeable.Joined n number)) rule = refl
     of_event z knows (event.FreeRegion region) y rule = tt
     of_event z knows e y rule = go z (effect p z i e y) (effect_leaves z i knows p e y refl rule)

@@ -3,6 +3,7 @@ use Rattle.std.proofs.Common.{◌≡◌, ℕ, ◌⊎◌, inl, inr, Bool, true, f
 use mathlib.Core.Path.{fun_ext}
 use Rattle.std.specs.Prelude.{IsSome, MatchBool}
 use Rattle.std.specs.Option.{option_and_then, option_map}
+use Rattle.omi_model.specs.declared.freeable.Freeable.{Freeable}
 use Rattle.omi_model.specs.declared.id.Rid.{Rid}
 use Rattle.omi_model.specs.declared.id.Tid.{Tid}
 use Rattle.omi_model.specs.declared.item.Item.{Item}
@@ -35,16 +36,16 @@ module _ (s : State) (k : Tid) (zs : List Item) where
       go (inr other) = inl (on_other s.tasks k.0 (relisted zs) n.0 other)
 
   later : (n : Tid) (t : Task) → task_of s n ≡ Some t
-      → (xs : Option Tid × List Item) × (task_of u n ≡ Some (relisted_to xs t))
+      → (xs : Option Freeable × List Item) × (task_of u n ≡ Some (relisted_to xs t))
   later n t live = go (same_but_lists n)
     where
       go : (task_of u n ≡ task_of s n) ⊎ (task_of u n ≡ option_map (relisted zs) (task_of s n))
-          → (xs : Option Tid × List Item) × (task_of u n ≡ Some (relisted_to xs t))
+          → (xs : Option Freeable × List Item) × (task_of u n ≡ Some (relisted_to xs t))
       go (inl same) = ((t.frees, t.list), same ∙ live)
       go (inr moved) = ((None, zs), moved ∙ ap (option_map (relisted zs)) live)
 
   earlier : (n : Tid) (v : Task) → task_of u n ≡ Some v
-      → (t : Task) × (xs : Option Tid × List Item) × (task_of s n ≡ Some t) × (v ≡ relisted_to xs t)
+      → (t : Task) × (xs : Option Freeable × List Item) × (task_of s n ≡ Some t) × (v ≡ relisted_to xs t)
   earlier n v live = by (task_of s n) refl
     where
       gone : task_of s n ≡ None
@@ -53,7 +54,7 @@ module _ (s : State) (k : Tid) (zs : List Item) where
       gone e (inr moved) = cc (sym live ∙ moved ∙ ap (option_map (relisted zs)) e)
 
       by : (o : Option Task) → task_of s n ≡ o
-          → (t : Task) × (xs : Option Tid × List Item) × (task_of s n ≡ Some t) × (v ≡ relisted_to xs t)
+          → (t : Task) × (xs : Option Freeable × List Item) × (task_of s n ≡ Some t) × (v ≡ relisted_to xs t)
       by (Some t) e = let (xs, now) = later n t e in (t, xs, e, some_same live now)
       by None e = absurd (gone e (same_but_lists n))
 
@@ -92,7 +93,7 @@ module _ (s : State) (k : Tid) (zs : List Item) where
       record { task = relisted_to xs seen.task; live = now; shown = shown_as s u region_later seen.task.implicit seen.task.region (HasStarted seen.task.progress) seen.shown }
 
   task_earlier : (n : Tid) (seen : IsVisibleTask u n)
-      → (was : IsVisibleTask s n) × (xs : Option Tid × List Item) × (seen.task ≡ relisted_to xs was.task)
+      → (was : IsVisibleTask s n) × (xs : Option Freeable × List Item) × (seen.task ≡ relisted_to xs was.task)
   task_earlier n seen =
       let (t, xs, was, same) = earlier n seen.task seen.live in
       (record { task = t; live = was; shown = shown_as u s region_earlier t.implicit t.region (HasStarted t.progress) (subst (λ (x : Task). MatchBool x.implicit (IsVisibleRegion u x.region) (HasStarted x.progress)) same seen.shown) }, xs, same)

@@ -13,13 +13,13 @@ use Rattle.omi_model.specs.declared.task.Task.{Task}
 use Rattle.omi_model.specs.Changes.{with_list}
 use Rattle.omi_model.specs.Fresh.{IsFresh}
 use Rattle.omi_model.specs.Opening.{opening, opening_region, opening_task}
-use Rattle.omi_model.specs.Put.{Slots, first_alone, made, on, unused}
+use Rattle.omi_model.specs.Put.{Slots, first_alone, gone, made, on, unused}
 use Rattle.omi_model.specs.Reached.{Reached, Step}
 use Rattle.omi_model.specs.Rules.{Rule, effect}
 use Rattle.omi_model.specs.State.{State}
 use Rattle.omi_model.specs.Teams.{member_task, with_members}
 use Rattle.omi_model.proofs.EachObject.{over_events}
-use Rattle.omi_model.proofs.SlotEffects.{OfSlots, slots_effect}
+use Rattle.omi_model.proofs.SlotEffects.{OfSlots, over_freeing, slots_effect}
 use Rattle.omi_model.proofs.Slots.{each_slot, on_generations, gone_generations}
 use Rattle.omi_model.proofs.Steps.{from_some, list_moves, move_of, moved_on}
 use Rattle.omi_rule_words.proofs.MadeMembers.{all_at}
@@ -58,6 +58,9 @@ few_first {A} x c k = go (c == 0 && k == 0)
 abbrev AllFew : State → Type 0
 AllFew u = AreFew u.regions × AreFew u.tasks
 
+few_gone : {A : Type 0} (slots : Slots A) (n : Id) → AreFew slots → AreFew (gone slots n)
+few_gone {A} slots n all c k = subst (λ g. g ≤ 2 ^ 32) (sym (gone_generations slots n c k)) (all c k)
+
 -- an event that makes a task makes one of a generation that there is
 abbrev MakesBelow : Event → Type 0
 MakesBelow (event.Defer task) = task.0.generation < 2 ^ 32
@@ -80,7 +83,7 @@ module _ (p : Program) (z : State) (i : ℕ) (all : AllFew z) where
   effect_few = record {
     stays = λ e same below. all;
     tasks = λ e same slots q n f below. (all.0, few_on slots n.0 f (q below).1);
-    frees = λ task below. (all.0, λ c k. subst (λ g. g ≤ 2 ^ 32) (sym (gone_generations z.tasks task.0 c k)) (all.1 c k));
+    frees = λ task below. (all.0, few_gone z.tasks task.0 all.1);
     defers = λ task x fresh below. (all.0, few_made z.tasks task.0 x below all.1);
     starts_now = λ task x fresh below. (all.0, few_made z.tasks task.0 x below all.1);
     forks = λ region team f k t r may below. (
@@ -90,7 +93,11 @@ module _ (p : Program) (z : State) (i : ℕ) (all : AllFew z) where
     arrives = λ k t is below. (by_region t.region _, all.1);
     releases = λ k t r is found may below. (by_region t.region _, all.1);
     ends = λ task k t is below. (by_region t.region _, by_task k _);
-    joins = λ region k t r is below. (by_region t.region _, by_task k _);
+    joins = λ region k t r is below. (
+      by_region t.region _,
+      over_freeing AreFew (λ slots n f h. few_on slots n.0 f h) _ r.encountering (on z.tasks k.0 _) (by_task k _),
+    );
+    frees_region = λ region n number may below. (few_gone z.regions region.0 all.0, all.1);
   }
 
   list_few : (zs : List Item) → AllFew (with_list z i zs)

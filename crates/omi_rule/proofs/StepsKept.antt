@@ -29,7 +29,7 @@ module _ (p : Program) (w : List ℕ) (m : Memory) (events : List (ℕ × Event)
   by_family (counter.Team c) at kept = team_keeps p w m events s actors i before c at
   by_family (counter.Barrier c) at kept = barrier_keeps p w m events s actors i before c at
   by_family (counter.Join c) at kept = join_steps_keep p w m events s actors i before c kept at
-  by_family (counter.Task c) at kept = task_keeps p w m events s actors i before c kept at
+  by_family (counter.Task c) at kept = task_keeps p w m events s actors i before c at
   by_family (counter.Look c) at kept = look_keeps p w m events s actors i before c at
   by_family (counter.Finish c) at kept = finish_steps_keep p w m events s actors i before c kept at
   by_family (counter.Plain c) at kept = plain_keeps p w m events s actors i before c at

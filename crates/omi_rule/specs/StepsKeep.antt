@@ -11,8 +11,6 @@ use Rattle.omi_pc.specs.declared.counter.Counter.{Counter}
 use Rattle.omi_pc.specs.declared.counter.Counter.TheVariants as counter
 use Rattle.omi_pc.specs.declared.task_counter.FinishCounter.{FinishCounter}
 use Rattle.omi_pc.specs.declared.task_counter.FinishCounter.TheVariants as finish
-use Rattle.omi_pc.specs.declared.task_counter.TaskCounter.{TaskCounter}
-use Rattle.omi_pc.specs.declared.task_counter.TaskCounter.TheVariants as task
 use Rattle.omi_pc.specs.declared.team_counter.JoinCounter.{JoinCounter}
 use Rattle.omi_pc.specs.declared.team_counter.JoinCounter.TheVariants as join
 use Rattle.omi_rep.specs.Suits.{Suits}
@@ -25,11 +23,6 @@ abbrev pub IsJoinKept : JoinCounter → Type 0
 IsJoinKept join.LoadLeft = Unit {0}
 IsJoinKept join.Join = Unit {0}
 IsJoinKept c = ⊥
-
--- the steps of a `task` construct but for the raise of references, to which no step leads yet
-abbrev pub IsTaskKept : TaskCounter → Type 0
-IsTaskKept (task.AddReferences place t) = ⊥
-IsTaskKept c = Unit {0}
 
 -- the steps of the end of an explicit task but for those that give records back, to which no step leads yet
 abbrev pub IsFinishKept : FinishCounter → Type 0
@@ -45,7 +38,7 @@ IsKept (counter.Worker c) = Unit {0}
 IsKept (counter.Team c) = Unit {0}
 IsKept (counter.Barrier c) = Unit {0}
 IsKept (counter.Join c) = IsJoinKept c
-IsKept (counter.Task c) = IsTaskKept c
+IsKept (counter.Task c) = Unit {0}
 IsKept (counter.Look c) = Unit {0}
 IsKept (counter.Finish c) = IsFinishKept c
 IsKept (counter.Plain c) = Unit {0}

@@ -48,7 +48,7 @@ module _ (p : Program) (w : List ℕ) (m : Memory) (events : List (ℕ × Event)
   parts (counter.Barrier c) at kept search look =
       barrier_parts p w m events s actors i before h c at search look
   parts (counter.Join c) at kept search look = join_parts p w m events s actors i before h c at kept search
-  parts (counter.Task c) at kept search look = making_parts p w m events s actors i before h c at kept search
+  parts (counter.Task c) at kept search look = making_parts p w m events s actors i before h c at search
   parts (counter.Look c) at kept search look = look_parts p w m events s actors i before h c at search look
   parts (counter.Finish c) at kept search look =
       finish_parts p w m events s actors i before h c at kept search look

@@ -33,7 +33,6 @@ use Rattle.omi_plain.specs.Statements.{in_work, lock_in}
 use Rattle.omi_task.specs.MakingSteps.{behind_raises, made_function, makes_final, making_moved, making_next, making_outcome, of_own_slot}
 use Rattle.omi_task.specs.Starts.{task_context}
 use Rattle.omi_rule.specs.Steps.{IsOn, RecordWord, found_in}
-use Rattle.omi_rule.specs.StepsKeep.{IsTaskKept}
 use Rattle.omi_rule.proofs.Assembly.{Before}
 use Rattle.omi_rule.proofs.plain.Locks.{lock_there}
 use Rattle.omi_rule.proofs.task.Within.{context_placed, fits, owes, placed}
@@ -71,9 +70,9 @@ module _ (p : Program) (w : List ℕ) (m : Memory) (events : List (ℕ × Event)
   rests_raised None t = rests_making (task.StartNow t) refl refl
   rests_raised (Some place) t = rests_making (task.Defer place t) refl refl
 
-  module _ (c : TaskCounter) (at : (actors i).counter ≡ counter.Task c) (kept : IsTaskKept c) where
+  module _ (c : TaskCounter) (at : (actors i).counter ≡ counter.Task c) where
     any : (x : RecordWord) × IsOn w (making_next p w (actors i) c) x
-    any = some_word p w m events s actors i before (counter.Task c) at kept
+    any = some_word p w m events s actors i before (counter.Task c) at tt
 
   module _ (place : ℕ) (at : (actors i).counter ≡ counter.Task (task.LoadSlot place))
       (given : IsSearchGiven (actors i) (counter.Task (task.LoadSlot place)) h.search) where
@@ -132,12 +131,12 @@ module _ (p : Program) (w : List ℕ) (m : Memory) (events : List (ℕ × Event)
       by_life (is_free (found_in m y)) refl,
     )
 
-  pub making_parts : (c : TaskCounter) (at : (actors i).counter ≡ counter.Task c) → IsTaskKept c
+  pub making_parts : (c : TaskCounter) (at : (actors i).counter ≡ counter.Task c)
       → IsSearchGiven (actors i) (counter.Task c) h.search
       → PartsKeep w m s i (making_next p w (actors i) c)
       (λ old. (making_moved p w (actors i) c old, making_outcome w (actors i) c old)) h
-  making_parts (task.LoadSlot place) at kept given = own_slots place at given
-  making_parts (task.LoadVariable place word) at kept given =
+  making_parts (task.LoadSlot place) at given = own_slots place at given
+  making_parts (task.LoadVariable place word) at given =
       let k = (actors i).context.task.0 in
       let below = (fits p w m events s actors i before (task.LoadVariable place word) at).1 in
       let x : RecordWord = record { creator = k.creator; slot = k.slot; field = (variable_at word).0; place = (variable_at word).1 } in
@@ -148,32 +147,34 @@ module _ (p : Program) (w : List ℕ) (m : Memory) (events : List (ℕ × Event)
             (calm_at a (counter.Task (task.LoadVariable place word)) h.search refl refl refl given) no_region no_task
             (rests_two (nat_lt (word + 1) VARIABLE_WORDS) (task.LoadVariable place (word + 1)) (task.LoadLife place 0) (rests_making (task.LoadVariable place (word + 1)) refl refl) (rests_making (task.LoadLife place 0) refl refl)),
       )
-  making_parts (task.LoadLife place slot) at kept given = task_search place slot at given
-  making_parts (task.Take place t) at kept given = (
+  making_parts (task.LoadLife place slot) at given = task_search place slot at given
+  making_parts (task.Take place t) at given = (
     word_of t.0.creator t.0.slot TaskLife,
     record { there = record_word p w m events s actors i before tasks t.0.creator t.0.slot TaskLife refl (placed p w m events s actors i before (task.Take place t) at); address = refl },
     task_taken w m s i a mine h _ t.0 _ ((fits p w m events s actors i before (task.Take place t) at).1 ∙ mine) (either_none given.expected) given.region given.task (rests_making (task.Fill place t 0) refl refl),
   )
-  making_parts (task.Fill place t word) at kept given =
-      let (x, on) = any (task.Fill place t word) at tt in (
+  making_parts (task.Fill place t word) at given =
+      let (x, on) = any (task.Fill place t word) at in (
         x,
         on,
         quiet_rests w m s i _ x _ h
             (calm_at a (counter.Task (task.Fill place t word)) h.search refl refl refl given) refl refl
             (rests_two (nat_lt (word + 1) TASK_WORDS) (task.Fill place t (word + 1)) (task.AddPending place t) (rests_making (task.Fill place t (word + 1)) refl refl) (rests_making (task.AddPending place t) refl refl)),
       )
-  making_parts (task.AddPending place t) at kept given =
-      let (x, on) = any (task.AddPending place t) at tt in
+  making_parts (task.AddPending place t) at given =
+      let (x, on) = any (task.AddPending place t) at in
       (x, on, quiet_rests w m s i _ x _ h (calm_at a (counter.Task (task.AddPending place t)) h.search refl refl refl given) refl refl (rests_making (task.AddChildren place t) refl refl))
-  making_parts (task.AddChildren place t) at kept given =
-      let (x, on) = any (task.AddChildren place t) at tt in
-      (x, on, quiet_rests w m s i _ x _ h (calm_at a (counter.Task (task.AddChildren place t)) h.search refl refl refl given) refl refl (rests_raised place t))
-  making_parts (task.AddReferences place t) at kept given = absurd kept
-  making_parts (task.Defer place t) at kept given =
-      let (x, on) = any (task.Defer place t) at tt in
+  making_parts (task.AddChildren place t) at given =
+      let (x, on) = any (task.AddChildren place t) at in
+      (x, on, quiet_rests w m s i _ x _ h (calm_at a (counter.Task (task.AddChildren place t)) h.search refl refl refl given) refl refl (rests_making (task.AddReferences place t) refl refl))
+  making_parts (task.AddReferences place t) at given =
+      let (x, on) = any (task.AddReferences place t) at in
+      (x, on, quiet_rests w m s i _ x _ h (calm_at a (counter.Task (task.AddReferences place t)) h.search refl refl refl given) refl refl (rests_raised place t))
+  making_parts (task.Defer place t) at given =
+      let (x, on) = any (task.Defer place t) at in
       (x, on, event_rests w m s i _ x _ h (calm_at a (counter.Task (task.Defer place t)) h.search refl refl refl given) _ (rests_plain plain.Leave))
-  making_parts (task.StartNow t) at kept given =
-      let (x, on) = any (task.StartNow t) at tt in (
+  making_parts (task.StartNow t) at given =
+      let (x, on) = any (task.StartNow t) at in (
         x,
         on,
         event_rests w m s i _ x _ h

@@ -50,7 +50,7 @@ use Rattle.omi_task.specs.FinishSteps.{behind_finish, finish_moved, finish_outco
 use Rattle.omi_task.specs.MakingSteps.{making_moved, making_outcome}
 use Rattle.omi_task.specs.Slots.{coded_task}
 use Rattle.omi_actor.specs.Steps.{resumed_at}
-use Rattle.omi_rule.specs.StepsKeep.{IsFinishKept, IsJoinKept, IsKept, IsTaskKept}
+use Rattle.omi_rule.specs.StepsKeep.{IsFinishKept, IsJoinKept, IsKept}
 use Rattle.omi_rule_watch.specs.Demands.{most_in_row}
 use Rattle.omi_rule_watch.specs.Given.{at_look, carried, finish_quiet, making_quiet, most_quiet, team_quiet}
 use Rattle.omi_rule_watch.specs.Watch.{quiet_after}
@@ -211,28 +211,28 @@ made_from q b other x y none few =
     (omega (arith, none))
 
 quiet_making : (p : Program) (w : List ℕ) (a : Actor) (c : TaskCounter) (old q : ℕ) → FitsTask p a c
-    → IsTaskKept c → q ≤ making_quiet c
+    → q ≤ making_quiet c
     → quiet_after (making_outcome w a c old) q ≤ most_quiet p.threads (making_moved p w a c old).counter
-quiet_making p w a (task.LoadSlot place) old q fits kept few =
+quiet_making p w a (task.LoadSlot place) old q fits few =
     made_from q (old == 0) _ (task.LoadVariable (Some place) 0)
     (if nat_lt (place + 1) OWN_SLOTS then task.LoadSlot (place + 1) else task.LoadVariable None 0) refl
     (omega (arith, few))
-quiet_making p w a (task.LoadVariable place word) old q fits kept few =
+quiet_making p w a (task.LoadVariable place word) old q fits few =
     made_to (q + 1) (nat_lt (word + 1) VARIABLE_WORDS) (task.LoadVariable place (word + 1))
     (task.LoadLife place 0) (omega (arith, few)) (let within = fits.1 in omega (arith, few, within))
-quiet_making p w a (task.LoadLife place slot) old q fits kept few =
+quiet_making p w a (task.LoadLife place slot) old q fits few =
     made_from q (is_free old) _ (task.Take place (record { 0 = object_in (own_place a slot) old }))
     (task.LoadLife place (next_slot w tasks slot)) refl (omega (arith, few))
-quiet_making p w a (task.Take place t) old q fits kept few = omega (arith, few)
-quiet_making p w a (task.Fill place t word) old q fits kept few =
+quiet_making p w a (task.Take place t) old q fits few = omega (arith, few)
+quiet_making p w a (task.Fill place t word) old q fits few =
     made_to (q + 1) (nat_lt (word + 1) TASK_WORDS) (task.Fill place t (word + 1)) (task.AddPending place t)
     (omega (arith, few)) (let within = fits.1 in omega (arith, few, within))
-quiet_making p w a (task.AddPending place t) old q fits kept few = omega (arith, few)
-quiet_making p w a (task.AddChildren None t) old q fits kept few = omega (arith, few)
-quiet_making p w a (task.AddChildren (Some place) t) old q fits kept few = omega (arith, few)
-quiet_making p w a (task.AddReferences place t) old q fits kept few = absurd kept
-quiet_making p w a (task.Defer place t) old q fits kept few = omega arith
-quiet_making p w a (task.StartNow t) old q fits kept few = omega arith
+quiet_making p w a (task.AddPending place t) old q fits few = omega (arith, few)
+quiet_making p w a (task.AddChildren place t) old q fits few = omega (arith, few)
+quiet_making p w a (task.AddReferences None t) old q fits few = omega (arith, few)
+quiet_making p w a (task.AddReferences (Some place) t) old q fits few = omega (arith, few)
+quiet_making p w a (task.Defer place t) old q fits few = omega arith
+quiet_making p w a (task.StartNow t) old q fits few = omega arith
 
 -- ---- waits
 
@@ -385,7 +385,7 @@ quiet_goes p w a (counter.Worker c) old q bodies fits kept few = quiet_worker p 
 quiet_goes p w a (counter.Team c) old q bodies fits kept few = quiet_team p w a c old q fits few
 quiet_goes p w a (counter.Barrier c) old q bodies fits kept few = quiet_barrier p w a c old q few
 quiet_goes p w a (counter.Join c) old q bodies fits kept few = quiet_join p w a c old q kept few
-quiet_goes p w a (counter.Task c) old q bodies fits kept few = quiet_making p w a c old q fits kept few
+quiet_goes p w a (counter.Task c) old q bodies fits kept few = quiet_making p w a c old q fits few
 quiet_goes p w a (counter.Look c) old q bodies fits kept few = quiet_looks p w a c old q bodies fits few
 quiet_goes p w a (counter.Finish c) old q bodies fits kept few = quiet_finish p w a c old q kept few
 quiet_goes p w a (counter.Plain c) old q bodies fits kept few =

@@ -94,7 +94,8 @@ making_quiet (task.Take place t) = 10
 making_quiet (task.Fill place t word) = 11 + word
 making_quiet (task.AddPending place t) = 11 + TASK_WORDS
 making_quiet (task.AddChildren place t) = 12 + TASK_WORDS
-making_quiet c = 13 + TASK_WORDS
+making_quiet (task.AddReferences place t) = 13 + TASK_WORDS
+making_quiet c = 14 + TASK_WORDS
 
 abbrev pub look_quiet : ℕ → LookCounter → ℕ
 look_quiet threads (look.State v) = carried threads

@@ -251,6 +251,7 @@ module _ (a b : State) (regions_alike : SlotsAlike IsSameRegion a.regions b.regi
         let (q, now, same) = region_after n r live in
         (q, now, same.joined ∙ joined);
     raised = λ k is. some_task a b regions_alike tasks_alike k (x.raised k is);
+    referred = λ k is. some_task a b regions_alike tasks_alike k (x.referred k is);
     lowered = λ k is.
         let (finished, live) = x.lowered k is in
         (finished_after k finished, subst (λ (g : Option Tid). IsSome (option_and_then (task_of b) g)) (sym (generating_same a b regions_alike tasks_alike k)) (parent (generating_of a k) live));

@@ -8,12 +8,11 @@ use Rattle.omi_model.specs.declared.slot.Slot.{Slot}
 use Rattle.omi_model.specs.declared.task.Task.{Task}
 use Rattle.omi_model.specs.Put.{found}
 use Rattle.omi_model.proofs.Slots.{some_same}
+use Rattle.omi_numbers.specs.declared.limits.TheConstants.{OWN_SLOTS}
 use Rattle.omi_layout.specs.declared.field.Field.{Field}
-use Rattle.omi_layout.specs.declared.field.Field.TheVariants.{TaskChildren, TaskSlots}
+use Rattle.omi_layout.specs.declared.field.Field.TheVariants.{TaskChildren, TaskSlots, TaskReferences}
 use Rattle.omi_layout.specs.Memory.{Rec}
-use Rattle.omi_layout.specs.Named.{number}
-use Rattle.omi_layout.specs.Table.{width}
-use Rattle.omi_rule_words.specs.Counts.{ended_members, one}
+use Rattle.omi_rule_words.specs.Counts.{ended_members, one, own_reference}
 use Rattle.omi_rule_words.specs.Threads.{Has}
 use Rattle.omi_rule_words.specs.Objects.{HasPlace, KeepsEnvironment, KeepsPlace, KeepsLife}
 use Rattle.omi_rule_words.specs.Words.{IsInTheMaking}
@@ -95,7 +94,8 @@ pub record NewTask (w : List ℕ) (r : Rec) (taken : Bool) (Kind : Task → Type
   pub environment : KeepsEnvironment w r t
   pub place : HasPlace t → KeepsPlace w r t
   pub children : Has r TaskChildren 0 0
-  pub slots : t.implicit ≡ true → (place : ℕ) → place < width w (number TaskSlots) → Has r TaskSlots place 0
+  pub references : Has r TaskReferences 0 (own_reference t)
+  pub slots : t.implicit ≡ true → (place : ℕ) → place < OWN_SLOTS → Has r TaskSlots place 0
   pub kind : Kind t
 
 pub one_none : (b c : Bool) → c ≡ false → one (b && c) ≡ 0

@@ -46,7 +46,7 @@ module _ (w : List ℕ) (m : Memory) (s : State) (owes : ℕ → Owed) (k : Tid)
   none_unfinished : unfinished_children w s k ≡ 0
   none_unfinished =
       let here = below k.0.creator k.0.slot k.0.generation t live in
-      let counts = subst (λ (q : Tid). KeepsCounts w s owes q (m k.0.creator tasks k.0.slot)) (task_name s k t live)
+      let counts = subst (λ (q : Tid). KeepsCounts w s owes q (m k.0.creator tasks k.0.slot) t) (task_name s k t live)
       (((keeps.made k.0.creator here.0).tasks k.0.slot here.1).live t (found_live k.0.generation (s.tasks k.0.creator k.0.slot) t live)).counts in
       let is = counts.children in
       omega (arith, is, word)

@@ -12,12 +12,13 @@ use Rattle.omi_model.specs.Put.{made}
 use Rattle.omi_model.specs.State.{State, task_of}
 use Rattle.omi_model.specs.Tasking.{deferred, deferred_task, scheduled, started_now}
 use Rattle.omi_model.proofs.Slots.{made_same, made_stays}
+use Rattle.omi_numbers.specs.declared.limits.TheConstants.{OWN_SLOTS}
 use Rattle.omi_layout.specs.declared.field.Field.TheVariants.{TaskSlots, ThreadCurrent}
 use Rattle.omi_layout.specs.Field.{tasks, threads}
 use Rattle.omi_layout.specs.Memory.{Memory, replace_at, with_word}
 use Rattle.omi_layout.specs.Named.{number}
 use Rattle.omi_layout.specs.Place.{IsSlot}
-use Rattle.omi_layout.specs.Table.{per_thread, width}
+use Rattle.omi_layout.specs.Table.{per_thread}
 use Rattle.omi_layout.specs.Valid.{IsValid}
 use Rattle.omi_layout.proofs.Puts.{each_put, put_same}
 use Rattle.omi_rep.specs.Records.{task_address, slot_word}
@@ -79,12 +80,12 @@ module _ (w : List ℕ) (m : Memory) (s : State) (owes : ℕ → Owed) (i : ℕ)
     where
       held : ℕ → ℕ → Task → ℕ
       held c j x =
-          if x.implicit then sum_below (width w (number TaskSlots)) (λ place. one (m c tasks j (number TaskSlots) place == slot_word w task)) else 0
+          if x.implicit then sum_below OWN_SLOTS (λ place. one (m c tasks j (number TaskSlots) place == slot_word w task)) else 0
 
       in_row : (c j : ℕ) (x : Task) → KeepsSlots w s (m c tasks j) x
-          → sum_below (width w (number TaskSlots)) (λ place. one (m c tasks j (number TaskSlots) place == slot_word w task)) ≡ 0
+          → sum_below OWN_SLOTS (λ place. one (m c tasks j (number TaskSlots) place == slot_word w task)) ≡ 0
       in_row c j x slots =
-          sum_none_within (width w (number TaskSlots))
+          sum_none_within OWN_SLOTS
           (λ place. one (m c tasks j (number TaskSlots) place == slot_word w task))
           (λ place below. ap one (ne_eqb (m c tasks j (number TaskSlots) place) (slot_word w task) (apart place (slots place below))))
         where
@@ -99,7 +100,7 @@ module _ (w : List ℕ) (m : Memory) (s : State) (owes : ℕ → Owed) (i : ℕ)
 
       by_kind : (c j : ℕ) (x : Task) (b : Bool) → x.implicit ≡ b
           → (x.implicit ≡ true → KeepsSlots w s (m c tasks j) x)
-          → (if b then sum_below (width w (number TaskSlots)) (λ place. one (m c tasks j (number TaskSlots) place == slot_word w task)) else 0) ≡ 0
+          → (if b then sum_below OWN_SLOTS (λ place. one (m c tasks j (number TaskSlots) place == slot_word w task)) else 0) ≡ 0
       by_kind c j x true e slots = in_row c j x (slots e)
       by_kind c j x false e slots = refl
 
@@ -114,12 +115,12 @@ module _ (w : List ℕ) (m : Memory) (s : State) (owes : ℕ → Owed) (i : ℕ)
       let more = made_counted w m s owes i task new k t hand keeps names known owes_new is_made filled held in
       let none : held task.0.creator task.0.slot new ≡ 0 =
       ap
-      (λ b. if b then sum_below (width w (number TaskSlots)) (λ place. one (m task.0.creator tasks task.0.slot (number TaskSlots) place == code)) else 0) is_made.explicit in
+      (λ b. if b then sum_below OWN_SLOTS (λ place. one (m task.0.creator tasks task.0.slot (number TaskSlots) place == code)) else 0) is_made.explicit in
       omega (arith, more, none)
     where
       held : ℕ → ℕ → Task → ℕ
       held c j x =
-          if x.implicit then sum_below (width w (number TaskSlots)) (λ place. one (m c tasks j (number TaskSlots) place == code)) else 0
+          if x.implicit then sum_below OWN_SLOTS (λ place. one (m c tasks j (number TaskSlots) place == code)) else 0
 
   -- the new task is in the thread's hand where it is deferred
   made_in_hand : ((q : Tid) → hand ≡ Some q → (q ≡ task) × (new.progress ≡ progress.Deferred))
@@ -185,6 +186,7 @@ starts_now_keep =
           environment = environment_placed w (m i tasks task.0.slot) (deferred_task p k t f final 0) i t.number (Some k) (exit_below t.exit) 0 filled.environment;
           place = λ _. place;
           children = filled.children;
+          references = filled.references;
         })
         within v (λ q is. absurd (cc)) (λ is. absurd (cc)))
         known
@@ -206,7 +208,7 @@ module _ (p : Program) (w : List ℕ) (m : Memory) (s : State) (owes : ℕ → O
     (final : Bool) (place : ℕ) (k : Tid) (t : Task) (row : Tid) (keeps : KeepsWords w m s owes)
     (within : IsWithin w s)
     (names : AreNamesLive s) (v : IsValid w) (known : i < s.count) (owes_new : OwesNew w s owes i task k t)
-    (is_row : IsRow s i row t) (inside : place < width w (number TaskSlots)) (free : slot_of m row place ≡ 0)
+    (is_row : IsRow s i row t) (inside : place < OWN_SLOTS) (free : slot_of m row place ≡ 0)
     (filled : IsFilledFor w (m i tasks task.0.slot) (deferred_task p k t f final place)) where
   abbrev new : Task
   new = deferred_task p k t f final place
@@ -221,7 +223,7 @@ module _ (p : Program) (w : List ℕ) (m : Memory) (s : State) (owes : ℕ → O
   made_as = record { explicit = refl; region = refl; generating = refl; goes = refl; unmet = λ is. absurd (cc) }
 
   filled_as : IsFilledAs w (m i tasks task.0.slot) new
-  filled_as = record { environment = filled.environment; place = λ undeferred. absurd (undeferred refl refl); children = filled.children }
+  filled_as = record { environment = filled.environment; place = λ undeferred. absurd (undeferred refl refl); children = filled.children; references = filled.references }
 
   in_the_hand : KeepsWords w m now (replace_at owes i in_hand)
   in_the_hand =

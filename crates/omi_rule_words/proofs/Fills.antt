@@ -6,12 +6,12 @@ use Rattle.omi_rep.specs.Records.{slot_word}
 use Rattle.omi_model.specs.declared.slot.Slot.{Slot}
 use Rattle.omi_model.specs.declared.task.Task.{Task}
 use Rattle.omi_model.specs.State.{State}
+use Rattle.omi_numbers.specs.declared.limits.TheConstants.{OWN_SLOTS}
 use Rattle.omi_layout.specs.declared.field.Field.{Field}
 use Rattle.omi_layout.specs.declared.field.Field.TheVariants.{RegionLife, TaskLife, TaskSlots}
 use Rattle.omi_layout.specs.Field.{runtime, threads, regions, tasks}
 use Rattle.omi_layout.specs.Memory.{Rec, Memory, with_word}
 use Rattle.omi_layout.specs.Named.{number}
-use Rattle.omi_layout.specs.Table.{width}
 use Rattle.omi_layout.proofs.Puts.{record_stays, word_stays}
 use Rattle.omi_rule_words.specs.Owes.{Owed}
 use Rattle.omi_rule_words.specs.Counts.{of_live, one, sum_below, has_slot, has_region_slot}
@@ -43,7 +43,7 @@ slots_stay w m s i slot f at word none code =
     -- the slots of a task that hold the word
     in_record : Rec → Task → ℕ
     in_record r t =
-        if t.implicit then sum_below (width w (number TaskSlots)) (λ place. one (r (number TaskSlots) place == code)) else 0
+        if t.implicit then sum_below OWN_SLOTS (λ place. one (r (number TaskSlots) place == code)) else 0
 
     held : Memory → ℕ → ℕ → Task → ℕ
     held x c k = in_record (x c tasks k)

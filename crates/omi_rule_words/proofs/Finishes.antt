@@ -3,6 +3,7 @@ use Rattle.std.proofs.Common.{◌≡◌, ◌&&◌, ◌+◌, ◌<◌, Bool, ℕ, 
 use Rattle.std.specs.Prelude.{IsSome}
 use Rattle.std.specs.Option.{option_and_then, option_map}
 use Rattle.std.proofs.lemmas.List.Elements.{All-nil}
+use Rattle.omi_model.specs.declared.freeable.Freeable.TheVariants as freeable
 use Rattle.omi_model.specs.declared.id.Id.{Id}
 use Rattle.omi_model.specs.declared.id.Rid.{Rid}
 use Rattle.omi_model.specs.declared.id.Tid.{Tid}
@@ -12,7 +13,8 @@ use Rattle.omi_model.specs.declared.task.Task.{Task}
 use Rattle.omi_model.specs.Changes.{on_task}
 use Rattle.omi_model.specs.LawNames.{AreNamesLive}
 use Rattle.omi_model.specs.State.{State, region_of, task_of}
-use Rattle.omi_model.specs.Tasking.{finished, freeing}
+use Rattle.omi_model.specs.Freeing.{freeing}
+use Rattle.omi_model.specs.Tasking.{finished}
 use Rattle.omi_model.proofs.Slots.{on_same, some_same}
 use Rattle.omi_layout.specs.declared.field.Field.TheVariants.{ThreadCurrent}
 use Rattle.omi_layout.specs.Field.{tasks, threads}
@@ -22,7 +24,7 @@ use Rattle.omi_layout.specs.Table.{per_thread}
 use Rattle.omi_rep.specs.Records.{task_word}
 use Rattle.omi_rep.specs.Shows.{IsWithin}
 use Rattle.omi_rule_words.specs.Owes.{Owed, nothing}
-use Rattle.omi_rule_words.specs.Counts.{children_owed, generating_of, is_finished, is_region, is_some_task, is_unfinished, one, pending_owed, start_owed}
+use Rattle.omi_rule_words.specs.Counts.{children_owed, generating_of, is_finished, is_region, is_some_task, is_unfinished, one, pending_owed, start_owed, references_owed}
 use Rattle.omi_rule_words.specs.Threads.{WaitsFor}
 use Rattle.omi_rule_words.specs.Words.{HasFinished, KeepsWords, OwesOnLive}
 use Rattle.omi_rule_words.specs.ExplicitKinds.{FinishesKeep, IsRunning}
@@ -86,6 +88,7 @@ module _ (w : List ℕ) (m : Memory) (s : State) (owes : ℕ → Owed) (i : ℕ)
         subst (λ (r : Rid). IsSome (region_of s r)) same (subst (λ o. IsSome o) (sym live) refl);
     left = λ n is. absurd (cc);
     raised = λ q is. absurd (cc);
+    referred = λ q is. absurd (cc);
     lowered = λ q is.
         let same : k ≡ q = cc in
         subst (λ (x : Tid). HasFinished after x × IsSome (option_and_then (task_of after) (generating_of after x))) same (over, maker_live);
@@ -108,8 +111,8 @@ module _ (w : List ℕ) (m : Memory) (s : State) (owes : ℕ → Owed) (i : ℕ)
 
   pub task_finishes : KeepsWords w (with_word m i threads 0 (number ThreadCurrent) 0 (task_word w t.scheduling)) (finished s i k t) (replace_at owes i p)
   task_finishes =
-      current_stored w m (record after { tasks = freeing (Some k) t.scheduling after.tasks }) (replace_at owes i p) i t.scheduling
-      (freeing_keeps w m after (replace_at owes i p) (Some k) t.scheduling
+      current_stored w m (record after { tasks = freeing (Some (freeable.Finished k)) t.scheduling after.tasks }) (replace_at owes i p) i t.scheduling
+      (freeing_keeps w m after (replace_at owes i p) (Some (freeable.Finished k)) t.scheduling
       (task_moved w s k t g running.live goes m owes i p keeps
       (subst (λ (o : Owed). TeamsAlike p o) (sym owed) (record { region = refl; tasks = refl; left = refl; assigns = refl; met = refl }))
       (λ n.
@@ -122,6 +125,7 @@ module _ (w : List ℕ) (m : Memory) (s : State) (owes : ℕ → Owed) (i : ℕ)
       let owes_more = owed_put s owes i p known (pending_owed n) in
       let before : pending_owed n (owes i) ≡ 0 = ap (pending_owed n) owed in
       omega (arith, change, was, none, owes_more, before))
+      (λ q. sym (ap (references_owed q) owed))
       (λ q.
       let change =
       tasks_recounted w s k t g running.live goes maker slot_below

@@ -107,7 +107,7 @@ module _ (p : Program) (w : List ℕ) (m : Memory) (s : State) (owes : ℕ → O
       (subst (λ (o : Owed). OwesAlike given o) (sym owed) own) j (λ _. owes_alike (owes j))
     where
       own : OwesAlike given (record nothing { region = Some region; tasks = tasks_of team })
-      own = record { pending = refl; raised = refl; lowered = refl; left = refl; hand = refl }
+      own = record { pending = refl; raised = refl; lowered = refl; referred = refl; left = refl; hand = refl }
 
   less : (j : ℕ) → OwesLess (other j) (owes j)
   less j = owes_less (other j) (owes j) (alike j)
@@ -184,6 +184,7 @@ module _ (p : Program) (w : List ℕ) (m : Memory) (s : State) (owes : ℕ → O
           environment = λ g at word _ told. (filled.members j x is).codes g at word told;
           place = λ _ g at word _ told. (filled.members j x is).codes g at word told;
           children = (filled.members j x is).children;
+          references = (filled.members j x is).references;
           slots = λ _. (filled.members j x is).slots;
           kind = record { implicit = refl; undeferred = going j };
         };

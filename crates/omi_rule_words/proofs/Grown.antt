@@ -19,7 +19,7 @@ use Rattle.omi_layout.specs.Field.{threads, regions, tasks}
 use Rattle.omi_layout.specs.Memory.{Rec, Memory}
 use Rattle.omi_layout.specs.Table.{per_thread}
 use Rattle.omi_rule_words.specs.Owes.{Owed}
-use Rattle.omi_rule_words.specs.Counts.{children_owed, generating_of, has_region_slot, has_slot, is_region, is_some_region, is_some_task, is_task, is_unfinished, left_owed, of_live, one, pending_owed, sum_below, sum_of_owed, sum_of_slots, unfinished_children, unfinished_in}
+use Rattle.omi_rule_words.specs.Counts.{children_owed, generating_of, has_region_slot, has_slot, is_region, is_some_region, is_some_task, is_task, is_unfinished, left_owed, of_live, one, pending_owed, sum_below, sum_of_owed, sum_of_slots, unfinished_children, unfinished_in, is_explicit, live_children, references_owed}
 use Rattle.omi_rule_words.specs.Threads.{Has, KeepsAssign, WaitsFor}
 use Rattle.omi_rule_words.specs.Objects.{IsDeferredIn, KeepsCounts, KeepsDeferred, KeepsLife, KeepsRegion, KeepsSlots}
 use Rattle.omi_rule_words.specs.Words.{HasFinished, KeepsMaking, KeepsRegionSlot, KeepsTask, KeepsTaskSlot, KeepsWords, OwesOnLive, region_in, task_in}
@@ -32,11 +32,12 @@ use Rattle.omi_rule_words.proofs.Sums.{slots_none_within, sum_none_within, sum_s
 pub record OwesLess (p o : Owed) : Type 0 where
   pub pending : (n : Rid) → p.pending ≡ Some n → o.pending ≡ Some n
   pub raised : (k : Tid) → p.raised ≡ Some k → o.raised ≡ Some k
+  pub referred : (k : Tid) → p.referred ≡ Some k → o.referred ≡ Some k
   pub lowered : p.lowered ≡ o.lowered
   pub left : p.left ≡ o.left
 
 pub owes_less : (p o : Owed) → OwesAlike p o → OwesLess p o
-owes_less p o alike = record { pending = λ n is. sym alike.pending ∙ is; raised = λ k is. sym alike.raised ∙ is; lowered = alike.lowered; left = alike.left }
+owes_less p o alike = record { pending = λ n is. sym alike.pending ∙ is; raised = λ k is. sym alike.raised ∙ is; referred = λ k is. sym alike.referred ∙ is; lowered = alike.lowered; left = alike.left }
 
 module _ (w : List ℕ) (m : Memory) (s : State) (rs : Slots Region) (ts : Slots Task) (owes other : ℕ → Owed)
     (Kind : Task → Type 0) (keeps : KeepsWords w m s owes) (names : AreNamesLive s)
@@ -231,7 +232,13 @@ module _ (w : List ℕ) (m : Memory) (s : State) (rs : Slots Region) (ts : Slots
           ap one (made_by (owes j).lowered (λ q is. (o.lowered q is).1)) in
           omega (arith, a, b)
 
+  references_unowed : (k : Tid) → (s.tasks k.0.creator k.0.slot).live ≡ None
+      → sum_of_owed s owes (references_owed k) ≡ 0
+  references_unowed k empty = sum_none_within s.count (λ j. references_owed k (owes j))
+      (λ j known. ap one (unnamed k empty (owes j).referred (keeps.made j known).objects.referred))
+
   module _
+      (references_counted : (k : Tid) → live_children w after k + sum_of_owed s other (references_owed k) ≡ live_children w s k + sum_of_owed s owes (references_owed k))
       (pending_counted : (n : Rid) → unfinished_in w after n + sum_of_owed s other (pending_owed n) ≡ unfinished_in w s n + sum_of_owed s owes (pending_owed n))
       (children_counted : (k : Tid) → unfinished_children w after k + sum_of_owed s other (children_owed s k) ≡ unfinished_children w s k + sum_of_owed s owes (children_owed s k)) where
     -- ---- objects that were live
@@ -240,8 +247,9 @@ module _ (w : List ℕ) (m : Memory) (s : State) (rs : Slots Region) (ts : Slots
         → KeepsRegion w after other n r x
     region_kept n r x o = region_counted w s after owes other n r x (pending_counted n) (left_same n) o
 
-    counts_kept : (k : Tid) (r : Rec) → KeepsCounts w s owes k r → KeepsCounts w after other k r
-    counts_kept k r o = record {
+    counts_kept : (k : Tid) (r : Rec) (t : Task) → KeepsCounts w s owes k r t → KeepsCounts w after other k r t
+    counts_kept k r t o = record {
+      references = let was = o.references in let change = references_counted k in omega (arith, was, change);
       children =
           let was = o.children in
           let change = children_counted k in
@@ -264,7 +272,7 @@ module _ (w : List ℕ) (m : Memory) (s : State) (rs : Slots Region) (ts : Slots
     task_kept k r t o = record {
       environment = o.environment;
       place = o.place;
-      counts = counts_kept k r o.counts;
+      counts = counts_kept k r t o.counts;
       slots = λ implicit. slots_kept r t (o.slots implicit);
     }
 
@@ -274,6 +282,7 @@ module _ (w : List ℕ) (m : Memory) (s : State) (rs : Slots Region) (ts : Slots
       pending = λ n is. some_region_after n (x.pending n ((alike j).pending n is));
       left = λ n is. let (r, live, open_) = x.left n (sym (alike j).left ∙ is) in (r, region_after n r live, open_);
       raised = λ k is. some_task_after k (x.raised k ((alike j).raised k is));
+      referred = λ k is. some_task_after k (x.referred k ((alike j).referred k is));
       lowered = λ k is.
           let (finished, live) = x.lowered k (sym (alike j).lowered ∙ is) in
           (finished_after k finished, subst (λ (g : Option Tid). IsSome (option_and_then (task_of after) g)) (sym (generating_after k finished)) (parent (generating_of s k) live));
@@ -312,6 +321,12 @@ module _ (w : List ℕ) (m : Memory) (s : State) (rs : Slots Region) (ts : Slots
       environment = new.environment;
       place = new.place;
       counts = record {
+        references =
+            let word = new.references in
+            let none : live_children w s k ≡ 0 = no_children k empty is_explicit in
+            let change = references_counted k in
+            let nobody = references_unowed k empty in
+            omega (arith, word, none, change, nobody);
         children =
             let word = new.children in
             let none : unfinished_children w s k ≡ 0 = no_children k empty is_unfinished in

@@ -11,13 +11,13 @@ use Rattle.omi_model.specs.declared.task.Task.{Task}
 use Rattle.omi_model.specs.LawNames.{AreNamesLive}
 use Rattle.omi_model.specs.Put.{Slots}
 use Rattle.omi_model.specs.State.{State, task_of}
+use Rattle.omi_numbers.specs.declared.limits.TheConstants.{OWN_SLOTS}
 use Rattle.omi_layout.specs.declared.field.Field.TheVariants.{TaskSlots}
 use Rattle.omi_layout.specs.Field.{threads, regions, tasks}
 use Rattle.omi_layout.specs.Memory.{Memory}
 use Rattle.omi_layout.specs.Named.{number}
-use Rattle.omi_layout.specs.Table.{width}
 use Rattle.omi_rule_words.specs.Owes.{Owed}
-use Rattle.omi_rule_words.specs.Counts.{children_owed, generating_of, has_region_slot, has_slot, is_finished, is_region, is_some_region, is_some_task, is_unfinished, one, pending_owed, start_owed, sum_below, sum_of_owed, unfinished_children, unfinished_in}
+use Rattle.omi_rule_words.specs.Counts.{children_owed, generating_of, has_region_slot, has_slot, is_finished, is_region, is_some_region, is_some_task, is_unfinished, one, pending_owed, start_owed, sum_below, sum_of_owed, unfinished_children, unfinished_in, is_explicit, live_children, references_owed}
 use Rattle.omi_rule_words.specs.Threads.{KeepsAssign, WaitsFor}
 use Rattle.omi_rule_words.specs.Objects.{KeepsDeferred, slots_with}
 use Rattle.omi_rule_words.specs.Words.{KeepsMaking, KeepsWords}
@@ -73,6 +73,16 @@ module _ (w : List ℕ) (m : Memory) (s : State) (rs : Slots Region) (ts : Slots
       (λ j. ap₂ (λ a b. one (is_some_task k a) + one (is_some_task k (option_and_then (generating_of s) b))) (alike j).raised (alike j).lowered) in
       omega (arith, same, owed)
 
+  references_counted : (k : Tid)
+      → live_children w after k + sum_of_owed s other (references_owed k) ≡ live_children w s k + sum_of_owed s owes (references_owed k)
+  references_counted k =
+      let same : live_children w after k ≡ live_children w s k
+      = tasks_counted w m s rs ts owes other IsMember keeps names less region_slots task_slots
+      (λ c j t. one (is_explicit t && is_some_task k t.generating))
+      (λ c j t new. ap (λ b. one (not b && is_some_task k t.generating)) new.kind.implicit) in
+      let owed = owed_same (references_owed k) (λ j. ap (λ q. one (is_some_task k q)) (alike j).referred) in
+      omega (arith, same, owed)
+
   deferred_kept : KeepsDeferred w (λ c. m c tasks) after other
   deferred_kept = record {
     once = λ k t is deferred. go k t deferred (task_before w m s rs ts owes other IsMember keeps names less region_slots task_slots k t is);
@@ -85,11 +95,11 @@ module _ (w : List ℕ) (m : Memory) (s : State) (rs : Slots Region) (ts : Slots
           → slots_with w (λ c. m c tasks) after (slot_word w k) ≡ slots_with w (λ c. m c tasks) s (slot_word w k)
       slots_same k =
           tasks_counted w m s rs ts owes other IsMember keeps names less region_slots task_slots
-          (λ c j x. if x.implicit then sum_below (width w (number TaskSlots)) (λ place. one (m c tasks j (number TaskSlots) place == slot_word w k)) else 0)
+          (λ c j x. if x.implicit then sum_below OWN_SLOTS (λ place. one (m c tasks j (number TaskSlots) place == slot_word w k)) else 0)
           (λ c j t new.
           ap
-          (λ b. if b then sum_below (width w (number TaskSlots)) (λ place. one (m c tasks j (number TaskSlots) place == slot_word w k)) else 0) new.kind.implicit
-          ∙ sum_none_within (width w (number TaskSlots))
+          (λ b. if b then sum_below OWN_SLOTS (λ place. one (m c tasks j (number TaskSlots) place == slot_word w k)) else 0) new.kind.implicit
+          ∙ sum_none_within OWN_SLOTS
           (λ place. one (m c tasks j (number TaskSlots) place == slot_word w k))
           (λ place within. ap one (ne_eqb _ _ (λ same. let none = new.slots new.kind.implicit place within in absurd (omega (arith, same, none))))))
 
@@ -107,4 +117,4 @@ module _ (w : List ℕ) (m : Memory) (s : State) (rs : Slots Region) (ts : Slots
       → ((j : ℕ) → j < s.count → All (λ q. WaitsFor after q.1 q.0) (other j).assigns)
       → ((j : ℕ) → j < s.count → KeepsAssign w after other j (m j threads 0)) → KeepsWords w m after other
   members_grown making assigns assigned =
-      grown w m s rs ts owes other IsMember keeps names less region_slots task_slots pending_counted children_counted making assigns assigned deferred_kept
+      grown w m s rs ts owes other IsMember keeps names less region_slots task_slots references_counted pending_counted children_counted making assigns assigned deferred_kept

@@ -1,5 +1,7 @@
 -- Member 0 joins the others, which have all left.
-use Rattle.std.proofs.Common.{◌≡◌, ◌≢◌, ◌<◌, ℕ, true, false, List, Some, refl, ap, ◌∙◌, arith}
+use Rattle.std.proofs.Common.{◌≡◌, ◌≢◌, ◌<◌, ℕ, true, false, List, Option, Some, refl, ap, ◌∙◌, arith}
+use Rattle.omi_model.specs.declared.freeable.Freeable.{Freeable}
+use Rattle.omi_model.specs.declared.freeable.Freeable.TheVariants as freeable
 use Rattle.omi_model.specs.declared.id.Id.{Id}
 use Rattle.omi_model.specs.declared.id.Rid.{Rid}
 use Rattle.omi_model.specs.declared.id.Tid.{Tid}
@@ -7,6 +9,7 @@ use Rattle.omi_model.specs.declared.progress.Progress.TheVariants as progress
 use Rattle.omi_model.specs.declared.region.Region.{Region}
 use Rattle.omi_model.specs.declared.task.Task.{Task}
 use Rattle.omi_model.specs.Changes.{on_region, on_task}
+use Rattle.omi_model.specs.Freeing.{freeing}
 use Rattle.omi_model.specs.State.{State, region_of}
 use Rattle.omi_model.specs.Teams.{joined}
 use Rattle.omi_model.proofs.Slots.{found_live}
@@ -21,6 +24,7 @@ use Rattle.omi_rule_words.specs.Counts.{ended_members, is_some_region, left_owed
 use Rattle.omi_rule_words.specs.Words.{KeepsWords, region_in}
 use Rattle.omi_rule_words.specs.TeamKinds.{AllHaveLeft, IsRunningMember, JoinsKeep}
 use Rattle.omi_rule_words.proofs.Changed.{current_stored}
+use Rattle.omi_rule_words.proofs.ListMoves.{freeing_keeps}
 use Rattle.omi_rule_words.proofs.Renewed.{RegionRenews, owes_same}
 use Rattle.omi_rule_words.proofs.Sums.{part_below}
 use Rattle.omi_rule_words.proofs.TaskEnds.{finished_kept, found_name, is_region_same, still_open}
@@ -33,6 +37,9 @@ module _ (w : List ℕ) (m : Memory) (s : State) (owes : ℕ → Owed) (i : ℕ)
 
   abbrev over : State
   over = on_region (on_task s k (λ u. record u { progress = progress.Finished })) t.region joins
+
+  abbrev free : Option Freeable
+  free = Some (freeable.Joined t.region 0)
 
   renews : (x : Region) → RegionRenews x (joins x)
   renews x = record { ended = x.ended; joined = true; is = refl }
@@ -47,8 +54,9 @@ module _ (w : List ℕ) (m : Memory) (s : State) (owes : ℕ → Owed) (i : ℕ)
 
   task_joins : KeepsWords w (with_word m i threads 0 (number ThreadCurrent) 0 (task_word w r.encountering)) (joined s i k t r) owes
   task_joins =
-      current_stored w m over owes i r.encountering
-      (finished_kept w m s owes owes k t r joins keeps running (λ c. owes_same (owes c)) (λ c. refl) (λ c. refl) renews refl (λ q ne. refl) left)
+      current_stored w m (record over { tasks = freeing free r.encountering over.tasks }) owes i r.encountering
+      (freeing_keeps w m over owes free r.encountering
+      (finished_kept w m s owes owes k t r joins keeps running (λ c. owes_same (owes c)) (λ c. refl) (λ c. refl) renews refl (λ q ne. refl) left))
       known
 
 pub joins_keep : JoinsKeep

@@ -1,6 +1,7 @@
 -- A to-do list moves on.
 use Rattle.std.proofs.Common.{◌≡◌, ◌<◌, ℕ, List, Option, Some, None, refl, sym, subst}
 use Rattle.std.specs.Option.{option_map_or}
+use Rattle.omi_model.specs.declared.freeable.Freeable.{Freeable}
 use Rattle.omi_model.specs.declared.id.Tid.{Tid}
 use Rattle.omi_model.specs.declared.item.Item.{Item}
 use Rattle.omi_model.specs.declared.task.Task.{Task}
@@ -17,19 +18,19 @@ use Rattle.omi_rule_words.specs.TaskKinds.{IsSameTask}
 use Rattle.omi_rule_words.proofs.Alike.{IsSameRegion, live_before, on_alike, same_region, same_task, slots_same}
 use Rattle.omi_rule_words.proofs.OtherStates.{other_states, task_rewritten}
 use Rattle.omi_rule_words.proofs.ThreadStores.{thread_changes_keep}
-use Rattle.omi_model.specs.Tasking.{freeing}
+use Rattle.omi_model.specs.Freeing.{freeing}
 
--- a task with another list, or with another task to be given back in front of it
+-- a task with another list, or with something else to be given back in front of it
 abbrev Relisted : Task → Task → Type 0
 Relisted t u = u ≡ record t { frees = u.frees; list = u.list }
 
 -- its record has the same codes
-relisted_kept : (w : List ℕ) (s : State) (owes : ℕ → Owed) (k : Tid) (r : Rec) (t : Task) (frees : Option Tid)
+relisted_kept : (w : List ℕ) (s : State) (owes : ℕ → Owed) (k : Tid) (r : Rec) (t : Task) (frees : Option Freeable)
     (list : List Item) → KeepsTask w s owes k r t
     → KeepsTask w s owes k r (record t { frees = frees; list = list })
 relisted_kept w s owes k r t frees list =
     task_rewritten w s owes k r r t (record t { frees = frees; list = list })
-    (record { implicit = refl; region = refl; thread = refl; generating = refl; progress = refl; place = refl }) refl
+    (record { implicit = refl; region = refl; thread = refl; generating = refl; progress = refl; place = refl }) refl refl
     (λ _. refl)
     (λ e. e) (λ e. e)
 
@@ -56,8 +57,8 @@ module _ (w : List ℕ) (m : Memory) (s : State) (owes : ℕ → Owed) (k : Tid)
       (λ i j known within u is.
       each i j known within u (live_before Relisted (s.tasks i j).live (on s.tasks k.0 g i j).live u (on_alike Relisted (λ x. refl) s.tasks k.0 g (λ x _. alike x) i j).live is))
 
--- another task may be given back next
-pub freeing_keeps : (w : List ℕ) (m : Memory) (s : State) (owes : ℕ → Owed) (free k : Option Tid)
+-- something else may be given back next
+pub freeing_keeps : (w : List ℕ) (m : Memory) (s : State) (owes : ℕ → Owed) (free : Option Freeable) (k : Option Tid)
     → KeepsWords w m s owes → KeepsWords w m (record s { tasks = freeing free k s.tasks }) owes
 freeing_keeps w m s owes free None keeps = keeps
 freeing_keeps w m s owes free (Some k) keeps =

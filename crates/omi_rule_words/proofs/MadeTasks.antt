@@ -11,13 +11,13 @@ use Rattle.omi_model.specs.LawNames.{AreNamesLive}
 use Rattle.omi_model.specs.Put.{Slots, made, named}
 use Rattle.omi_model.specs.State.{State, task_of}
 use Rattle.omi_model.proofs.Slots.{each_slot, made_beside, made_other, made_same, same_or_not, some_same}
-use Rattle.omi_layout.specs.declared.field.Field.TheVariants.{TaskChildren}
+use Rattle.omi_layout.specs.declared.field.Field.TheVariants.{TaskChildren, TaskReferences}
 use Rattle.omi_layout.specs.Field.{regions, tasks, threads}
 use Rattle.omi_layout.specs.Memory.{Memory, replace_at}
 use Rattle.omi_layout.specs.Table.{per_thread}
 use Rattle.omi_layout.proofs.Puts.{each_put}
 use Rattle.omi_rule_words.specs.Owes.{Owed, nothing}
-use Rattle.omi_rule_words.specs.Counts.{assign_owed, assigns_in, children_owed, has_region_slot, has_slot, is_finished, is_region, is_some_task, is_unfinished, of_live, one, pending_owed, sum_below, sum_of_owed, sum_of_slots, unfinished_children, unfinished_in}
+use Rattle.omi_rule_words.specs.Counts.{assign_owed, assigns_in, children_owed, has_region_slot, has_slot, is_finished, is_region, is_some_task, is_unfinished, of_live, one, pending_owed, sum_below, sum_of_owed, sum_of_slots, unfinished_children, unfinished_in, is_explicit, live_children, references_owed}
 use Rattle.omi_rule_words.specs.Threads.{Has, KeepsAssign, WaitsFor}
 use Rattle.omi_rule_words.specs.Objects.{HasPlace, KeepsDeferred, KeepsEnvironment, KeepsPlace}
 use Rattle.omi_rule_words.specs.Words.{IsInTheMaking, KeepsMaking, KeepsWords}
@@ -40,6 +40,7 @@ pub record IsFilledAs (w : List ℕ) (r : ℕ → ℕ → ℕ) (new : Task) : Ty
   pub environment : KeepsEnvironment w r new
   pub place : HasPlace new → KeepsPlace w r new
   pub children : Has r TaskChildren 0 0
+  pub references : Has r TaskReferences 0 1
 
 module _ (w : List ℕ) (m : Memory) (s : State) (owes : ℕ → Owed) (i : ℕ) (task : Tid) (new : Task) (k : Tid)
     (t : Task) (hand : Option Tid)
@@ -59,7 +60,7 @@ module _ (w : List ℕ) (m : Memory) (s : State) (owes : ℕ → Owed) (i : ℕ)
   other = replace_at owes i given
 
   abbrev before : Owed
-  before = record nothing { tasks = task ∷ []; pending = Some t.region; raised = Some k }
+  before = record nothing { tasks = task ∷ []; pending = Some t.region; raised = Some k; referred = Some k }
 
   owed : owes i ≡ before
   owed = owes_new.owed
@@ -79,10 +80,10 @@ module _ (w : List ℕ) (m : Memory) (s : State) (owes : ℕ → Owed) (i : ℕ)
   less j =
       each_put (λ c (x : Owed). OwesLess x (owes c)) owes i given
       (subst (λ (o : Owed). OwesLess given o) (sym owed) own) j
-      (λ _. record { pending = λ n is. is; raised = λ q is. is; lowered = refl; left = refl })
+      (λ _. record { pending = λ n is. is; raised = λ q is. is; referred = λ q is. is; lowered = refl; left = refl })
     where
       own : OwesLess given before
-      own = record { pending = λ n is. absurd (cc); raised = λ q is. absurd (cc); lowered = refl; left = refl }
+      own = record { pending = λ n is. absurd (cc); raised = λ q is. absurd (cc); referred = λ q is. absurd (cc); lowered = refl; left = refl }
 
   -- ---- slots
 
@@ -113,6 +114,7 @@ module _ (w : List ℕ) (m : Memory) (s : State) (owes : ℕ → Owed) (i : ℕ)
       environment = filled.environment;
       place = filled.place;
       children = filled.children;
+      references = filled.references ∙ ap (λ b. one (not b)) (sym is_made.explicit);
       slots = λ implicit. let explicit = is_made.explicit in absurd (cc);
       kind = refl;
     };
@@ -191,6 +193,17 @@ module _ (w : List ℕ) (m : Memory) (s : State) (owes : ℕ → Owed) (i : ℕ)
       ap (children_owed s q) owed in
       omega (arith, more, here, change, was)
 
+  references_counted : (q : Tid)
+      → live_children w after q + sum_of_owed s other (references_owed q) ≡ live_children w s q + sum_of_owed s owes (references_owed q)
+  references_counted q =
+      let more = made_counted (λ _ _ x. one (is_explicit x && is_some_task q x.generating)) in
+      let here : one (is_explicit new && is_some_task q new.generating) ≡ one (is_some_task q (Some k)) =
+      ap (λ b. one (not b && is_some_task q new.generating)) is_made.explicit
+      ∙ ap (λ o. one (is_some_task q o)) is_made.generating in
+      let change = owed_put s owes i given known (references_owed q) in
+      let was : references_owed q (owes i) ≡ one (is_some_task q (Some k)) = ap (references_owed q) owed in
+      omega (arith, more, here, change, was)
+
   -- ---- what is kept of each thread
 
   making_kept : (j : ℕ) → j < s.count → KeepsMaking after j (other j)
@@ -259,4 +272,4 @@ module _ (w : List ℕ) (m : Memory) (s : State) (owes : ℕ → Owed) (i : ℕ)
   pub made_kept : KeepsDeferred w (λ c. m c tasks) after other → KeepsWords w m after other
   made_kept deferred =
       grown w m s s.regions ts owes other
-      (λ u. u ≡ new) keeps names less region_slots task_slots pending_counted children_counted making_kept assigns assigned deferred
+      (λ u. u ≡ new) keeps names less region_slots task_slots references_counted pending_counted children_counted making_kept assigns assigned deferred

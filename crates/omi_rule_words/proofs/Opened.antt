@@ -13,7 +13,7 @@ use Rattle.omi_model.specs.Put.{first_alone, unused}
 use Rattle.omi_model.specs.State.{State}
 use Rattle.omi_model.proofs.OpeningObjects.{each_first_task}
 use Rattle.omi_layout.specs.declared.field.Field.{Field}
-use Rattle.omi_layout.specs.declared.field.Field.TheVariants.{RegionLeft, RegionLife, RegionPending, TaskChildren, TaskLife, TaskSlots, ThreadAssign}
+use Rattle.omi_layout.specs.declared.field.Field.TheVariants.{RegionLeft, RegionLife, RegionPending, TaskChildren, TaskLife, TaskSlots, ThreadAssign, TaskReferences}
 use Rattle.omi_layout.specs.Field.{runtime, threads, regions, tasks}
 use Rattle.omi_layout.specs.Memory.{Rec, MadeRecords, Memory, memory_of}
 use Rattle.omi_layout.specs.Named.{number}
@@ -23,7 +23,7 @@ use Rattle.omi_pc.specs.Opening.{opening_actor}
 use Rattle.omi_rep.specs.Suits.{Suits}
 use Rattle.omi_rep.proofs.OpenedCodes.{region_opened, runtime_opened, task_opened, thread_opened}
 use Rattle.omi_rule_words.specs.Owes.{Owed, all_owed, nothing}
-use Rattle.omi_rule_words.specs.Counts.{of_live, one, has_slot, has_region_slot, is_region, is_some_task, is_unfinished, pending_owed, left_owed, children_owed}
+use Rattle.omi_rule_words.specs.Counts.{of_live, one, has_slot, has_region_slot, is_region, is_some_task, is_unfinished, pending_owed, left_owed, children_owed, is_explicit, references_owed}
 use Rattle.omi_rule_words.specs.Threads.{KeepsAssign, WaitsFor}
 use Rattle.omi_rule_words.specs.Objects.{KeepsLife, KeepsRegion, KeepsCounts, KeepsDeferred}
 use Rattle.omi_rule_words.specs.Words.{KeepsTask, KeepsRegionSlot, KeepsTaskSlot, KeepsMaking, OwesOnLive, KeepsMade, KeepsWords, IsInTheMaking, region_in, task_in}
@@ -110,8 +110,15 @@ module _ (p : Program) (w words : List ℕ) (v : IsValid w) (suits : Suits p w)
         omega (arith, owed, is);
   }
 
-  counts_kept : (k : Tid) (r : Rec) → OpensTask p w r → KeepsCounts w s owes k r
+  counts_kept : (k : Tid) (r : Rec) → OpensTask p w r → KeepsCounts w s owes k r (opening_task p)
   counts_kept k r o = record {
+    references =
+        let children =
+        slots_none w s (λ c j t. one (is_explicit t && is_some_task k t.generating))
+        (none_counted p (λ t. one (is_explicit t && is_some_task k t.generating)) refl) in
+        let owed = owed_none s owes (references_owed k) none refl in
+        let is : r (number TaskReferences) 0 ≡ 0 = o.words TaskReferences 0 in
+        omega (arith, children, owed, is);
     children =
         let unfinished =
         slots_none w s (λ c j t. one (is_unfinished t && is_some_task k t.generating))
@@ -171,6 +178,7 @@ module _ (p : Program) (w words : List ℕ) (v : IsValid w) (suits : Suits p w)
     pending = λ n is. absurd (cc);
     left = λ n is. absurd (cc);
     raised = λ k is. absurd (cc);
+    referred = λ k is. absurd (cc);
     lowered = λ k is. absurd (cc);
     assigns = All-from_recursion (λ (m : Tid × ℕ). WaitsFor s m.1 m.0) [] tt;
   })

@@ -11,7 +11,7 @@ use Rattle.omi_model.specs.declared.task.Task.{Task}
 use Rattle.omi_model.specs.Put.{Slots, found, named}
 use Rattle.omi_model.specs.State.{State}
 use Rattle.omi_model.proofs.Slots.{id_same}
-use Rattle.omi_layout.specs.declared.field.Field.TheVariants.{RegionLeft, RegionLife, RegionPending, TaskChildren, TaskLife, TaskSlots}
+use Rattle.omi_layout.specs.declared.field.Field.TheVariants.{RegionLeft, RegionLife, RegionPending, TaskChildren, TaskLife, TaskSlots, TaskReferences}
 use Rattle.omi_layout.specs.declared.field.Field.{Field}
 use Rattle.omi_layout.specs.Field.{runtime, threads, regions, tasks}
 use Rattle.omi_layout.specs.Memory.{Memory, Rec, replace_at}
@@ -20,7 +20,7 @@ use Rattle.omi_layout.specs.Table.{per_thread}
 use Rattle.omi_layout.proofs.Puts.{each_put, put_other, put_same}
 use Rattle.omi_rep.specs.Codes.{region_told, task_told}
 use Rattle.omi_rule_words.specs.Owes.{Owed}
-use Rattle.omi_rule_words.specs.Counts.{children_owed, has_region_slot, has_slot, is_id, left_owed, pending_owed, start_owed, sum_of_owed, unfinished_in}
+use Rattle.omi_rule_words.specs.Counts.{children_owed, has_region_slot, has_slot, is_id, left_owed, pending_owed, start_owed, sum_of_owed, unfinished_in, references_owed}
 use Rattle.omi_rule_words.specs.Threads.{Has, KeepsAssign, KeepsRuntime, KeepsThread}
 use Rattle.omi_rule_words.specs.Objects.{IsDeferredIn, KeepsCounts, KeepsLife, KeepsRegion}
 use Rattle.omi_rule_words.specs.Words.{AreApart, IsInTheMaking, KeepsMade, KeepsTask, KeepsWords, OwesOnLive, region_in, task_in}
@@ -80,6 +80,11 @@ pub record MakesAlike (p o : Owed) : Type 0 where
 makes_alike : (o : Owed) → MakesAlike o o
 makes_alike o = record { region = refl; tasks = refl; left = refl; assigns = refl; met = refl; hand = refl }
 
+-- they owe the same on the counts of a task
+pub record OwesAlikeOn (s : State) (k : Tid) (p o : Owed) : Type 0 where
+  pub children : children_owed s k p ≡ children_owed s k o
+  pub references : references_owed k p ≡ references_owed k o
+
 -- one thread owes otherwise
 pub owed_put : (s : State) (owes : ℕ → Owed) (i : ℕ) (p : Owed) → i < s.count → (f : Owed → ℕ)
     → sum_of_owed s (replace_at owes i p) f + f (owes i) ≡ sum_of_owed s owes f + f p
@@ -125,23 +130,27 @@ module _ (w : List ℕ) (m n : Memory) (s : State) (owes : ℕ → Owed) (i : �
       }
 
   -- the counts of a task on which the same is owed
-  pub counts_same : (k : Tid) (a b : Rec) → b (number TaskChildren) 0 ≡ a (number TaskChildren) 0
-      → children_owed s k p ≡ children_owed s k (owes i)
-      → KeepsCounts w s owes k a → KeepsCounts w s other k b
-  counts_same k a b children children_is o = record {
+  pub counts_same : (k : Tid) (a b : Rec) (t : Task) → b (number TaskChildren) 0 ≡ a (number TaskChildren) 0
+      → b (number TaskReferences) 0 ≡ a (number TaskReferences) 0
+      → OwesAlikeOn s k p (owes i) → KeepsCounts w s owes k a t → KeepsCounts w s other k b t
+  counts_same k a b t children references same o = record {
     children =
         let was = o.children in
-        let owed = owed_put_same s owes i p (children_owed s k) children_is in
+        let owed = owed_put_same s owes i p (children_owed s k) same.children in
         omega (arith, was, children, owed);
+    references =
+        let was = o.references in
+        let owed = owed_put_same s owes i p (references_owed k) same.references in
+        omega (arith, was, references, owed);
   }
 
   -- the record of a task that counts otherwise
   pub task_counted : (k : Tid) (a b : Rec) (t : Task)
-      → ((g : Field) (at : ℕ) → number g ≢ number TaskChildren → b (number g) at ≡ a (number g) at)
-      → (KeepsCounts w s owes k a → KeepsCounts w s other k b) → KeepsTask w s owes k a t → KeepsTask w s other k b t
+      → ((g : Field) (at : ℕ) → number g ≢ number TaskChildren → number g ≢ number TaskReferences → b (number g) at ≡ a (number g) at)
+      → (KeepsCounts w s owes k a t → KeepsCounts w s other k b t) → KeepsTask w s owes k a t → KeepsTask w s other k b t
   task_counted k a b t same counts o = record {
-    environment = λ g at word none told. same g at (task_apart w (task_told t) g at word told).0 ∙ o.environment g at word none told;
-    place = λ has g at word is told. same g at (task_apart w (task_told t) g at word told).0 ∙ o.place has g at word is told;
+    environment = λ g at word none told. let apart = task_apart w (task_told t) g at word told in same g at apart.0 apart.2 ∙ o.environment g at word none told;
+    place = λ has g at word is told. let apart = task_apart w (task_told t) g at word told in same g at apart.0 apart.2 ∙ o.place has g at word is told;
     counts = counts o.counts;
     slots = λ implicit at within. slot at (o.slots implicit at within);
   }
@@ -149,8 +158,8 @@ module _ (w : List ℕ) (m n : Memory) (s : State) (owes : ℕ → Owed) (i : �
       slot : (at : ℕ)
           → Has a TaskSlots at 0 ⊎ ((j : Tid) × IsDeferredIn s t at j × Has a TaskSlots at (slot_word w j))
           → Has b TaskSlots at 0 ⊎ ((j : Tid) × IsDeferredIn s t at j × Has b TaskSlots at (slot_word w j))
-      slot at (inl none) = inl (same TaskSlots at (λ is. omega (arith, is)) ∙ none)
-      slot at (inr (j, x, is)) = inr (j, x, same TaskSlots at (λ is. omega (arith, is)) ∙ is)
+      slot at (inl none) = inl (same TaskSlots at (λ is. omega (arith, is)) (λ is. omega (arith, is)) ∙ none)
+      slot at (inr (j, x, is)) = inr (j, x, same TaskSlots at (λ is. omega (arith, is)) (λ is. omega (arith, is)) ∙ is)
 
   -- all is kept, where the words of live regions and tasks are right
   pub other_counts : ((c kind j : ℕ) → (kind ≡ regions → ⊥) → (kind ≡ tasks → ⊥) → n c kind j ≡ m c kind j)

@@ -9,7 +9,7 @@ use Rattle.omi_model.specs.declared.task.Task.{Task}
 use Rattle.omi_model.specs.State.{State}
 use Rattle.omi_layout.specs.Memory.{Rec}
 use Rattle.omi_rule_words.specs.Owes.{Owed}
-use Rattle.omi_rule_words.specs.Counts.{sum_of_owed, pending_owed, left_owed, children_owed, start_owed, assign_owed, assigns_in, one, is_some_region, is_some_task, generating_of}
+use Rattle.omi_rule_words.specs.Counts.{sum_of_owed, pending_owed, left_owed, children_owed, start_owed, assign_owed, assigns_in, one, is_some_region, is_some_task, generating_of, references_owed}
 use Rattle.omi_rule_words.specs.Objects.{KeepsCounts, KeepsDeferred, KeepsRegion}
 use Rattle.omi_rule_words.specs.Threads.{KeepsAssign, WaitsFor}
 use Rattle.omi_rule_words.specs.Words.{KeepsTask, OwesOnLive}
@@ -21,11 +21,12 @@ pub record OwesAlike (p o : Owed) : Type 0 where
   pub pending : p.pending ≡ o.pending
   pub raised : p.raised ≡ o.raised
   pub lowered : p.lowered ≡ o.lowered
+  pub referred : p.referred ≡ o.referred
   pub left : p.left ≡ o.left
   pub hand : p.hand ≡ o.hand
 
 pub owes_alike : (o : Owed) → OwesAlike o o
-owes_alike o = record { pending = refl; raised = refl; lowered = refl; left = refl; hand = refl }
+owes_alike o = record { pending = refl; raised = refl; lowered = refl; referred = refl; left = refl; hand = refl }
 
 module _ (w : List ℕ) (s : State) (owes other : ℕ → Owed)
     (alike : (j : ℕ) → OwesAlike (other j) (owes j)) where
@@ -39,18 +40,22 @@ module _ (w : List ℕ) (s : State) (owes other : ℕ → Owed)
       region_counted w s s owes other n r x (omega (arith, pending))
       (same (left_owed n) (λ j. ap (λ q. one (is_some_region n q)) (alike j).left)) o
 
-  counts_owed : (k : Tid) (r : Rec) → KeepsCounts w s owes k r → KeepsCounts w s other k r
-  counts_owed k r o = record {
+  counts_owed : (k : Tid) (r : Rec) (t : Task) → KeepsCounts w s owes k r t → KeepsCounts w s other k r t
+  counts_owed k r t o = record {
     children =
         let was = o.children in
         let owed =
         same (children_owed s k)
         (λ j. ap₂ (λ a b. one (is_some_task k a) + one (is_some_task k (option_and_then (generating_of s) b))) (alike j).raised (alike j).lowered) in
         omega (arith, was, owed);
+    references =
+        let was = o.references in
+        let owed = same (references_owed k) (λ j. ap (λ q. one (is_some_task k q)) (alike j).referred) in
+        omega (arith, was, owed);
   }
 
   pub task_owed : (k : Tid) (r : Rec) (t : Task) → KeepsTask w s owes k r t → KeepsTask w s other k r t
-  task_owed k r t o = record { environment = o.environment; place = o.place; counts = counts_owed k r o.counts; slots = o.slots }
+  task_owed k r t o = record { environment = o.environment; place = o.place; counts = counts_owed k r t o.counts; slots = o.slots }
 
   pub deferred_owed : (r : ℕ → ℕ → Rec) → KeepsDeferred w r s owes → KeepsDeferred w r s other
   deferred_owed r o = record {
@@ -69,6 +74,7 @@ objects_owed s o p alike assigns x = record {
   left = λ n is. x.left n (sym alike.left ∙ is);
   raised = λ k is. x.raised k (sym alike.raised ∙ is);
   lowered = λ k is. x.lowered k (sym alike.lowered ∙ is);
+  referred = λ k is. x.referred k (sym alike.referred ∙ is);
   assigns = assigns;
 }
 

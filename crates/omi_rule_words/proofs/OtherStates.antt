@@ -1,6 +1,6 @@
 -- A state whose regions and tasks go on as what they are, with other words in their records: what has to be shown of these words so that all is kept.
 use Rattle.std.proofs.Common.{◌≡◌, ◌==◌, ◌+◌, ◌<◌, ◌&&◌, ℕ, inl, inr, ◌-◌, List, Option, Some, None, refl, sym, ap, subst, ◌∙◌, arith, if◌then◌else◌}
-use Rattle.std.specs.Prelude.{◌⊎◌}
+use Rattle.std.specs.Prelude.{◌⊎◌, not}
 use Rattle.std.specs.Option.{option_and_then}
 use Rattle.omi_rep.specs.Records.{slot_word}
 use Rattle.omi_model.specs.declared.id.Rid.{Rid}
@@ -8,13 +8,14 @@ use Rattle.omi_model.specs.declared.id.Tid.{Tid}
 use Rattle.omi_model.specs.declared.region.Region.{Region}
 use Rattle.omi_model.specs.declared.task.Task.{Task}
 use Rattle.omi_model.specs.State.{State}
-use Rattle.omi_layout.specs.declared.field.Field.TheVariants.{RegionLife, TaskChildren, TaskLife, TaskSlots, ThreadAssign}
+use Rattle.omi_numbers.specs.declared.limits.TheConstants.{OWN_SLOTS}
+use Rattle.omi_layout.specs.declared.field.Field.TheVariants.{RegionLife, TaskChildren, TaskLife, TaskSlots, ThreadAssign, TaskReferences}
 use Rattle.omi_layout.specs.Field.{runtime, threads, regions, tasks}
 use Rattle.omi_layout.specs.Memory.{Rec, Memory}
 use Rattle.omi_layout.specs.Named.{number}
-use Rattle.omi_layout.specs.Table.{per_thread, width}
+use Rattle.omi_layout.specs.Table.{per_thread}
 use Rattle.omi_rule_words.specs.Owes.{Owed}
-use Rattle.omi_rule_words.specs.Counts.{assign_owed, children_owed, generating_of, has_region_slot, has_slot, is_region, is_some_task, is_unfinished, left_owed, of_live, one, pending_owed, start_owed, sum_below, sum_of_owed, sum_of_slots, unfinished_children, unfinished_in}
+use Rattle.omi_rule_words.specs.Counts.{assign_owed, children_owed, generating_of, has_region_slot, has_slot, is_region, is_some_task, is_unfinished, left_owed, of_live, one, pending_owed, start_owed, sum_below, sum_of_owed, sum_of_slots, unfinished_children, unfinished_in, is_explicit, live_children, references_owed}
 use Rattle.omi_rule_words.specs.Threads.{Has, IsAssignedOnce, KeepsAssign, KeepsRuntime, KeepsThread, WaitsFor}
 use Rattle.omi_rule_words.specs.Objects.{IsDeferredIn, KeepsCounts, KeepsDeferred, KeepsEnvironment, KeepsPlace, KeepsRegion, KeepsSlots, slots_with}
 use Rattle.omi_rule_words.specs.Words.{KeepsMade, KeepsTask, KeepsWords, region_in, task_in}
@@ -36,13 +37,13 @@ slots_as_before w m n s same code =
   where
     held : Memory → ℕ → ℕ → Task → ℕ
     held x c j t =
-        if t.implicit then sum_below (width w (number TaskSlots)) (λ place. one (x c tasks j (number TaskSlots) place == code)) else 0
+        if t.implicit then sum_below OWN_SLOTS (λ place. one (x c tasks j (number TaskSlots) place == code)) else 0
 
     of_row : (c j : ℕ) (o : Option Task) → of_live (held n c j) o ≡ of_live (held m c j) o
     of_row c j None = refl
     of_row c j (Some t) =
         ap (λ (x : ℕ). if t.implicit then x else 0)
-        (sum_same (width w (number TaskSlots)) (λ place. one (n c tasks j (number TaskSlots) place == code)) (λ place. one (m c tasks j (number TaskSlots) place == code))
+        (sum_same OWN_SLOTS (λ place. one (n c tasks j (number TaskSlots) place == code)) (λ place. one (m c tasks j (number TaskSlots) place == code))
         (λ place. ap (λ x. one (x == code)) (same c j place)))
 
 module _ (w : List ℕ) (s u : State) (owes : ℕ → Owed) (count : u.count ≡ s.count)
@@ -86,8 +87,16 @@ module _ (w : List ℕ) (s u : State) (owes : ℕ → Owed) (count : u.count ≡
       region_counted w s u owes owes n r x (omega (arith, same, owed))
       (owed_counted (left_owed n) (left_owed n) (λ o. refl)) o
 
-  counts_kept : (k : Tid) (r : Rec) → KeepsCounts w s owes k r → KeepsCounts w u owes k r
-  counts_kept k r o = record {
+  counts_kept : (k : Tid) (r : Rec) (t : Task) → KeepsCounts w s owes k r t → KeepsCounts w u owes k r t
+  counts_kept k r t o = record {
+    references =
+        let was = o.references in
+        let same : live_children w u k ≡ live_children w s k
+        = tasks_counted (λ c j x. one (is_explicit x && is_some_task k x.generating))
+        (λ c j x v alike. parts_same (λ i p q g. one (not i && is_some_task k g)) x v alike) in
+        let owed : sum_of_owed u owes (references_owed k) ≡ sum_of_owed s owes (references_owed k) =
+        owed_counted (references_owed k) (references_owed k) (λ o. refl) in
+        omega (arith, was, same, owed);
     children =
         let was = o.children in
         let same : unfinished_children w u k ≡ unfinished_children w s k
@@ -118,7 +127,7 @@ module _ (w : List ℕ) (s u : State) (owes : ℕ → Owed) (count : u.count ≡
   task_kept k r t o = record {
     environment = o.environment;
     place = o.place;
-    counts = counts_kept k r o.counts;
+    counts = counts_kept k r t o.counts;
     slots = λ implicit. slots_kept r t (o.slots implicit);
   }
 
@@ -161,7 +170,7 @@ module _ (w : List ℕ) (s u : State) (owes : ℕ → Owed) (count : u.count ≡
         -- the slots of a row that hold a word
         in_row : ℕ → ℕ → ℕ → ℕ
         in_row code c j =
-            sum_below (width w (number TaskSlots))
+            sum_below OWN_SLOTS
             (λ place. one (n c tasks j (number TaskSlots) place == code))
 
     -- and other words in the records of the objects that are live, which are their codes
@@ -196,16 +205,26 @@ module _ (w : List ℕ) (s u : State) (owes : ℕ → Owed) (count : u.count ≡
               objects = objects_after s u regions_alike tasks_alike (owes i) o.objects;
             }
 
+-- a task of the same kind counts the same
+pub counts_as : (w : List ℕ) (s : State) (owes : ℕ → Owed) (k : Tid) (r : Rec) (t u : Task) → u.implicit ≡ t.implicit
+    → KeepsCounts w s owes k r t → KeepsCounts w s owes k r u
+counts_as w s owes k r t u same o = record {
+  children = o.children;
+  references = o.references
+      ∙ ap (λ b. one (not b) + (live_children w s k + sum_of_owed s owes (references_owed k))) (sym same);
+}
+
 -- a task that is another, and whose record has other words than its counts and slots
 pub task_rewritten : (w : List ℕ) (s : State) (owes : ℕ → Owed) (k : Tid) (r q : Rec) (t u : Task)
     → IsSameTask t u
-    → q (number TaskChildren) 0 ≡ r (number TaskChildren) 0 → ((place : ℕ) → q (number TaskSlots) place ≡ r (number TaskSlots) place)
+    → q (number TaskChildren) 0 ≡ r (number TaskChildren) 0 → q (number TaskReferences) 0 ≡ r (number TaskReferences) 0 → ((place : ℕ) → q (number TaskSlots) place ≡ r (number TaskSlots) place)
     → (KeepsEnvironment w r t → KeepsEnvironment w q u) → (KeepsPlace w r t → KeepsPlace w q u) → KeepsTask w s owes k r t → KeepsTask w s owes k q u
-task_rewritten w s owes k r q t u same children slots environment place o = record {
+task_rewritten w s owes k r q t u same children references slots environment place o = record {
   environment = environment o.environment;
   place = λ has. place (o.place (λ explicit deferred. has (same.implicit ∙ explicit) (same.progress ∙ deferred)));
   counts = record {
     children = children ∙ o.counts.children;
+    references = references ∙ (counts_as w s owes k r t u same.implicit o.counts).references;
   };
   slots = λ implicit at within. slot at (o.slots (sym same.implicit ∙ implicit) at within);
 }

@@ -8,18 +8,18 @@ use Rattle.omi_model.specs.declared.id.Rid.{Rid}
 use Rattle.omi_model.specs.declared.id.Tid.{Tid}
 use Rattle.omi_model.specs.declared.region.Region.{Region}
 use Rattle.omi_model.specs.State.{State, region_of}
-use Rattle.omi_layout.specs.declared.field.Field.TheVariants.{RegionLife, RegionPending, TaskChildren, TaskLife, TaskSlots}
+use Rattle.omi_layout.specs.declared.field.Field.TheVariants.{RegionLife, RegionPending, TaskChildren, TaskLife, TaskSlots, TaskReferences}
 use Rattle.omi_layout.specs.Field.{regions, tasks}
 use Rattle.omi_layout.specs.Memory.{Memory, Rec, replace_at}
 use Rattle.omi_layout.specs.Named.{number}
 use Rattle.omi_layout.proofs.Puts.{record_stays, word_read, word_stays}
 use Rattle.omi_rule_words.specs.Owes.{Owed}
-use Rattle.omi_rule_words.specs.Counts.{children_owed, is_some_region, one, pending_owed, sum_of_owed}
+use Rattle.omi_rule_words.specs.Counts.{is_some_region, one, pending_owed, sum_of_owed}
 use Rattle.omi_rule_words.specs.Objects.{KeepsRegion}
 use Rattle.omi_rule_words.specs.Words.{KeepsWords, OwesOnLive, region_in, task_in}
 use Rattle.omi_rule_words.specs.BarrierKinds.{one_more, with_region_word, word_of_region}
 use Rattle.omi_rule_words.specs.CountKinds.{PendingAddsKeep, PendingSubtractsKeep, one_less}
-use Rattle.omi_rule_words.proofs.OtherCounts.{MakesAlike, counts_same, is_other_id, is_own_id, name_of_slot, other_counts, owed_put, owed_put_same, region_counted, task_counted}
+use Rattle.omi_rule_words.proofs.OtherCounts.{MakesAlike, OwesAlikeOn, counts_same, is_other_id, is_own_id, name_of_slot, other_counts, owed_put, owed_put_same, region_counted, task_counted}
 use Rattle.omi_rule_words.proofs.Sums.{part_below}
 
 module _ (w : List ℕ) (m : Memory) (s : State) (owes : ℕ → Owed) (i : ℕ) (p : Owed) (n : Rid) (word : ℕ)
@@ -33,7 +33,7 @@ module _ (w : List ℕ) (m : Memory) (s : State) (owes : ℕ → Owed) (i : ℕ)
 
   -- the word is right where as much is added to it as is owed more, and no less is owed on other regions
   pub pending_stored : (region : Region) → region_of s n ≡ Some region
-      → ((k : Tid) → children_owed s k p ≡ children_owed s k (owes i))
+      → ((k : Tid) → OwesAlikeOn s k p (owes i))
       →
       ((q : Rid) → (q.0.creator ≡ n.0.creator → q.0.slot ≡ n.0.slot → ⊥) → pending_owed q p ≡ pending_owed q (owes i))
       →
@@ -50,9 +50,9 @@ module _ (w : List ℕ) (m : Memory) (s : State) (owes : ℕ → Owed) (i : ℕ)
       (λ c j within _ t there o.
       let same = stays c tasks j (λ kind. absurd (omega (arith, kind))) in
       task_counted w m after s owes i p keeps alike (task_in c j (s.tasks c j)) (m c tasks j)
-      (after c tasks j) t (λ g at _. ap (λ (r : Rec). r (number g) at) same)
-      (counts_same w m after s owes i p keeps alike (task_in c j (s.tasks c j)) (m c tasks j) (after c tasks j) (ap (λ (r : Rec). r (number TaskChildren) 0) same)
-      (children (task_in c j (s.tasks c j)))) o)
+      (after c tasks j) t (λ g at _ _. ap (λ (r : Rec). r (number g) at) same)
+      (counts_same w m after s owes i p keeps alike (task_in c j (s.tasks c j)) (m c tasks j) (after c tasks j) t (ap (λ (r : Rec). r (number TaskChildren) 0) same)
+      (ap (λ (r : Rec). r (number TaskReferences) 0) same) (children (task_in c j (s.tasks c j)))) o)
     where
       name_is : region_in n.0.creator n.0.slot (s.regions n.0.creator n.0.slot) ≡ n
       name_is = ap (λ (q : Id). record { 0 = q }) (name_of_slot s.regions n.0 region live)
@@ -125,7 +125,7 @@ pending_adds_keep =
         let (region, is) = live_of (region_of s n) live in
         pending_stored w m s owes i p n (one_more (word_of_region m n RegionPending)) keeps known
         (record { region = refl; tasks = refl; left = refl; assigns = refl; met = refl; hand = refl })
-        region is (λ k. refl)
+        region is (λ k. record { children = refl; references = refl })
         (λ q apart.
         let unowed : pending_owed q (owes i) ≡ 0 = ap (λ (o : Option Rid). one (is_some_region q o)) none in
         ap one (is_other_id q.0 n.0 apart) ∙ sym unowed)
@@ -138,6 +138,7 @@ pending_adds_keep =
           left = x.left;
           raised = x.raised;
           lowered = x.lowered;
+          referred = x.referred;
           assigns = x.assigns;
         })
       where
@@ -155,7 +156,7 @@ pending_subtracts_keep = λ w m s owes i n keeps known owed small. kept w m s ow
         let (region, is) = live_of (region_of s n) ((keeps.made i known).objects.pending n owed) in
         pending_stored w m s owes i p n (one_less (word_of_region m n RegionPending)) keeps known
         (record { region = refl; tasks = refl; left = refl; assigns = refl; met = refl; hand = refl })
-        region is (λ k. refl)
+        region is (λ k. record { children = refl; references = refl })
         (λ q apart. sym (ap (λ (o : Option Rid). one (is_some_region q o)) owed ∙ ap one (is_other_id q.0 n.0 apart)))
         (λ least.
         let before : pending_owed n (owes i) ≡ 1 =
@@ -167,6 +168,7 @@ pending_subtracts_keep = λ w m s owes i n keeps known owed small. kept w m s ow
           left = x.left;
           raised = x.raised;
           lowered = x.lowered;
+          referred = x.referred;
           assigns = x.assigns;
         })
       where

@@ -6,7 +6,7 @@ use Rattle.omi_model.specs.declared.task.Task.{Task}
 use Rattle.omi_model.specs.State.{State}
 use Rattle.omi_model.proofs.Slots.{found_live, some_same}
 use Rattle.omi_layout.specs.declared.field.Field.{Field}
-use Rattle.omi_layout.specs.declared.field.Field.TheVariants.{RegionLife, TaskChildren, TaskLife, TaskSlots, ThreadAssign}
+use Rattle.omi_layout.specs.declared.field.Field.TheVariants.{RegionLife, TaskChildren, TaskLife, TaskSlots, ThreadAssign, TaskReferences}
 use Rattle.omi_layout.specs.Field.{runtime, threads, regions, tasks}
 use Rattle.omi_layout.specs.Memory.{Memory, Rec, with_word}
 use Rattle.omi_layout.specs.Named.{number}
@@ -53,7 +53,10 @@ module _ (w : List ℕ) (m : Memory) (s : State) (owes : ℕ → Owed) (k : Tid)
       record {
         environment = λ g p v none told. other_word g none k.0.creator k.0.slot p ∙ o.environment g p v none told;
         place = λ has. absurd (has (sym (ap (λ (y : Task). y.implicit) same) ∙ is.explicit) deferred);
-        counts = record { children = other_word TaskChildren refl k.0.creator k.0.slot 0 ∙ o.counts.children };
+        counts = record {
+          children = other_word TaskChildren refl k.0.creator k.0.slot 0 ∙ o.counts.children;
+          references = other_word TaskReferences refl k.0.creator k.0.slot 0 ∙ o.counts.references;
+        };
         slots = λ implicit. let explicit : x.implicit ≡ false = sym (ap (λ (y : Task). y.implicit) same) ∙ is.explicit in absurd (cc);
       }
 

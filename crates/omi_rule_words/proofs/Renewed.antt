@@ -5,6 +5,7 @@ use mathlib.Core.Path.{fun_ext}
 use Rattle.std.specs.Prelude.{◌⊎◌, All, IsSome}
 use Rattle.std.specs.Option.{option_and_then}
 use Rattle.std.proofs.lemmas.List.Elements.{All-weaker}
+use Rattle.omi_rule_words.proofs.OtherStates.{counts_as}
 use Rattle.omi_model.specs.declared.id.Id.{Id}
 use Rattle.omi_model.specs.declared.id.Rid.{Rid}
 use Rattle.omi_model.specs.declared.id.Tid.{Tid}
@@ -16,16 +17,17 @@ use Rattle.omi_model.specs.declared.slot.Slot.{Slot}
 use Rattle.omi_model.specs.declared.task.Task.{Task}
 use Rattle.omi_model.specs.Put.{Slots, found}
 use Rattle.omi_model.specs.State.{State, region_of, task_of}
+use Rattle.omi_numbers.specs.declared.limits.TheConstants.{OWN_SLOTS}
 use Rattle.omi_layout.specs.declared.field.Field.{Field}
 use Rattle.omi_layout.specs.declared.field.Field.TheVariants.{RegionLeft, RegionLife, RegionPending, TaskLife, TaskSlots}
 use Rattle.omi_layout.specs.Field.{runtime, threads, regions, tasks}
 use Rattle.omi_layout.specs.Memory.{Rec, Memory}
 use Rattle.omi_layout.specs.Named.{number}
-use Rattle.omi_layout.specs.Table.{per_thread, width}
+use Rattle.omi_layout.specs.Table.{per_thread}
 use Rattle.omi_rep.specs.Codes.{region_code, region_told}
 use Rattle.omi_rep.specs.Records.{slot_word}
 use Rattle.omi_rule_words.specs.Owes.{Owed}
-use Rattle.omi_rule_words.specs.Counts.{children_owed, ended_members, generating_of, has_region_slot, has_slot, is_finished, is_region, is_some_region, is_some_task, is_unfinished, left_owed, of_live, one, pending_owed, start_owed, sum_below, sum_of_owed, sum_of_slots, unfinished_children, unfinished_in}
+use Rattle.omi_rule_words.specs.Counts.{children_owed, ended_members, generating_of, has_region_slot, has_slot, is_finished, is_region, is_some_region, is_some_task, is_unfinished, left_owed, of_live, one, pending_owed, start_owed, sum_below, sum_of_owed, sum_of_slots, unfinished_children, unfinished_in, is_explicit, live_children, references_owed}
 use Rattle.omi_rule_words.specs.Threads.{Has, KeepsAssign, KeepsRuntime, KeepsThread, WaitsFor}
 use Rattle.omi_rule_words.specs.Objects.{IsDeferredIn, KeepsCounts, KeepsDeferred, KeepsEnvironment, KeepsLife, KeepsPlace, KeepsRegion, KeepsSlots, slots_with}
 use Rattle.omi_rule_words.specs.Words.{AreApart, HasFinished, IsInTheMaking, KeepsMaking, KeepsRegionSlot, KeepsTask, KeepsTaskSlot, KeepsWords, OwesOnLive, region_in, task_in}
@@ -224,11 +226,12 @@ pub record OwesSame (p o : Owed) : Type 0 where
   pub tasks : p.tasks ≡ o.tasks
   pub pending : p.pending ≡ o.pending
   pub raised : p.raised ≡ o.raised
+  pub referred : p.referred ≡ o.referred
   pub lowered : p.lowered ≡ o.lowered
   pub hand : p.hand ≡ o.hand
 
 pub owes_same : (o : Owed) → OwesSame o o
-owes_same o = record { region = refl; tasks = refl; pending = refl; raised = refl; lowered = refl; hand = refl }
+owes_same o = record { region = refl; tasks = refl; pending = refl; raised = refl; lowered = refl; referred = refl; hand = refl }
 
 module _ (w : List ℕ) (m n : Memory) (s : State) (rs : Slots Region) (ts : Slots Task) (owes other : ℕ → Owed)
     (keeps : KeepsWords w m s owes)
@@ -352,8 +355,15 @@ module _ (w : List ℕ) (m n : Memory) (s : State) (rs : Slots Region) (ts : Slo
           free = λ none free. word ∙ l.free none free;
         }
 
-  counts_kept : (k : Tid) (r : Rec) → KeepsCounts w s owes k r → KeepsCounts w after other k r
-  counts_kept k r o = record {
+  counts_kept : (k : Tid) (r : Rec) (t : Task) → KeepsCounts w s owes k r t → KeepsCounts w after other k r t
+  counts_kept k r t o = record {
+    references =
+        let was = o.references in
+        let same : live_children w after k ≡ live_children w s k
+        = tasks_counted (λ c j x. one (is_explicit x && is_some_task k x.generating))
+        (λ c j x y a. ap₂ (λ p q. one (not p && is_some_task k q)) (ap (λ (z : Task). z.implicit) a.is) (ap (λ (z : Task). z.generating) a.is)) in
+        let owed = owed_same (references_owed k) (references_owed k) (λ j. ap (λ o. one (is_some_task k o)) (alike j).referred) in
+        omega (arith, was, same, owed);
     children =
         let was = o.children in
         let same : unfinished_children w after k ≡ unfinished_children w s k
@@ -398,7 +408,7 @@ module _ (w : List ℕ) (m n : Memory) (s : State) (rs : Slots Region) (ts : Slo
     environment = subst (λ (x : Task). KeepsEnvironment w r x) (sym related.is) o.environment;
     place = λ has. subst (λ (x : Task). KeepsPlace w r x) (sym related.is)
         (o.place (λ explicit deferred. has (ap (λ (x : Task). x.implicit) related.is ∙ explicit) (deferred_after t u related deferred)));
-    counts = counts_kept k r o.counts;
+    counts = counts_as w after other k r t u (ap (λ (x : Task). x.implicit) related.is) (counts_kept k r t o.counts);
     slots = λ implicit. slots_kept r t u related (o.slots (sym (ap (λ (z : Task). z.implicit) related.is) ∙ implicit));
   }
 
@@ -433,6 +443,7 @@ module _ (w : List ℕ) (m n : Memory) (s : State) (rs : Slots Region) (ts : Slo
     pending = λ r is. some_region_after r (x.pending r (sym (alike j).pending ∙ is));
     left = left;
     raised = λ k is. some_task_after k (x.raised k (sym (alike j).raised ∙ is));
+    referred = λ k is. some_task_after k (x.referred k (sym (alike j).referred ∙ is));
     lowered = λ k is.
         let (finished, live) = x.lowered k (sym (alike j).lowered ∙ is) in
         (finished_after k finished, subst (λ (g : Option Tid). IsSome (option_and_then (task_of after) g)) (sym (generating_same k)) (parent (generating_of s k) live));
@@ -451,8 +462,8 @@ module _ (w : List ℕ) (m n : Memory) (s : State) (rs : Slots Region) (ts : Slo
         let was = o.once k t live (deferred_before t u related deferred) in
         let slots : slots_with w r after (slot_word w k) ≡ slots_with w r s (slot_word w k)
         = tasks_counted
-        (λ c j x. if x.implicit then sum_below (width w (number TaskSlots)) (λ place. one (r c j (number TaskSlots) place == slot_word w k)) else 0)
-        (λ c j x y a. ap (λ (z : Task). if z.implicit then sum_below (width w (number TaskSlots)) (λ place. one (r c j (number TaskSlots) place == slot_word w k)) else 0) a.is) in
+        (λ c j x. if x.implicit then sum_below OWN_SLOTS (λ place. one (r c j (number TaskSlots) place == slot_word w k)) else 0)
+        (λ c j x y a. ap (λ (z : Task). if z.implicit then sum_below OWN_SLOTS (λ place. one (r c j (number TaskSlots) place == slot_word w k)) else 0) a.is) in
         let owed =
         owed_same (start_owed k) (start_owed k) (λ j. ap (λ q. one (is_some_task k q)) (alike j).hand) in
         omega (arith, was, slots, owed);

@@ -9,11 +9,12 @@ use Rattle.omi_model.specs.declared.progress.Progress.TheVariants as progress
 use Rattle.omi_model.specs.declared.task.Task.{Task}
 use Rattle.omi_model.specs.State.{State, task_of}
 use Rattle.omi_model.proofs.Slots.{found_live, some_same}
-use Rattle.omi_layout.specs.declared.field.Field.TheVariants.{TaskChildren, TaskLife, TaskSlots}
+use Rattle.omi_numbers.specs.declared.limits.TheConstants.{OWN_SLOTS}
+use Rattle.omi_layout.specs.declared.field.Field.TheVariants.{TaskChildren, TaskLife, TaskSlots, TaskReferences}
 use Rattle.omi_layout.specs.Field.{regions, runtime, tasks, threads}
 use Rattle.omi_layout.specs.Memory.{Memory, Rec, replace_at}
 use Rattle.omi_layout.specs.Named.{number}
-use Rattle.omi_layout.specs.Table.{per_thread, width}
+use Rattle.omi_layout.specs.Table.{per_thread}
 use Rattle.omi_layout.specs.Valid.{IsValid}
 use Rattle.omi_layout.proofs.Puts.{each_put, record_stays, word_read, word_stays}
 use Rattle.omi_rep.specs.Shows.{IsWithin}
@@ -36,7 +37,7 @@ module _ (w : List ℕ) (m : Memory) (s : State) (owes : ℕ → Owed) (i : ℕ)
     (u : Task) (place word : ℕ) (keeps : KeepsWords w m s owes)
     (known : i < s.count) (maker : row.0.creator < s.count) (slot_below : row.0.slot < per_thread w tasks)
     (live : task_of s row ≡ Some u) (implicit : u.implicit ≡ true)
-    (inside : place < width w (number TaskSlots))
+    (inside : place < OWN_SLOTS)
     (word_is : (word ≡ 0) ⊎ ((k : Tid) × IsDeferredIn s u place k × (word ≡ slot_word w k))) where
   abbrev after : Memory
   after = with_slot m row place word
@@ -64,7 +65,10 @@ module _ (w : List ℕ) (m : Memory) (s : State) (owes : ℕ → Owed) (i : ℕ)
   row_kept o = record {
     environment = λ g at x none told. other_word (number g) (task_apart w (task_told u) g at x told).1 row.0.creator row.0.slot at ∙ o.environment g at x none told;
     place = λ has g at x is told. other_word (number g) (task_apart w (task_told u) g at x told).1 row.0.creator row.0.slot at ∙ o.place has g at x is told;
-    counts = record { children = other_word (number TaskChildren) (λ is. omega (arith, is)) row.0.creator row.0.slot 0 ∙ o.counts.children };
+    counts = record {
+      children = other_word (number TaskChildren) (λ is. omega (arith, is)) row.0.creator row.0.slot 0 ∙ o.counts.children;
+      references = other_word (number TaskReferences) (λ is. omega (arith, is)) row.0.creator row.0.slot 0 ∙ o.counts.references;
+    };
     slots = λ _ at below. slot at (cases_eq at place) (o.slots implicit at below);
   }
     where
@@ -150,7 +154,7 @@ slot_takes_keep =
   where
     taken : (w : List ℕ) (m : Memory) (s : State) (owes : ℕ → Owed) (i : ℕ) (row : Tid) (u : Task) (place : ℕ) (k : Tid)
         → KeepsWords w m s owes → IsWithin w s → IsValid w → i < s.count → owes i ≡ nothing
-        → task_of s row ≡ Some u → u.implicit ≡ true → place < width w (number TaskSlots) → IsDeferredIn s u place k → slot_of m row place ≡ slot_word w k
+        → task_of s row ≡ Some u → u.implicit ≡ true → place < OWN_SLOTS → IsDeferredIn s u place k → slot_of m row place ≡ slot_word w k
         → KeepsWords w (with_slot m row place 0) s (replace_at owes i (record nothing { hand = Some k }))
     taken w m s owes i row u place k keeps within v known owed live implicit inside deferred word =
         subst

@@ -3,11 +3,12 @@ use Rattle.std.proofs.Common.{◌≡◌, ◌==◌, ◌+◌, ◌<◌, ◌≤◌, 
 use Rattle.omi_model.specs.declared.id.Tid.{Tid}
 use Rattle.omi_model.specs.declared.task.Task.{Task}
 use Rattle.omi_model.specs.State.{State}
+use Rattle.omi_numbers.specs.declared.limits.TheConstants.{OWN_SLOTS}
 use Rattle.omi_layout.specs.declared.field.Field.TheVariants.{TaskSlots}
 use Rattle.omi_layout.specs.Field.{tasks}
 use Rattle.omi_layout.specs.Memory.{Memory, Rec}
 use Rattle.omi_layout.specs.Named.{number}
-use Rattle.omi_layout.specs.Table.{per_thread, width}
+use Rattle.omi_layout.specs.Table.{per_thread}
 use Rattle.omi_layout.proofs.Puts.{record_stays, word_read, word_stays}
 use Rattle.omi_rule_words.specs.Counts.{of_live, one, sum_below}
 use Rattle.omi_rule_words.specs.ExplicitKinds.{slot_of, with_slot}
@@ -17,10 +18,10 @@ use Rattle.omi_rule_words.proofs.Sums.{part_below, sum_changed, sum_same}
 module _ (w : List ℕ) (s : State) (row : Tid) (u : Task) (place : ℕ)
     (there : (s.tasks row.0.creator row.0.slot).live ≡ Some u) (implicit : u.implicit ≡ true)
     (maker : row.0.creator < s.count) (within : row.0.slot < per_thread w tasks)
-    (inside : place < width w (number TaskSlots)) where
+    (inside : place < OWN_SLOTS) where
   -- the slots of a record that hold a word, and those of a live task
   abbrev in_record : Rec → ℕ → ℕ
-  in_record r code = sum_below (width w (number TaskSlots)) (λ p. one (r (number TaskSlots) p == code))
+  in_record r code = sum_below OWN_SLOTS (λ p. one (r (number TaskSlots) p == code))
 
   abbrev in_task : Rec → ℕ → ℕ → ℕ → ℕ
   in_task r code c j = of_live (λ (t : Task). if t.implicit then in_record r code else 0) (s.tasks c j).live
@@ -36,7 +37,7 @@ module _ (w : List ℕ) (s : State) (row : Tid) (u : Task) (place : ℕ)
       let code : ℕ = slot_of m row place in
       let here : one (slot_of m row place == code) ≡ 1 = ap one (eq-eqb code code refl) in
       let first =
-      part_below (width w (number TaskSlots)) place
+      part_below OWN_SLOTS place
       (λ p. one (m row.0.creator tasks row.0.slot (number TaskSlots) p == code)) inside in
       let is = in_row (m row.0.creator tasks row.0.slot) code in
       let second =
@@ -52,7 +53,7 @@ module _ (w : List ℕ) (s : State) (row : Tid) (u : Task) (place : ℕ)
   slots_changed m word code =
       let here : one (slot_of after row place == code) ≡ one (word == code) =
       ap (λ x. one (x == code)) (word_read m row.0.creator tasks row.0.slot (number TaskSlots) place word) in
-      let first = sum_changed (width w (number TaskSlots)) place (λ p. one (m row.0.creator tasks row.0.slot (number TaskSlots) p == code)) (λ p. one (after row.0.creator tasks row.0.slot (number TaskSlots) p == code)) inside
+      let first = sum_changed OWN_SLOTS place (λ p. one (m row.0.creator tasks row.0.slot (number TaskSlots) p == code)) (λ p. one (after row.0.creator tasks row.0.slot (number TaskSlots) p == code)) inside
       (λ p ne. ap (λ x. one (x == code)) (word_stays m row.0.creator tasks row.0.slot (number TaskSlots) place word row.0.creator tasks row.0.slot (number TaskSlots) p (λ _ _ _ _ same. ne same))) in
       let before = in_row (m row.0.creator tasks row.0.slot) code in
       let now = in_row (after row.0.creator tasks row.0.slot) code in

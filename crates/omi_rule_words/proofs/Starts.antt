@@ -13,14 +13,15 @@ use Rattle.omi_model.specs.Rows.{working}
 use Rattle.omi_model.specs.State.{State, task_of}
 use Rattle.omi_model.specs.Tasking.{scheduled}
 use Rattle.omi_model.proofs.Slots.{id_same}
+use Rattle.omi_numbers.specs.declared.limits.TheConstants.{OWN_SLOTS}
 use Rattle.omi_layout.specs.declared.field.Field.TheVariants.{TaskSlots, ThreadCurrent}
 use Rattle.omi_layout.specs.Field.{tasks, threads}
 use Rattle.omi_layout.specs.Memory.{Memory, replace_at, with_word}
 use Rattle.omi_layout.specs.Named.{number}
-use Rattle.omi_layout.specs.Table.{per_thread, width}
+use Rattle.omi_layout.specs.Table.{per_thread}
 use Rattle.omi_rep.specs.Records.{task_address, slot_word}
 use Rattle.omi_rule_words.specs.Owes.{Owed, nothing}
-use Rattle.omi_rule_words.specs.Counts.{children_owed, is_finished, is_region, is_some_task, is_unfinished, one, pending_owed, start_owed, sum_of_owed, unfinished_children, unfinished_in}
+use Rattle.omi_rule_words.specs.Counts.{children_owed, is_finished, is_region, is_some_task, is_unfinished, one, pending_owed, start_owed, sum_of_owed, unfinished_children, unfinished_in, references_owed}
 use Rattle.omi_rule_words.specs.Threads.{WaitsFor}
 use Rattle.omi_rule_words.specs.Objects.{IsDeferredIn, KeepsEnvironment, slots_with}
 use Rattle.omi_rule_words.specs.Words.{KeepsTask, KeepsWords}
@@ -79,7 +80,7 @@ module _ (w : List ℕ) (m : Memory) (s : State) (owes : ℕ → Owed) (i : ℕ)
   in_hand = ap (start_owed task) owed ∙ ap one (is_own_id task.0)
 
   unslotted : (c j : ℕ) → c < s.count → j < per_thread w tasks → (row : Task) → (s.tasks c j).live ≡ Some row
-      → row.implicit ≡ true → (place : ℕ) → place < width w (number TaskSlots)
+      → row.implicit ≡ true → (place : ℕ) → place < OWN_SLOTS
       → IsDeferredIn s row place task → m c tasks j (number TaskSlots) place ≡ slot_word w task → ⊥
   unslotted c j maker within row is implicit place below _ word =
       let name : Tid = record { 0 = record { creator = c; slot = j; generation = 0 } } in
@@ -120,6 +121,7 @@ module _ (w : List ℕ) (m : Memory) (s : State) (owes : ℕ → Owed) (i : ℕ)
       (ap (λ b. one (b && is_region n new.region)) unfinished_same) in
       let owed_same = owed_put_same s owes i nothing (pending_owed n) (sym (ap (pending_owed n) owed)) in
       omega (arith, same, owed_same))
+      (λ q. sym (ap (references_owed q) owed))
       (λ q.
       let same : unfinished_children w after q ≡ unfinished_children w s q =
       tasks_counted w s task new g live goes (λ _ _ x. one (is_unfinished x && is_some_task q x.generating))
@@ -129,7 +131,7 @@ module _ (w : List ℕ) (m : Memory) (s : State) (owes : ℕ → Owed) (i : ℕ)
       omega (arith, same, owed_same))
       unslotted environment
       (λ _. ready.2)
-      (record { pending = λ q is. absurd (cc); left = λ q is. absurd (cc); raised = λ q is. absurd (cc); lowered = λ q is. absurd (cc); assigns = All-nil (λ (q : Tid × ℕ). WaitsFor after q.1 q.0) })
+      (record { pending = λ q is. absurd (cc); left = λ q is. absurd (cc); raised = λ q is. absurd (cc); referred = λ q is. absurd (cc); lowered = λ q is. absurd (cc); assigns = All-nil (λ (q : Tid × ℕ). WaitsFor after q.1 q.0) })
       refl
       (λ q ne. sym (ap (start_owed q) owed ∙ ap one (other_name q task ne)))
       unheld)

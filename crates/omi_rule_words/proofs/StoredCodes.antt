@@ -6,7 +6,7 @@ use Rattle.omi_model.specs.declared.claim.Claim.{Claim}
 use Rattle.omi_model.specs.declared.id.Tid.{Tid}
 use Rattle.omi_model.specs.declared.task.Task.{Task}
 use Rattle.omi_layout.specs.declared.field.Field.{Field}
-use Rattle.omi_layout.specs.declared.field.Field.TheVariants.{RegionLeft, RegionPending, TaskChildren, TaskEnter, TaskExit, TaskNumber, TaskScheduling, TaskSlots, TaskThread, ThreadAssign, ThreadClaim, ThreadCurrent, ThreadLife, ThreadState}
+use Rattle.omi_layout.specs.declared.field.Field.TheVariants.{RegionLeft, RegionPending, TaskChildren, TaskEnter, TaskExit, TaskNumber, TaskScheduling, TaskSlots, TaskThread, ThreadAssign, ThreadClaim, ThreadCurrent, ThreadLife, ThreadState, TaskReferences}
 use Rattle.omi_layout.specs.Memory.{Rec, with_word_in}
 use Rattle.omi_layout.specs.Named.{number}
 use Rattle.omi_rep.specs.Codes.{HasCodes, RegionWords, TaskWords, ThreadWords, claim_word, is_place, region_code, task_code, task_told, thread_code}
@@ -54,12 +54,14 @@ region_apart w r RegionPending at word is = absurd (cc)
 region_apart w r RegionLeft at word is = absurd (cc)
 region_apart w r f at word is = (λ e. absurd (omega (arith, e)), λ e. absurd (omega (arith, e)))
 
--- nor a task the count and the slots of its
+-- nor a task the counts and the slots of its
 pub task_apart : (w : List ℕ) (t : TaskWords) (f : Field) (at word : ℕ) → task_code w t f at ≡ Some word
-    → (number f ≢ number TaskChildren) × (number f ≢ number TaskSlots)
+    → (number f ≢ number TaskChildren) × (number f ≢ number TaskSlots) × (number f ≢ number TaskReferences)
 task_apart w t TaskChildren at word is = absurd (cc)
 task_apart w t TaskSlots at word is = absurd (cc)
-task_apart w t f at word is = (λ e. absurd (omega (arith, e)), λ e. absurd (omega (arith, e)))
+task_apart w t TaskReferences at word is = absurd (cc)
+task_apart w t f at word is =
+    (λ e. absurd (omega (arith, e)), λ e. absurd (omega (arith, e)), λ e. absurd (omega (arith, e)))
 
 -- a field of a task's place is another than one that is none
 pub place_apart : (f g : Field) → is_place f ≡ true → is_place g ≡ false → number f ≢ number g

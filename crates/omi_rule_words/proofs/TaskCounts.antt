@@ -5,16 +5,16 @@ use Rattle.std.specs.Option.{option_and_then}
 use Rattle.omi_model.specs.declared.limits.TheConstants.{MOST_EVENTS}
 use Rattle.omi_model.specs.declared.id.Tid.{Tid}
 use Rattle.omi_model.specs.State.{State, task_of}
-use Rattle.omi_layout.specs.declared.field.Field.TheVariants.{TaskChildren}
+use Rattle.omi_layout.specs.declared.field.Field.TheVariants.{TaskChildren, TaskReferences}
 use Rattle.omi_layout.specs.Memory.{Memory, replace_at}
 use Rattle.omi_rule_words.specs.Owes.{Owed}
-use Rattle.omi_rule_words.specs.Counts.{children_owed, generating_of, is_some_task, one}
+use Rattle.omi_rule_words.specs.Counts.{children_owed, generating_of, is_some_task, one, references_owed}
 use Rattle.omi_rule_words.specs.Words.{KeepsWords}
 use Rattle.omi_rule_words.specs.BarrierKinds.{one_more}
-use Rattle.omi_rule_words.specs.CountKinds.{ChildrenAddsKeep, ChildrenSubtractsKeep, one_less, with_task_word, word_of_task}
+use Rattle.omi_rule_words.specs.CountKinds.{ChildrenAddsKeep, ChildrenSubtractsKeep, ReferencesAddKeep, one_less, with_task_word, word_of_task}
 use Rattle.omi_rule_words.proofs.OtherCounts.{is_other_id, is_own_id}
 use Rattle.omi_rule_words.proofs.PendingWords.{live_of}
-use Rattle.omi_rule_words.proofs.TaskWords.{children_stored}
+use Rattle.omi_rule_words.proofs.TaskWords.{children_stored, references_stored}
 
 -- what is owed on a task by a name that is none, its own, or another's
 on_none : (q : Tid) (o : Option Tid) → o ≡ None → one (is_some_task q o) ≡ 0
@@ -42,15 +42,16 @@ children_adds_keep =
         children_stored w m s owes i p k t keeps known
         (record { region = refl; tasks = refl; left = refl; assigns = refl; met = refl; hand = refl }) is
         (λ q. refl)
-        (λ q apart. ap (λ x. x + lowered q) (on_other q k (Some k) refl apart ∙ sym (on_none q (owes i).raised none)))
+        (λ q apart. record { children = ap (λ x. x + lowered q) (on_other q k (Some k) refl apart ∙ sym (on_none q (owes i).raised none)); references = refl })
         (λ x. record {
           pending = x.pending;
           left = x.left;
           raised = λ q same. let name : k ≡ q = cc in subst (λ (r : Tid). IsSome (task_of s r)) name live;
           lowered = x.lowered;
+          referred = x.referred;
           assigns = x.assigns;
         })
-        (one_more (word_of_task m k TaskChildren))
+        (one_more (word_of_task m k TaskChildren)) refl
         (λ _.
         let before : children_owed s k (owes i) ≡ 0 + lowered k =
         ap (λ x. x + lowered k) (on_none k (owes i).raised none) in
@@ -62,6 +63,38 @@ children_adds_keep =
 
         lowered : Tid → ℕ
         lowered q = one (is_some_task q (option_and_then (generating_of s) (owes i).lowered))
+
+pub references_add_keep : ReferencesAddKeep
+references_add_keep =
+    λ w m s owes i k keeps known none live small. kept w m s owes i k keeps known none live small
+  where
+    kept : (w : List ℕ) (m : Memory) (s : State) (owes : ℕ → Owed) (i : ℕ) (k : Tid) → KeepsWords w m s owes
+        → i < s.count → (owes i).referred ≡ None → IsSome (task_of s k)
+        → word_of_task m k TaskReferences < MOST_EVENTS
+        → KeepsWords w (with_task_word m k TaskReferences (one_more (word_of_task m k TaskReferences))) s
+        (replace_at owes i (record (owes i) { referred = Some k }))
+    kept w m s owes i k keeps known none live small =
+        let (t, is) = live_of (task_of s k) live in
+        references_stored w m s owes i p k t keeps known
+        (record { region = refl; tasks = refl; left = refl; assigns = refl; met = refl; hand = refl }) is
+        (λ q. refl)
+        (λ q apart. record { children = refl; references = on_other q k (Some k) refl apart ∙ sym (on_none q (owes i).referred none) })
+        (λ x. record {
+          pending = x.pending;
+          left = x.left;
+          raised = x.raised;
+          lowered = x.lowered;
+          referred = λ q same. let name : k ≡ q = cc in subst (λ (r : Tid). IsSome (task_of s r)) name live;
+          assigns = x.assigns;
+        })
+        (one_more (word_of_task m k TaskReferences)) refl
+        (λ _.
+        let before : references_owed k (owes i) ≡ 0 = on_none k (owes i).referred none in
+        let now : references_owed k p ≡ 1 = on_own k (Some k) refl in
+        omega (arith, before, now, small))
+      where
+        p : Owed
+        p = record (owes i) { referred = Some k }
 
 pub children_subtracts_keep : ChildrenSubtractsKeep
 children_subtracts_keep =
@@ -79,15 +112,16 @@ children_subtracts_keep =
         children_stored w m s owes i p g t keeps known
         (record { region = refl; tasks = refl; left = refl; assigns = refl; met = refl; hand = refl }) is
         (λ q. refl)
-        (λ q apart. ap (λ x. raised q + x) (sym (on_other q g (option_and_then (generating_of s) (owes i).lowered) of_made apart)))
+        (λ q apart. record { children = ap (λ x. raised q + x) (sym (on_other q g (option_and_then (generating_of s) (owes i).lowered) of_made apart)); references = refl })
         (λ x. record {
           pending = x.pending;
           left = x.left;
           raised = x.raised;
           lowered = λ q same. absurd (cc);
+          referred = x.referred;
           assigns = x.assigns;
         })
-        (one_less (word_of_task m g TaskChildren))
+        (one_less (word_of_task m g TaskChildren)) refl
         (λ least.
         let before : children_owed s g (owes i) ≡ raised g + 1 =
         ap (λ x. raised g + x) (on_own g (option_and_then (generating_of s) (owes i).lowered) of_made) in

@@ -1,8 +1,9 @@
 -- An explicit task goes on, as it starts or finishes, and its thread owes otherwise: what has to be shown so that all is kept.
-use Rattle.std.proofs.Common.{◌≡◌, ◌≢◌, ◌==◌, ◌+◌, ◌<◌, ℕ, true, false, inl, inr, List, Option, Some, None, refl, sym, ap, subst, ◌∙◌, arith, eq-eqb, if◌then◌else◌}
-use Rattle.std.specs.Prelude.{◌⊎◌, All, IsSome}
+use Rattle.std.proofs.Common.{◌≡◌, ◌≢◌, ◌==◌, ◌+◌, ◌<◌, ℕ, true, false, inl, inr, List, Option, Some, None, refl, sym, ap, subst, ◌∙◌, arith, eq-eqb, if◌then◌else◌, ap₂}
+use Rattle.std.specs.Prelude.{◌⊎◌, All, IsSome, ◌&&◌, not}
 use Rattle.std.specs.Option.{option_and_then, option_map}
 use Rattle.std.proofs.lemmas.List.Elements.{All-weaker}
+use Rattle.omi_rule_words.proofs.OtherStates.{counts_as}
 use Rattle.omi_rep.specs.Records.{slot_word}
 use Rattle.omi_model.specs.declared.id.Id.{Id}
 use Rattle.omi_model.specs.declared.id.Rid.{Rid}
@@ -15,14 +16,15 @@ use Rattle.omi_model.specs.Changes.{on_task}
 use Rattle.omi_model.specs.Put.{changed, named}
 use Rattle.omi_model.specs.State.{State, task_of}
 use Rattle.omi_model.proofs.Slots.{each_slot, found_live, on_empty, on_generations, on_other, on_same, same_or_not, some_same}
+use Rattle.omi_numbers.specs.declared.limits.TheConstants.{OWN_SLOTS}
 use Rattle.omi_layout.specs.declared.field.Field.TheVariants.{RegionLife, TaskLife, TaskSlots}
 use Rattle.omi_layout.specs.Field.{regions, tasks, threads}
 use Rattle.omi_layout.specs.Memory.{Memory, Rec, replace_at}
 use Rattle.omi_layout.specs.Named.{number}
-use Rattle.omi_layout.specs.Table.{per_thread, width}
+use Rattle.omi_layout.specs.Table.{per_thread}
 use Rattle.omi_layout.proofs.Puts.{each_put}
 use Rattle.omi_rule_words.specs.Owes.{Owed}
-use Rattle.omi_rule_words.specs.Counts.{assign_owed, assigns_in, children_owed, generating_of, has_slot, has_region_slot, is_some_region, is_some_task, left_owed, of_live, one, pending_owed, start_owed, sum_below, sum_of_owed, sum_of_slots, unfinished_children, unfinished_in}
+use Rattle.omi_rule_words.specs.Counts.{assign_owed, assigns_in, children_owed, generating_of, has_slot, has_region_slot, is_some_region, is_some_task, left_owed, of_live, one, pending_owed, start_owed, sum_below, sum_of_owed, sum_of_slots, unfinished_children, unfinished_in, is_explicit, live_children, references_owed}
 use Rattle.omi_rule_words.specs.Threads.{Has, KeepsAssign, WaitsFor}
 use Rattle.omi_rule_words.specs.Objects.{IsDeferredIn, KeepsCounts, KeepsEnvironment, KeepsLife, KeepsPlace, KeepsRegion, KeepsSlots, slots_with}
 use Rattle.omi_rule_words.specs.Words.{AreApart, HasFinished, IsInTheMaking, KeepsMaking, KeepsTask, KeepsTaskSlot, KeepsWords, OwesOnLive, task_in}
@@ -198,8 +200,9 @@ module _ (w : List ℕ) (s : State) (k : Tid) (t : Task) (g : Task → Task) (li
   module _ (m : Memory) (owes : ℕ → Owed) (i : ℕ) (p : Owed) (keeps : KeepsWords w m s owes)
       (alike_own : TeamsAlike p (owes i))
       (pending_counted : (n : Rid) → unfinished_in w after n + sum_of_owed s (replace_at owes i p) (pending_owed n) ≡ unfinished_in w s n + sum_of_owed s owes (pending_owed n))
+      (references_same : (q : Tid) → references_owed q p ≡ references_owed q (owes i))
       (children_counted : (q : Tid) → unfinished_children w after q + sum_of_owed s (replace_at owes i p) (children_owed s q) ≡ unfinished_children w s q + sum_of_owed s owes (children_owed s q))
-      (unslotted : (c j : ℕ) → c < s.count → j < per_thread w tasks → (row : Task) → (s.tasks c j).live ≡ Some row → row.implicit ≡ true → (place : ℕ) → place < width w (number TaskSlots)
+      (unslotted : (c j : ℕ) → c < s.count → j < per_thread w tasks → (row : Task) → (s.tasks c j).live ≡ Some row → row.implicit ≡ true → (place : ℕ) → place < OWN_SLOTS
       → IsDeferredIn s row place k → m c tasks j (number TaskSlots) place ≡ slot_word w k → ⊥) where
     abbrev other : ℕ → Owed
     other = replace_at owes i p
@@ -215,8 +218,15 @@ module _ (w : List ℕ) (s : State) (k : Tid) (t : Task) (g : Task → Task) (li
         region_counted w s after owes other n r x (pending_counted n)
         (owed_put_same s owes i p (left_owed n) (ap (λ q. one (is_some_region n q)) alike_own.left)) o
 
-    counts_kept : (q : Tid) (r : Rec) → KeepsCounts w s owes q r → KeepsCounts w after other q r
-    counts_kept q r o = record {
+    counts_kept : (q : Tid) (r : Rec) (x : Task) → KeepsCounts w s owes q r x → KeepsCounts w after other q r x
+    counts_kept q r x o = record {
+      references =
+          let was = o.references in
+          let same : live_children w after q ≡ live_children w s q
+          = tasks_counted (λ _ _ y. one (is_explicit y && is_some_task q y.generating))
+          (ap₂ (λ a b. one (not a && is_some_task q b)) goes.implicit goes.generating) in
+          let owed = owed_put_same s owes i p (references_owed q) (references_same q) in
+          omega (arith, was, same, owed);
       children =
           let was = o.children in
           let change = children_counted q in
@@ -230,7 +240,7 @@ module _ (w : List ℕ) (s : State) (k : Tid) (t : Task) (g : Task → Task) (li
         → x.implicit ≡ true → KeepsSlots w s (m c tasks j) x → KeepsSlots w after (m c tasks j) x
     slots_kept c j maker within x is implicit o = λ place below. go place below (o place below)
       where
-        go : (place : ℕ) → place < width w (number TaskSlots)
+        go : (place : ℕ) → place < OWN_SLOTS
             → Has (m c tasks j) TaskSlots place 0 ⊎ ((q : Tid) × IsDeferredIn s x place q × Has (m c tasks j) TaskSlots place (slot_word w q))
             → Has (m c tasks j) TaskSlots place 0 ⊎ ((q : Tid) × IsDeferredIn after x place q × Has (m c tasks j) TaskSlots place (slot_word w q))
         go place below (inl none) = inl none
@@ -255,7 +265,7 @@ module _ (w : List ℕ) (s : State) (k : Tid) (t : Task) (g : Task → Task) (li
     task_kept c j maker within x is q ne o = record {
       environment = o.environment;
       place = o.place;
-      counts = counts_kept q (m c tasks j) o.counts;
+      counts = counts_kept q (m c tasks j) x o.counts;
       slots = λ implicit. slots_kept c j maker within x is implicit (o.slots implicit);
     }
 
@@ -268,7 +278,7 @@ module _ (w : List ℕ) (s : State) (k : Tid) (t : Task) (g : Task → Task) (li
       own_kept o = record {
         environment = environment o;
         place = λ _. place o;
-        counts = counts_kept k (m k.0.creator tasks k.0.slot) o.counts;
+        counts = counts_as w after other k (m k.0.creator tasks k.0.slot) t (g t) goes.implicit (counts_kept k (m k.0.creator tasks k.0.slot) t o.counts);
         slots = λ implicit. let explicit = goes.implicit ∙ goes.explicit in absurd (cc);
       }
 
@@ -331,6 +341,7 @@ module _ (w : List ℕ) (s : State) (k : Tid) (t : Task) (g : Task → Task) (li
         pending = x.pending;
         left = x.left;
         raised = λ q is. some_after q (x.raised q is);
+        referred = λ q is. some_after q (x.referred q is);
         lowered = λ q is.
             let (finished, made) = x.lowered q is in
             (finished_after q finished, subst (λ (h : Option Tid). IsSome (option_and_then (task_of after) h)) (sym (generating_same q)) (parent (generating_of s q) made));
@@ -383,8 +394,8 @@ module _ (w : List ℕ) (s : State) (k : Tid) (t : Task) (g : Task → Task) (li
               let was = keeps.deferred.once q x (stays_before q x is ne) deferred in
               let slots : slots_with w (λ c. m c tasks) after (slot_word w q) ≡ slots_with w (λ c. m c tasks) s (slot_word w q)
               = tasks_counted
-              (λ c j y. if y.implicit then sum_below (width w (number TaskSlots)) (λ place. one (m c tasks j (number TaskSlots) place == slot_word w q)) else 0)
-              (ap (λ b. if b then sum_below (width w (number TaskSlots)) (λ place. one (m k.0.creator tasks k.0.slot (number TaskSlots) place == slot_word w q)) else 0) goes.implicit) in
+              (λ c j y. if y.implicit then sum_below OWN_SLOTS (λ place. one (m c tasks j (number TaskSlots) place == slot_word w q)) else 0)
+              (ap (λ b. if b then sum_below OWN_SLOTS (λ place. one (m k.0.creator tasks k.0.slot (number TaskSlots) place == slot_word w q)) else 0) goes.implicit) in
               let owed = owed_put_same s owes i p (start_owed q) (hands_same q ne) in
               omega (arith, was, slots, owed);
           hands = λ j q below.

@@ -9,7 +9,7 @@ use Rattle.omi_model.specs.Put.{changed, found}
 use Rattle.omi_model.specs.State.{State, task_of}
 use Rattle.omi_model.proofs.Slots.{each_slot, found_live}
 use Rattle.omi_layout.specs.declared.field.Field.{Field}
-use Rattle.omi_layout.specs.declared.field.Field.TheVariants.{RegionLife, TaskChildren, TaskLife, TaskSlots, ThreadAssign}
+use Rattle.omi_layout.specs.declared.field.Field.TheVariants.{RegionLife, TaskChildren, TaskLife, TaskSlots, ThreadAssign, TaskReferences}
 use Rattle.omi_layout.specs.Field.{runtime, threads, regions, tasks}
 use Rattle.omi_layout.specs.Memory.{Memory, Rec, with_word, with_word_in}
 use Rattle.omi_layout.specs.Named.{number}
@@ -92,6 +92,7 @@ task_stores_keep =
             (sym (changed_live k.0.generation g (s.tasks k.0.creator k.0.slot) t v live is))
             (task_rewritten w s owes (task_in k.0.creator k.0.slot (s.tasks k.0.creator k.0.slot)) (m k.0.creator tasks k.0.slot) (n k.0.creator tasks k.0.slot) t (g t) same
             (word_stays m k.0.creator tasks k.0.slot (number f) at word k.0.creator tasks k.0.slot (number TaskChildren) 0 (λ _ _ _ is _. field.children (sym is)))
+            (word_stays m k.0.creator tasks k.0.slot (number f) at word k.0.creator tasks k.0.slot (number TaskReferences) 0 (λ _ _ _ is _. field.references (sym is)))
             (λ p. word_stays m k.0.creator tasks k.0.slot (number f) at word k.0.creator tasks k.0.slot (number TaskSlots) p (λ _ _ _ is _. field.slots (sym is)))
             (λ _ h x v _ told. now h x v told)
             (λ _ h x v _ told. now h x v told)

@@ -5,7 +5,7 @@ use Rattle.omi_model.specs.declared.id.Rid.{Rid}
 use Rattle.omi_model.specs.declared.id.Tid.{Tid}
 use Rattle.omi_model.specs.State.{State, region_of, task_of}
 use Rattle.omi_layout.specs.declared.field.Field.{Field}
-use Rattle.omi_layout.specs.declared.field.Field.TheVariants.{RegionPending, TaskChildren}
+use Rattle.omi_layout.specs.declared.field.Field.TheVariants.{RegionPending, TaskChildren, TaskReferences}
 use Rattle.omi_layout.specs.Field.{tasks}
 use Rattle.omi_layout.specs.Memory.{Memory, replace_at, with_word}
 use Rattle.omi_layout.specs.Named.{number}
@@ -43,6 +43,14 @@ ChildrenAddsKeep = (w : List ℕ) (m : Memory) (s : State) (owes : ℕ → Owed)
     → word_of_task m k TaskChildren < MOST_EVENTS
     → KeepsWords w (with_task_word m k TaskChildren (one_more (word_of_task m k TaskChildren))) s
     (replace_at owes i (record (owes i) { raised = Some k }))
+
+-- 1 is added to a task's word for references
+abbrev pub ReferencesAddKeep : Type 0
+ReferencesAddKeep = (w : List ℕ) (m : Memory) (s : State) (owes : ℕ → Owed) (i : ℕ) (k : Tid)
+    → KeepsWords w m s owes → i < s.count → (owes i).referred ≡ None → IsSome (task_of s k)
+    → word_of_task m k TaskReferences < MOST_EVENTS
+    → KeepsWords w (with_task_word m k TaskReferences (one_more (word_of_task m k TaskReferences))) s
+    (replace_at owes i (record (owes i) { referred = Some k }))
 
 -- ---- what is lowered for a task that has finished
 

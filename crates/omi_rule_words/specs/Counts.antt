@@ -76,17 +76,30 @@ is_finished NotBegun = false
 is_finished Begun = false
 is_finished Finished = true
 
+abbrev pub is_explicit : Task → Bool
+is_explicit t = not t.implicit
+
 -- an explicit task that has not finished
 abbrev pub is_unfinished : Task → Bool
-is_unfinished t = not t.implicit && not (is_finished t.progress)
+is_unfinished t = is_explicit t && not (is_finished t.progress)
 
--- the unfinished explicit tasks of a region, and the unfinished explicit children of a task
+-- an explicit task refers to its own record, as long as records are not given back
+abbrev pub own_reference : Task → ℕ
+own_reference t = one (is_explicit t)
+
+-- the unfinished explicit tasks of a region
 abbrev pub unfinished_in : List ℕ → State → Rid → ℕ
 unfinished_in w s n = sum_of_tasks w s (λ t. one (is_unfinished t && is_region n t.region))
 
+-- the explicit tasks of a kind that a task has made: those that have not finished, and those that live
+abbrev pub children_that : (Task → Bool) → List ℕ → State → Tid → ℕ
+children_that is w s k = sum_of_tasks w s (λ t. one (is t && is_some_task k t.generating))
+
 abbrev pub unfinished_children : List ℕ → State → Tid → ℕ
-unfinished_children w s k =
-    sum_of_tasks w s (λ t. one (is_unfinished t && is_some_task k t.generating))
+unfinished_children = children_that is_unfinished
+
+abbrev pub live_children : List ℕ → State → Tid → ℕ
+live_children = children_that is_explicit
 
 -- ---- members
 
@@ -118,6 +131,10 @@ abbrev pub children_owed : State → Tid → Owed → ℕ
 children_owed s k o =
     one (is_some_task k o.raised)
     + one (is_some_task k (option_and_then (generating_of s) o.lowered))
+
+-- on the word of a task for references
+abbrev pub references_owed : Tid → Owed → ℕ
+references_owed k o = one (is_some_task k o.referred)
 
 -- to store a task into the assign word of a thread
 abbrev pub assigns_in : ℕ → Tid → List (Tid × ℕ) → ℕ

@@ -8,13 +8,13 @@ use Rattle.omi_model.specs.declared.task.Task.{Task}
 use Rattle.omi_model.specs.LawNames.{AreNamesLive}
 use Rattle.omi_model.specs.State.{State, task_of}
 use Rattle.omi_model.specs.Tasking.{AreChildrenFinished, deferred, deferred_task, finished, scheduled, started, started_alone, started_now}
+use Rattle.omi_numbers.specs.declared.limits.TheConstants.{OWN_SLOTS}
 use Rattle.omi_layout.specs.declared.field.Field.{Field}
-use Rattle.omi_layout.specs.declared.field.Field.TheVariants.{TaskChildren, TaskSlots, ThreadCurrent}
+use Rattle.omi_layout.specs.declared.field.Field.TheVariants.{TaskChildren, TaskReferences, TaskSlots, ThreadCurrent}
 use Rattle.omi_layout.specs.Field.{tasks, threads}
 use Rattle.omi_layout.specs.Memory.{Memory, Rec, replace_at, with_word}
 use Rattle.omi_layout.specs.Named.{number}
 use Rattle.omi_layout.specs.Place.{IsSlot}
-use Rattle.omi_layout.specs.Table.{width}
 use Rattle.omi_layout.specs.Valid.{IsValid}
 use Rattle.omi_rep.specs.Codes.{is_place}
 use Rattle.omi_rep.specs.Records.{task_address, task_word, slot_word}
@@ -43,15 +43,17 @@ pub record IsRow (s : State) (i : ℕ) (row : Tid) (t : Task) : Type 0 where
 
 -- ---- a task is deferred, or starts at once
 
--- a record in the making stands filled for an explicit task that is new: it counts no children
+-- a record in the making stands filled for an explicit task that is new: it counts no children, and refers to itself
 pub record IsFilledFor (w : List ℕ) (r : Rec) (t : Task) : Type 0 where
   pub environment : KeepsEnvironment w r t
   pub children : Has r TaskChildren 0 0
+  pub references : Has r TaskReferences 0 1
 
 -- what a thread owes before the event that makes a task: its record, which is one of the layout, and the raises in its region and in
 -- the task that makes it
 pub record OwesNew (w : List ℕ) (s : State) (owes : ℕ → Owed) (i : ℕ) (task k : Tid) (t : Task) : Type 0 where
-  pub owed : owes i ≡ record nothing { tasks = task ∷ []; pending = Some t.region; raised = Some k }
+  pub owed : owes i
+      ≡ record nothing { tasks = task ∷ []; pending = Some t.region; raised = Some k; referred = Some k }
   pub made_by : IsSlot w tasks task.0.creator task.0.slot
   pub live : task_of s k ≡ Some t
 
@@ -61,7 +63,7 @@ DefersKeep = (p : Program) (w : List ℕ) (m : Memory) (s : State) (owes : ℕ �
     (f : ℕ) (final : Bool) (place : ℕ) (k : Tid) (t : Task) (row : Tid)
     → KeepsWords w m s owes → IsWithin w s → AreNamesLive s → IsValid w
     → i < s.count → OwesNew w s owes i task k t → IsRow s i row t
-    → place < width w (number TaskSlots) → slot_of m row place ≡ 0
+    → place < OWN_SLOTS → slot_of m row place ≡ 0
     → IsFilledFor w (m i tasks task.0.slot) (deferred_task p k t f final place)
     → KeepsWords w (with_slot m row place (slot_word w task)) (deferred p s task f final place k t)
     (replace_at owes i nothing)
@@ -89,7 +91,7 @@ pub record IsDeferred (s : State) (k : Tid) (t : Task) : Type 0 where
 abbrev pub SlotTakesKeep : Type 0
 SlotTakesKeep = (w : List ℕ) (m : Memory) (s : State) (owes : ℕ → Owed) (i : ℕ) (row : Tid) (u : Task)
     (place : ℕ) (k : Tid) → KeepsWords w m s owes → IsWithin w s → IsValid w
-    → i < s.count → owes i ≡ nothing → task_of s row ≡ Some u → u.implicit ≡ true → place < width w (number TaskSlots)
+    → i < s.count → owes i ≡ nothing → task_of s row ≡ Some u → u.implicit ≡ true → place < OWN_SLOTS
     → IsDeferredIn s u place k → slot_of m row place ≡ slot_word w k
     → KeepsWords w (with_slot m row place 0) s (replace_at owes i (record nothing { hand = Some k }))
 

@@ -7,15 +7,15 @@ use Rattle.omi_model.specs.declared.region.Region.{Region}
 use Rattle.omi_model.specs.declared.slot.Slot.{Slot}
 use Rattle.omi_model.specs.declared.task.Task.{Task}
 use Rattle.omi_model.specs.State.{State, task_of}
+use Rattle.omi_numbers.specs.declared.limits.TheConstants.{OWN_SLOTS}
 use Rattle.omi_layout.specs.declared.field.Field.{Field}
-use Rattle.omi_layout.specs.declared.field.Field.TheVariants.{RegionPending, RegionLeft, TaskChildren, TaskSlots}
+use Rattle.omi_layout.specs.declared.field.Field.TheVariants.{RegionPending, RegionLeft, TaskChildren, TaskReferences, TaskSlots}
 use Rattle.omi_layout.specs.Memory.{Rec}
 use Rattle.omi_layout.specs.Named.{number}
-use Rattle.omi_layout.specs.Table.{width}
 use Rattle.omi_rep.specs.Codes.{HasCodes, is_place, region_code, region_told, task_code, task_told}
 use Rattle.omi_rep.specs.Records.{slot_word}
 use Rattle.omi_rule_words.specs.Owes.{Owed}
-use Rattle.omi_rule_words.specs.Counts.{sum_below, sum_of_owed, sum_of_slots, one, unfinished_in, unfinished_children, ended_members, pending_owed, left_owed, children_owed, start_owed}
+use Rattle.omi_rule_words.specs.Counts.{sum_below, sum_of_owed, sum_of_slots, one, unfinished_in, unfinished_children, live_children, own_reference, ended_members, pending_owed, left_owed, children_owed, references_owed, start_owed}
 use Rattle.omi_rule_words.specs.Threads.{Has}
 
 -- ---- life words
@@ -52,10 +52,12 @@ KeepsPlace w r t = (f : Field) (at word : ℕ) → is_place f ≡ true
 abbrev pub HasPlace : Task → Type 0
 HasPlace t = t.implicit ≡ false → t.progress ≡ progress.Deferred → ⊥
 
--- the count of a live task. As long as records are not given back, the word for references counts nothing
-pub record KeepsCounts (w : List ℕ) (s : State) (owes : ℕ → Owed) (k : Tid) (r : Rec) : Type 0 where
+-- what is counted of a live task's children: those that have not finished, and, with the task itself where it is explicit, those that live
+pub record KeepsCounts (w : List ℕ) (s : State) (owes : ℕ → Owed) (k : Tid) (r : Rec) (t : Task) : Type 0 where
   pub children : Has r TaskChildren 0
       (unfinished_children w s k + sum_of_owed s owes (children_owed s k))
+  pub references : Has r TaskReferences 0
+      (own_reference t + (live_children w s k + sum_of_owed s owes (references_owed k)))
 
 -- ---- slots for deferred tasks
 
@@ -70,7 +72,7 @@ pub record IsDeferredIn (s : State) (row : Task) (place : ℕ) (k : Tid) : Type 
 
 -- each slot of a live implicit task is empty or has such a task
 abbrev pub KeepsSlots : List ℕ → State → Rec → Task → Type 0
-KeepsSlots w s r row = (place : ℕ) → place < width w (number TaskSlots)
+KeepsSlots w s r row = (place : ℕ) → place < OWN_SLOTS
     → Has r TaskSlots place 0
     ⊎ ((k : Tid) × IsDeferredIn s row place k × Has r TaskSlots place (slot_word w k))
 
@@ -79,7 +81,7 @@ abbrev pub slots_with : List ℕ → (ℕ → ℕ → Rec) → State → ℕ →
 slots_with w r s word =
     sum_of_slots w s
     (λ creator slot t. if t.implicit
-    then sum_below (width w (number TaskSlots))
+    then sum_below OWN_SLOTS
     (λ place. one (r creator slot (number TaskSlots) place == word))
     else 0)
 

@@ -29,6 +29,8 @@ pub record Owed : Type 0 where
   -- generating task's is to be lowered
   pub raised : Option Tid
   pub lowered : Option Tid
+  -- the task whose word for references was raised for one in the making
+  pub referred : Option Tid
   -- the region that a member has left, where the word for those that left is to be raised
   pub left : Option Rid
   -- the tasks that are to be stored into the assign words of these threads
@@ -46,6 +48,7 @@ nothing =
       pending = None;
       raised = None;
       lowered = None;
+      referred = None;
       left = None;
       assigns = [];
       met = false;
@@ -86,17 +89,20 @@ by_team members _ = nothing
 abbrev pub in_the_making : Tid → Owed
 in_the_making t = record nothing { tasks = t ∷ [] }
 
--- with both raises
+-- with the raises that count it as unfinished, and with all raises
 abbrev pub with_raises : Context → Tid → Owed
 with_raises c t = record nothing { tasks = t ∷ []; pending = Some c.region; raised = Some c.task }
+
+abbrev pub with_reference : Context → Tid → Owed
+with_reference c t = record (with_raises c t) { referred = Some c.task }
 
 abbrev pub by_task : Context → TaskCounter → Owed
 by_task c (task.Fill place t word) = in_the_making t
 by_task c (task.AddPending place t) = in_the_making t
 by_task c (task.AddChildren place t) = record (in_the_making t) { pending = Some c.region }
 by_task c (task.AddReferences place t) = with_raises c t
-by_task c (task.Defer place t) = with_raises c t
-by_task c (task.StartNow t) = with_raises c t
+by_task c (task.Defer place t) = with_reference c t
+by_task c (task.StartNow t) = with_reference c t
 by_task c _ = nothing
 
 abbrev pub by_look : LookCounter → Owed

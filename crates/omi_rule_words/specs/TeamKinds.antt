@@ -10,11 +10,12 @@ use Rattle.omi_model.specs.Columns.{tasks_of}
 use Rattle.omi_model.specs.LawNames.{AreNamesLive}
 use Rattle.omi_model.specs.State.{State, region_of, task_of}
 use Rattle.omi_model.specs.Teams.{forked, joined, master_of, member_task, new_region, task_begun, task_ended}
+use Rattle.omi_numbers.specs.declared.limits.TheConstants.{OWN_SLOTS}
 use Rattle.omi_layout.specs.declared.field.Field.TheVariants.{ThreadCurrent, RegionPending, RegionLeft, TaskChildren, TaskReferences, TaskSlots}
 use Rattle.omi_layout.specs.Field.{threads, regions, tasks}
 use Rattle.omi_layout.specs.Memory.{Rec, MadeRecords, Memory, replace_at, with_word}
 use Rattle.omi_layout.specs.Named.{number}
-use Rattle.omi_layout.specs.Table.{per_thread, width}
+use Rattle.omi_layout.specs.Table.{per_thread}
 use Rattle.omi_layout.specs.Valid.{IsValid}
 use Rattle.omi_rep.specs.Codes.{HasCodes, region_code, region_told, task_code, task_told}
 use Rattle.omi_rep.specs.Records.{task_address, task_word}
@@ -44,7 +45,7 @@ pub record MemberIsFilled (w : List ℕ) (r : Rec) (task : Task) : Type 0 where
   pub codes : HasCodes (task_code w (task_told task)) r
   pub children : Has r TaskChildren 0 0
   pub references : Has r TaskReferences 0 0
-  pub slots : (place : ℕ) → place < width w (number TaskSlots) → Has r TaskSlots place 0
+  pub slots : (place : ℕ) → place < OWN_SLOTS → Has r TaskSlots place 0
 
 -- all records of a fork: task k, which is t, in region r, encounters a parallel construct of this function and gets this team
 pub record ForkIsFilled (p : Program) (w : List ℕ) (made : MadeRecords) (region : Rid) (team : List (Tid × ℕ))

@@ -51,6 +51,7 @@ pub record OwesOnLive (s : State) (o : Owed) : Type 0 where
   pub left : (n : Rid) → o.left ≡ Some n
       → (r : Region) × (region_of s n ≡ Some r) × (r.joined ≡ false)
   pub raised : (k : Tid) → o.raised ≡ Some k → IsSome (task_of s k)
+  pub referred : (k : Tid) → o.referred ≡ Some k → IsSome (task_of s k)
   pub lowered : (k : Tid) → o.lowered ≡ Some k
       → HasFinished s k × IsSome (option_and_then (task_of s) (generating_of s k))
   pub assigns : All (λ m. WaitsFor s m.1 m.0) o.assigns
@@ -72,7 +73,7 @@ pub record KeepsRegionSlot (w : List ℕ) (s : State) (owes : ℕ → Owed) (i s
 pub record KeepsTask (w : List ℕ) (s : State) (owes : ℕ → Owed) (k : Tid) (r : Rec) (t : Task) : Type 0 where
   pub environment : KeepsEnvironment w r t
   pub place : HasPlace t → KeepsPlace w r t
-  pub counts : KeepsCounts w s owes k r
+  pub counts : KeepsCounts w s owes k r t
   pub slots : t.implicit ≡ true → KeepsSlots w s r t
 
 pub record KeepsTaskSlot (w : List ℕ) (s : State) (owes : ℕ → Owed) (i slot : ℕ) (r : Rec) : Type 0 where

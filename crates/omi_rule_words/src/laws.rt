@@ -2,7 +2,7 @@
 
 ghost use Rattle.omi_rule_words.specs.Opens.{OpeningKeepsWords};
 ghost use Rattle.omi_rule_words.specs.BarrierKinds.{ArrivesKeep, ReleasesKeep};
-ghost use Rattle.omi_rule_words.specs.CountKinds.{ChildrenAddsKeep, ChildrenSubtractsKeep, PendingAddsKeep, PendingSubtractsKeep};
+ghost use Rattle.omi_rule_words.specs.CountKinds.{ChildrenAddsKeep, ChildrenSubtractsKeep, PendingAddsKeep, PendingSubtractsKeep, ReferencesAddKeep};
 ghost use Rattle.omi_rule_words.specs.ExplicitKinds.{AllChildrenFinished, DefersKeep, FinishesKeep, PlaceStoresKeep, SlotTakesKeep, StartsAloneKeep, StartsKeep, StartsNowKeep};
 ghost use Rattle.omi_rule_words.specs.Kinds.{AssignClearsKeep, AssignStoresKeep, ListMovesKeep, MovesKeep, RegionFillsKeep, RegionTakesKeep, TaskFillsKeep, TaskTakesKeep, ThreadChangesKeep, ThreadStoresKeep};
 ghost use Rattle.omi_rule_words.specs.Shown.{KeptWordsShow};
@@ -48,10 +48,11 @@ pub fn barriers_keep_words()
 {}
 
 /// The additions of 1 for an explicit task in the making keep the rule on words: from then on the thread owes one more on the
-/// region's word for unfinished tasks, or on the current task's word for unfinished children.
+/// region's word for unfinished tasks, on the current task's word for unfinished children, or on its word for references.
 pub fn adds_keep_words()
     ensures pending { PendingAddsKeep }
     ensures children { ChildrenAddsKeep }
+    ensures references { ReferencesAddKeep }
 {}
 
 /// The subtractions of 1 for an explicit task that has finished keep the rule on words: the thread owes one less on the word.

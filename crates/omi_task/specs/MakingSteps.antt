@@ -26,7 +26,7 @@ use Rattle.omi_pc.specs.Frames.{statement_of}
 use Rattle.omi_pc.specs.Moves.{begun_explicit}
 use Rattle.omi_pc.specs.Settle.{goes_to, settled}
 use Rattle.omi_step_words.specs.declared.plan.NewTask.{NewTask}
-use Rattle.omi_step_words.specs.Moving.{gathering, to_task, with_loaded_variable}
+use Rattle.omi_step_words.specs.Moving.{to_task, with_loaded_variable}
 use Rattle.omi_step_words.specs.Plan.{filling, of_variable, task_plan}
 use Rattle.omi_step_words.specs.Searches.{next_slot, own_place, search_outcome}
 use Rattle.omi_step_words.specs.Words.{is_free, object_in, of_place, of_region, of_task, of_thread, used_word}
@@ -66,7 +66,7 @@ new_task p a =
       function = made_function p a;
       exit = exit_frame a.thread (task_depth a);
       is_final = makes_final p a;
-      references = 0;
+      references = 1;
       variables = a.gathered.variables;
     }
 
@@ -124,7 +124,7 @@ abbrev pub past_start_now : Program → Tid → Actor → Actor
 past_start_now p t a =
     settled p (begun_explicit (made_function p a) None (task_context a t (makes_final p a)) a)
 
--- where the step found the word `old`. No step leads to the raise of references yet
+-- where the step found the word `old`
 abbrev pub making_moved : Program → List ℕ → Actor → TaskCounter → ℕ → Actor
 making_moved p w a (task.LoadSlot place) old = to_task (behind_slot place old) a
 making_moved p w a (task.LoadVariable place word) old =
@@ -133,7 +133,7 @@ making_moved p w a (task.LoadLife place slot) old = to_task (behind_life w a pla
 making_moved p w a (task.Take place t) old = to_task (task.Fill place t 0) a
 making_moved p w a (task.Fill place t word) old = to_task (behind_word place t word) a
 making_moved p w a (task.AddPending place t) old = to_task (task.AddChildren place t) a
-making_moved p w a (task.AddChildren place t) old = to_task (behind_raises place t) a
+making_moved p w a (task.AddChildren place t) old = to_task (task.AddReferences place t) a
 making_moved p w a (task.AddReferences place t) old = to_task (behind_raises place t) a
 making_moved p w a (task.Defer place t) old = goes_to Leave a
 making_moved p w a (task.StartNow t) old = past_start_now p t a

@@ -63,7 +63,7 @@ fn new_task(p: &Program, a: &Actor) -> NewTask
         function: made_function(p, a),
         exit: exit_frame(a.thread, u64::from(a.context.depth) + 1),
         is_final: makes_final(p, a),
-        references: 0,
+        references: 1,
         variables: a.gathered.variables,
     }
 }

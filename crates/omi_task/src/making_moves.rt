@@ -163,9 +163,10 @@ pub fn making_move(p: &Program, l: &Layout, a: &mut Actor, c: TaskCounter, old: 
         TaskCounter::AddPending { place, task } => {
             to_task(a, TaskCounter::AddChildren { place, task })
         }
-        TaskCounter::AddChildren { place, task } | TaskCounter::AddReferences { place, task } => {
-            to_task(a, behind_raises(place, task))
+        TaskCounter::AddChildren { place, task } => {
+            to_task(a, TaskCounter::AddReferences { place, task })
         }
+        TaskCounter::AddReferences { place, task } => to_task(a, behind_raises(place, task)),
         TaskCounter::Defer { .. } => a.go_to(PlainCounter::Leave),
         TaskCounter::StartNow { task } => start_now(p, a, task),
     }

@@ -116,6 +116,15 @@ fn of_number(name: &str, number: u8) -> Option<Event> {
     }
 }
 
+/// What gives the record of a task or a region back.
+fn freed(word: &str) -> Option<Event> {
+    if let Some(region) = region(word) {
+        return Some(Event::FreeRegion { region });
+    }
+    let task = task(word)?;
+    Some(Event::FreeTask { task })
+}
+
 /// An event with one word behind its name.
 fn with_word(name: &str, word: &str) -> Option<Event> {
     if name == "tool" {
@@ -125,6 +134,9 @@ fn with_word(name: &str, word: &str) -> Option<Event> {
     if name == "join" {
         let region = region(word)?;
         return Some(Event::Join { region });
+    }
+    if name == "free" {
+        return freed(word);
     }
     match word.parse::<u8>() {
         Ok(number) => of_number(name, number),

@@ -7,7 +7,7 @@ use omi_list::List;
 use omi_machine::{State, after, head_item, may_pass_over, opening};
 use omi_machine_legal::legal;
 use omi_machine_view::view_of;
-use omi_model::{Event, Id, Item, Progress, Rid, Rows, Slot, Team, Tid};
+use omi_model::{Event, Freeable, Id, Item, Progress, Rid, Rows, Slot, Team, Tid};
 use omi_script::{Program, parse};
 use omi_word::{Natives, OutOfMemory};
 use std::alloc::Global;
@@ -51,6 +51,32 @@ impl Dice {
     }
 }
 
+/// How many records of each kind were given back, and how many slots were taken again.
+#[derive(Drop)]
+struct Counts {
+    tasks: usize,
+    members: usize,
+    regions: usize,
+    again: usize,
+}
+
+impl Counts {
+    /// Counts an event that a state has before it.
+    fn count(&mut self, s: &State, e: &Event) {
+        match e {
+            Event::FreeTask { task } => match s.task_of(*task) {
+                Some(t) if t.implicit => self.members = self.members.saturating_add(1),
+                _ => self.tasks = self.tasks.saturating_add(1),
+            },
+            Event::FreeRegion { .. } => self.regions = self.regions.saturating_add(1),
+            Event::Fork { region, .. } if region.0.generation > 0 => {
+                self.again = self.again.saturating_add(1);
+            }
+            _ => (),
+        }
+    }
+}
+
 /// The number of slots that are kept of a creator.
 fn kept<T: Drop>(slots: &Rows<Rows<Slot<T>>>, i: usize) -> usize {
     match slots.find(i) {
@@ -65,6 +91,27 @@ fn fresh(i: u8, past: usize) -> Id {
         creator: i,
         slot: u16::try_from(past).unwrap_or(u16::MAX),
         generation: 0,
+    }
+}
+
+/// A fresh name of a thread: a slot whose object is gone, or one past those that are kept.
+fn some_fresh<T: Drop>(slots: &Rows<Rows<Slot<T>>>, i: u8, dice: &mut Dice) -> Id {
+    let past = kept(slots, i as usize);
+    let at = dice.roll(past.saturating_add(1));
+    let again = match slots.find(i as usize) {
+        Some(row) => match row.find(at) {
+            Some(slot) if slot.live.is_none() => u32::try_from(slot.generations).ok(),
+            _ => None,
+        },
+        None => None,
+    };
+    match (again, u16::try_from(at)) {
+        (Some(generation), Ok(slot)) => Id {
+            creator: i,
+            slot,
+            generation,
+        },
+        _ => fresh(i, past.saturating_add(dice.roll(3))),
     }
 }
 
@@ -148,8 +195,7 @@ fn propose_new(
     dice: &mut Dice,
     list: &mut Proposals,
 ) -> Result<(), OutOfMemory> {
-    let past = kept(s.tasks(), i as usize).saturating_add(dice.roll(3));
-    let task = Tid(fresh(i, past));
+    let task = Tid(some_fresh(s.tasks(), i, dice));
     list.push((i, Event::Seen { j: seen }))?;
     list.push((i, Event::Defer { task }))?;
     list.push((i, Event::StartNow { task }))
@@ -159,10 +205,7 @@ fn propose_new(
 fn propose_fork(s: &State, i: u8, dice: &mut Dice, list: &mut Proposals) -> Result<(), OutOfMemory>
     requires { i < (state_of s.now).count }
 {
-    let region = Rid(fresh(
-        i,
-        kept(s.regions(), i as usize).saturating_add(dice.roll(3)),
-    ));
+    let region = Rid(some_fresh(s.regions(), i, dice));
     let team = new_team(
         s,
         i,
@@ -222,8 +265,30 @@ fn propose(
     }
 }
 
-/// Proposes that a finished task is given back, where one may be, and the events that fit the head of a thread's list, and
-/// those behind it that may be passed over to.
+/// Proposes that a record is given back: a finished task, the task of a member, or a region.
+fn propose_freed(
+    s: &State,
+    i: u8,
+    next: Freeable,
+    list: &mut Proposals,
+) -> Result<(), OutOfMemory> {
+    match next {
+        Freeable::Finished { task } => list.push((i, Event::FreeTask { task })),
+        Freeable::Joined { region, number } => {
+            let at = number as usize;
+            if let Some(r) = s.region_of(region) {
+                if at < r.team.len() {
+                    let task = r.team.get(at).0;
+                    list.push((i, Event::FreeTask { task }))?;
+                }
+            }
+            list.push((i, Event::FreeRegion { region }))
+        }
+    }
+}
+
+/// Proposes that what stands in front of a thread's list is given back, and the events that fit the list's head, and those
+/// behind it that may be passed over to.
 fn propose_thread(
     s: &State,
     i: u8,
@@ -233,8 +298,8 @@ fn propose_thread(
     requires { i < (state_of s.now).count }
 {
     let (frees, items) = s.ahead_of(i as usize);
-    if let Some(task) = frees {
-        list.push((i, Event::FreeTask { task }))?;
+    if let Some(next) = frees {
+        propose_freed(s, i, next, list)?;
     }
     for k in 0..items.len() {
         let x = *items.get(k);
@@ -276,6 +341,7 @@ fn walk(
     p: &Program,
     contexts: &Natives,
     dice: &mut Dice,
+    counts: &mut Counts,
 ) -> Result<Option<usize>, OutOfMemory> {
     let mut s = opening(alloc, p)?;
     for n in 0..MOST {
@@ -286,6 +352,7 @@ fn walk(
         if !legal(p, &s, thread, &e) {
             return Ok(None);
         }
+        counts.count(&s, &e);
         after(alloc, p, &mut s, thread, &e)?;
         if !is_well_formed(&s) {
             return Ok(None);
@@ -309,14 +376,22 @@ fn two_thousand_walks(rt: HostRuntime) -> Result<(), Fail> {
     for native in 1000..1004 {
         contexts.push(native)?;
     }
+    let mut counts = Counts {
+        tasks: 0,
+        members: 0,
+        regions: 0,
+        again: 0,
+    };
     let mut events = 0usize;
     for n in 0..2000 {
         let p = parse(alloc, SCRIPTS[n % 8].as_bytes())?;
-        match walk(alloc, &p, &contexts, &mut dice)? {
+        match walk(alloc, &p, &contexts, &mut dice, &mut counts)? {
             Some(more) => events = events.saturating_add(more),
             None => assert!(rt; false, "walk {n}"),
         }
     }
     assert!(rt; events > 200000);
+    assert!(rt; counts.tasks > 0 && counts.members > 0);
+    assert!(rt; counts.regions > 0 && counts.again > 0);
     Ok(())
 }

@@ -346,3 +346,125 @@ pub const WAITS_AND_A_LOCK: Row = Row {
     lawful: &[],
     reported: &[],
 };
+
+/// A region that is given back, and another one in its place.
+pub const A_FREED_REGION: Row = Row {
+    script: "threads 2\nfunc f\nwork\nend\nfunc main\nparallel f num 2\nparallel f num 1\nend\n",
+    events: "t0 enter; t1 begin; t0 state overhead 0; t1 offer; t0 want 2; t0 ask 1 got; \
+        t0 fork r0.1.0 size 2 team k0.1.0@0 k0.2.0@1; t0 state work_parallel 0; t0 work; \
+        t0 state wait_barrier_implicit_parallel 0; t0 arrive; t1 implicit_begin k0.2.0; t1 state work_parallel 0; \
+        t1 work; t1 state wait_barrier_implicit_parallel 0; t1 arrive; t0 release; t0 pass; t1 pass; \
+        t1 implicit_end k0.2.0; t1 state idle 0; t0 join r0.1.0; t0 free k0.1.0; t0 free k0.2.0; t0 free r0.1.0; \
+        t1 offer; t0 state work_serial 0; t0 leave; t0 enter; t0 state overhead 0; t0 want 1; \
+        t0 fork r0.1.1 size 1 team k0.1.1@0; t0 state work_parallel 0; t0 work; \
+        t0 state wait_barrier_implicit_parallel 0; t0 arrive; t0 release; t0 pass; t0 join r0.1.1; \
+        t0 state work_serial 0; t0 leave; t0 state wait_barrier_implicit_parallel 0; t0 arrive; t0 release; t0 pass; \
+        t0 done",
+    forbidden: &[
+        // members whose region is not joined: one that runs, and one that has ended
+        (21, "t0 free k0.1.0"),
+        (21, "t0 free k0.2.0"),
+        (21, "t0 free r0.1.0"),
+        // another thread's
+        (22, "t1 free k0.1.0"),
+        // member 1 before member 0, and a task that is no member's
+        (22, "t0 free k0.2.0"),
+        (22, "t0 free k0.0.0"),
+        // a region before its members, and before its last one
+        (22, "t0 free r0.1.0"),
+        (23, "t0 free r0.1.0"),
+        // a member twice, another region, and a region twice
+        (23, "t0 free k0.1.0"),
+        (24, "t0 free r0.0.0"),
+        (25, "t0 free r0.1.0"),
+        // names of an earlier generation, and of a later one
+        (31, "t0 fork r0.1.0 size 1 team k0.1.1@0"),
+        (31, "t0 fork r0.1.1 size 1 team k0.1.0@0"),
+        (31, "t0 fork r0.1.2 size 1 team k0.1.1@0"),
+        // what was passed over
+        (40, "t0 free k0.1.1"),
+    ],
+    lawful: &[
+        // the second region is given back, too
+        Version {
+            at: 39,
+            instead: 0,
+            lines: "t0 free k0.1.1; t0 free r0.1.1",
+        },
+        // nothing is given back, and the second region has other names
+        Version {
+            at: 22,
+            instead: ALL,
+            lines: "t1 offer; t0 state work_serial 0; t0 leave; t0 enter; t0 state overhead 0; t0 want 1; \
+                t0 fork r0.2.0 size 1 team k0.3.0@0",
+        },
+        // a member's task is given back, and the region is left
+        Version {
+            at: 23,
+            instead: ALL,
+            lines: "t1 offer; t0 state work_serial 0; t0 leave; t0 enter; t0 state overhead 0; t0 want 1; \
+                t0 fork r0.2.0 size 1 team k0.1.1@0",
+        },
+    ],
+    reported: &[(
+        32,
+        "task k0.1.1 thread 0 kind implicit region r0.1.1 function 0x400000 generating k0.0.0 scheduling k0.0.0 \
+        exit 0x7f00000fff80 enter 0x0 tool 0",
+    )],
+};
+
+/// An explicit task of a joined region that was not given back.
+pub const A_TASK_THAT_IS_LEFT: Row = Row {
+    script: "threads 1\nfunc w\nwork\nend\nfunc f\ntask w if 0\nend\nfunc main\nparallel f num 1\nend\n",
+    events: "t0 enter; t0 state overhead 0; t0 want 1; t0 fork r0.1.0 size 1 team k0.1.0@0; t0 state work_parallel 0; \
+        t0 enter; t0 start_now k0.2.0; t0 work; t0 finish k0.2.0; t0 leave; \
+        t0 state wait_barrier_implicit_parallel 0; t0 arrive; t0 release; t0 pass; t0 join r0.1.0; \
+        t0 state work_serial 0; t0 leave; t0 state wait_barrier_implicit_parallel 0; t0 arrive; t0 release; t0 pass; \
+        t0 done",
+    forbidden: &[
+        // the generating task that goes on, and the one that was passed over
+        (9, "t0 free k0.1.0"),
+        (10, "t0 free k0.2.0"),
+        // a member with a live explicit task of its region, and the region
+        (15, "t0 free k0.1.0"),
+        (15, "t0 free k0.2.0"),
+        (15, "t0 free r0.1.0"),
+    ],
+    lawful: &[
+        // each is given back
+        Version {
+            at: 9,
+            instead: 6,
+            lines: "t0 free k0.2.0; t0 leave; t0 state wait_barrier_implicit_parallel 0; t0 arrive; t0 release; t0 pass; \
+                t0 join r0.1.0; t0 free k0.1.0; t0 free r0.1.0",
+        },
+    ],
+    reported: &[],
+};
+
+/// A region in another one, of which only the member's task was given back.
+pub const A_REGION_THAT_IS_LEFT: Row = Row {
+    script: "threads 1\nfunc w\nwork\nend\nfunc g\nparallel w num 1\nend\nfunc main\nparallel g num 1\nend\n",
+    events: "t0 enter; t0 state overhead 0; t0 want 1; t0 fork r0.1.0 size 1 team k0.1.0@0; t0 state work_parallel 0; \
+        t0 enter; t0 state overhead 0; t0 want 1; t0 fork r0.2.0 size 1 team k0.2.0@0; t0 state work_parallel 0; \
+        t0 work; t0 state wait_barrier_implicit_parallel 0; t0 arrive; t0 release; t0 pass; t0 join r0.2.0; \
+        t0 free k0.2.0; t0 state work_parallel 0; t0 leave; t0 state wait_barrier_implicit_parallel 0; t0 arrive; \
+        t0 release; t0 pass; t0 join r0.1.0; t0 state work_serial 0; t0 leave; \
+        t0 state wait_barrier_implicit_parallel 0; t0 arrive; t0 release; t0 pass; t0 done",
+    forbidden: &[
+        // a member of a region that encloses a live one, and the regions
+        (24, "t0 free k0.1.0"),
+        (24, "t0 free r0.1.0"),
+        (24, "t0 free r0.2.0"),
+    ],
+    lawful: &[
+        // each is given back
+        Version {
+            at: 17,
+            instead: 7,
+            lines: "t0 free r0.2.0; t0 state work_parallel 0; t0 leave; t0 state wait_barrier_implicit_parallel 0; \
+                t0 arrive; t0 release; t0 pass; t0 join r0.1.0; t0 free k0.1.0; t0 free r0.1.0",
+        },
+    ],
+    reported: &[],
+};

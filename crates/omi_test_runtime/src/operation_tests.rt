@@ -223,7 +223,7 @@ fn variables_calls_and_a_lock(rt: HostRuntime) -> Result<(), Fail> {
     Ok(())
 }
 
-/// A task is deferred into the first empty slot of its thread, twice: the slots, the data environment, the record, the two counts, the
+/// A task is deferred into the first empty slot of its thread, twice: the slots, the data environment, the record, the three counts, the
 /// slot. At the barrier the first is taken from its slot and starts, and finishes: its generating task, and the two counts. Then the
 /// second starts.
 const THE_TASKS: &str = "\
@@ -256,7 +256,7 @@ store @579 0 found 0
 store @580 1 found 0
 store @581 0 found 0
 store @582 0 found 0
-store @583 0 found 0
+store @583 1 found 0
 store @584 2 found 0
 store @585 0 found 0
 store @586 0 found 0
@@ -267,6 +267,7 @@ store @590 0 found 0
 store @591 0 found 0
 add @133 1 found 0
 add @556 1 found 0
+add @557 1 found 0
 store @562 0x1000001 found 0
 store @549 0 found 0x7f00000fffa0
 store @549 0x7f00000fffa0 found 0
@@ -300,7 +301,7 @@ store @605 0 found 0
 store @606 0 found 0
 store @607 0 found 0
 store @608 0 found 0
-store @609 0 found 0
+store @609 1 found 0
 store @610 2 found 0
 store @611 0 found 0
 store @612 0 found 0
@@ -311,6 +312,7 @@ store @616 0 found 0
 store @617 0 found 0
 add @133 1 found 1
 add @556 1 found 1
+add @557 1 found 1
 store @563 0x1000002 found 0
 store @549 0 found 0x7f00000fffa0
 add @132 1 found 0

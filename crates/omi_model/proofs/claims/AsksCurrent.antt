@@ -26,7 +26,8 @@ use Rattle.omi_model.specs.Teams.{asked}
 use Rattle.omi_model.proofs.claims.AsksPlaced.{StartsPlaced, asks_at_head, asks_taken, is_asking, is_forking, main_plain, member_plain, start_plain, stays_asking, stays_placed, take_placed, task_plain, Placed}
 use Rattle.omi_model.proofs.BarrierSteps.{current_after}
 use Rattle.omi_model.proofs.ChainsKept.{current_begun, current_kept, have_chains}
-use Rattle.omi_model.proofs.EachObject.{EachTask, IsTaskLaw, ahead_of_current, task_step_from, IsFreeing}
+use Rattle.omi_model.proofs.EachObject.{EachTask, IsFreeing, IsGoingOn, IsTaskLaw, ahead_of_current, task_step_from}
+use Rattle.omi_model.proofs.MembersKnown.{first_scheduled, members_known}
 use Rattle.omi_model.proofs.ListLaws.{take_fits, by_taken, is_frees, taken_plain}
 use Rattle.omi_model.proofs.NamesLive.{names_live}
 use Rattle.omi_model.proofs.OpeningObjects.{each_first_task}
@@ -189,6 +190,12 @@ module _ (p : Program) (events : List (ℕ × Event)) (s : State) (reached : Rea
       plain : (k : Tid) (t : Task) → StartsPlaced t.list → asks_next t.list ≡ false → HadAsks s i m.item k t
       plain k t placed none = record { placed = placed; first = λ d. none; top = λ asks. absurd (false_true (sym none ∙ asks)); alone = λ asks. absurd (false_true (sym none ∙ asks)) }
 
+      -- the task that goes on where this one ends is the one that this one was scheduled from
+      goes_on : (j : Tid) (u : Task) → IsCurrent middle i j u → (k : Tid) → IsGoingOn middle u k → u.scheduling ≡ Some k
+      goes_on j u is k (inl from) = from
+      goes_on j u is k (inr (r, found, im, first, from)) =
+          first_scheduled s middle (members_known p events s reached) before j u r is.live im first found ∙ from
+
       -- a task that asks for threads is current, and no task in front of what it has ahead may be given back
       no_asks : (k : Tid) (t : Task) → IsFreeing middle i e m.item k → AreNext s i m.item k t → ⊥
       no_asks k t (inr (n, of, name)) h =
@@ -199,7 +206,7 @@ module _ (p : Program) (events : List (ℕ × Event)) (s : State) (reached : Rea
           let (ks, chain) = have_chains p events s reached i in
           let (ns, v', list, apart, live', mine, begun, rest) = top_of s i (s.threads i).current ks j name chain in
           let below : v'.scheduling ≡ Some k =
-          ap (λ (x : Task). x.scheduling) (some_same live' live) ∙ (ap (λ (x : Task). x.scheduling) (sym same) ∙ from) in
+          ap (λ (x : Task). x.scheduling) (some_same live' live) ∙ (ap (λ (x : Task). x.scheduling) (sym same) ∙ goes_on j u is k from) in
           let (ms, w, list_k, apart_k, live_k, mine_k, begun_k, rest_k) = top_of s i v'.scheduling ns k below rest in
           let here : t.thread ≡ i =
           sym (current_begun p events s reached t.thread k w h.before live_k).1 ∙ mine_k in

@@ -17,7 +17,7 @@ use Rattle.omi_model.specs.State.{State, region_of}
 use Rattle.omi_model.specs.Teams.{joined, new_region, task_ended}
 use Rattle.omi_model.proofs.BarrierSteps.{current_after}
 use Rattle.omi_model.proofs.SlotEffects.{changed_now, changes_regions, regions_effect, same_current}
-use Rattle.omi_model.proofs.Slots.{false_true, made_stays, some_same}
+use Rattle.omi_model.proofs.Slots.{false_true, gone_was, made_stays, some_same}
 use Rattle.omi_model.proofs.StaysKept.{fresh_empty}
 use Rattle.omi_model.proofs.Steps.{IsMove, from_some, is_relisted, relisted}
 
@@ -85,6 +85,8 @@ module _ (p : Program) (s : State) (i : ℕ) where
     releases = λ k t r0 is found may n r e q found_q. changed_now s.regions t.region _ IsAsOpen n r e q found_q (λ same. (refl, refl)) (λ apart. (refl, refl));
     ends = ends;
     joins = joins;
+    frees_region = λ region m number may n r e q found_q.
+        subst (IsAsOpen r) (some_same e (gone_was s.regions region.0 n.0 q found_q)) (refl, refl);
   })
 
 -- what a step makes of a region's end

@@ -3,6 +3,7 @@ use Rattle.std.proofs.Common.{◌≡◌, ◌==◌, ◌≤◌, ◌⊎◌, inl, in
 use Rattle.std.specs.List.{Contains}
 use Rattle.omi_script.specs.declared.program.Program.{Program}
 use Rattle.omi_model.specs.declared.event.Event.{Event}
+use Rattle.omi_model.specs.declared.freeable.Freeable.{Freeable}
 use Rattle.omi_model.specs.declared.id.Rid.{Rid}
 use Rattle.omi_model.specs.declared.id.Tid.{Tid}
 use Rattle.omi_model.specs.declared.item.Item.{Item}
@@ -82,7 +83,7 @@ module _ (p : Program) (events : List (ℕ × Event)) (s : State) (reached : Rea
 
   -- the current task, before and after
   pub was : (middle : State) → IsRelisted s middle → (k : Tid) (t : Task) → IsCurrent middle i k t
-      → (v : Task) × (xs : Option Tid × List Item) × IsCurrent s i k v × (t ≡ relisted_to xs v)
+      → (v : Task) × (xs : Option Freeable × List Item) × IsCurrent s i k v × (t ≡ relisted_to xs v)
   was middle before k t is =
       let (v, xs, live, same) = before.tasks k t is.live in
       let current : IsCurrent s i k v = record { name = sym (before.currents i) ∙ is.name; live = live } in

@@ -5,6 +5,8 @@ use Rattle.std.proofs.lemmas.Option.{slice_get_within}
 use Rattle.omi_script.specs.declared.program.Program.{Program}
 use Rattle.omi_model.specs.declared.event.Event.{Event}
 use Rattle.omi_model.specs.declared.event.Event.TheVariants as event
+use Rattle.omi_model.specs.declared.freeable.Freeable.{Freeable}
+use Rattle.omi_model.specs.declared.freeable.Freeable.TheVariants as freeable
 use Rattle.omi_model.specs.declared.id.Rid.{Rid}
 use Rattle.omi_model.specs.declared.id.Id.{Id}
 use Rattle.omi_model.specs.declared.id.Tid.{Tid}
@@ -19,7 +21,8 @@ use Rattle.omi_model.specs.Opening.{initial_region, opening}
 use Rattle.omi_model.specs.Reached.{Reached, Step}
 use Rattle.omi_model.specs.Rules.{Rule, effect}
 use Rattle.omi_model.specs.State.{State, region_of, task_of}
-use Rattle.omi_model.specs.Tasking.{finished, freeing}
+use Rattle.omi_model.specs.Freeing.{freeing}
+use Rattle.omi_model.specs.Tasking.{finished}
 use Rattle.omi_model.specs.Teams.{joined, task_ended}
 use Rattle.omi_model.proofs.BarrierSteps.{current_after}
 use Rattle.omi_model.proofs.EachObject.{EachTask, IsTaskLaw, is_end, task_step_from}
@@ -245,7 +248,7 @@ module _ (p : Program) (events : List (ℕ × Event)) (s : State) (reached : Rea
       ap (λ (x : Task). x.progress) is
 
   -- which task may be given back next leaves the progress of a task
-  freeing_was : (slots : Slots Task) (x o : Option Tid) (k : Tid) (v : Task)
+  freeing_was : (slots : Slots Task) (x : Option Freeable) (o : Option Tid) (k : Tid) (v : Task)
       → named (freeing x o slots) k.0 ≡ Some v → (u : Task) × (named slots k.0 ≡ Some u) × (v.progress ≡ u.progress)
   freeing_was slots x None k v found = (v, found, refl)
   freeing_was slots x (Some n) k v found =
@@ -265,12 +268,16 @@ module _ (p : Program) (events : List (ℕ × Event)) (s : State) (reached : Rea
       let same : joined middle i k t r0 ≡ next =
       some_same
       (at_region middle i k t r0 (joined middle i) is (ap (λ (x : Task). region_of middle x.region) (sym one) ∙ found0)) made in
-      finished_here k t is.live v (ap (λ (u : State). task_of u k) same ∙ found)
+      let (u, found_u, alike) =
+      freeing_was (on middle.tasks k.0 (λ (x : Task). record x { progress = Finished }))
+      (Some (freeable.Joined t.region 0)) r0.encountering k v
+      (ap (λ (u : State). task_of u k) same ∙ found) in
+      alike ∙ finished_here k t is.live u found_u
   over_finished (event.Finish task) y over rule k t is made v found =
       let same : finished middle i k t ≡ next =
       some_same (at_current middle i k t (finished middle i) is) made in
       let (u, found_u, alike) =
-      freeing_was (on middle.tasks k.0 (λ (x : Task). record x { progress = Finished })) (Some k) t.scheduling k v
+      freeing_was (on middle.tasks k.0 (λ (x : Task). record x { progress = Finished })) (Some (freeable.Finished k)) t.scheduling k v
       (ap (λ (u : State). task_of u k) same ∙ found) in
       alike ∙ finished_here k t is.live u found_u
   over_finished of y over rule k t is made v found = absurd (false_true over)

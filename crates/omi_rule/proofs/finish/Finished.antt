@@ -7,6 +7,8 @@ use Rattle.omi_script.specs.declared.statement.Stmt.TheVariants as stmt
 use Rattle.omi_model.specs.declared.encounter.Encounter.{Encounter}
 use Rattle.omi_model.specs.declared.event.Event.{Event}
 use Rattle.omi_model.specs.declared.event.Event.TheVariants as event
+use Rattle.omi_model.specs.declared.freeable.Freeable.{Freeable}
+use Rattle.omi_model.specs.declared.freeable.Freeable.TheVariants as freeable
 use Rattle.omi_model.specs.declared.id.Tid.{Tid}
 use Rattle.omi_model.specs.declared.item.Item.TheVariants as item
 use Rattle.omi_model.specs.declared.progress.Progress.TheVariants.{Finished}
@@ -14,11 +16,11 @@ use Rattle.omi_model.specs.declared.task.Task.{Task}
 use Rattle.omi_model.specs.declared.thread.Thread.{Thread}
 use Rattle.omi_model.specs.Changes.{IsCurrent}
 use Rattle.omi_model.specs.Lists.{take_item}
-use Rattle.omi_model.specs.Put.{on, put, Slots, named}
+use Rattle.omi_model.specs.Put.{on, put, named}
 use Rattle.omi_model.specs.Reached.{Step}
 use Rattle.omi_model.specs.State.{State, task_of}
-use Rattle.omi_model.specs.Tasking.{finished, freeing}
-use Rattle.omi_model.proofs.Slots.{on_other, on_same, put_same, some_same, later_on}
+use Rattle.omi_model.specs.Tasking.{finished}
+use Rattle.omi_model.proofs.Slots.{on_other, on_same, put_same, some_same}
 use Rattle.omi_model.proofs.Steps.{at_current, current_moved, relisted}
 use Rattle.omi_layout.specs.declared.field.Field.TheVariants.{ThreadCurrent}
 use Rattle.omi_layout.specs.Field.{threads}
@@ -52,7 +54,7 @@ use Rattle.omi_rule.proofs.OthersStand.{of_innermost}
 use Rattle.omi_rule.proofs.OwnTask.{is_current, list_moved, own_below}
 use Rattle.omi_rule.proofs.barrier.AtCounter.{ahead_is, body, context_placed, fits_counter, here, is_context, own, owes_now, sees, stands}
 use Rattle.omi_rule.proofs.barrier.Events.{none_new, relisted_state, relisted_words, steps}
-use Rattle.omi_rule.proofs.join.BodiesUnder.{LeavesUnder, encounter_kept, task_kept, under_kept}
+use Rattle.omi_rule.proofs.join.BodiesUnder.{freeing_later, LeavesUnder, encounter_kept, task_kept, under_kept}
 use Rattle.omi_model.proofs.StaysKept.{stays_step}
 use Rattle.omi_rule.specs.Chains.{RunsFunctions}
 use Rattle.omi_rule.proofs.Runs.{bodies_run}
@@ -105,19 +107,9 @@ module _ (p : Program) (w : List ℕ) (m : Memory) (events : List (ℕ × Event)
 
   -- ---- what stays
 
-  -- the tasks are as behind the end, but that another one may be given back next
-  freeing_later : (slots : Slots Task) (x o : Option Tid) (n : Tid) (t : Task) → named slots n.0 ≡ Some t
-      → (free : Option Tid) × (named (freeing x o slots) n.0 ≡ Some (record t { frees = free }))
-  freeing_later slots x None n t live = (t.frees, live)
-  freeing_later slots x (Some m) n t live =
-      let (v, there, same) =
-      later_on (λ (y z : Task). (free : Option Tid) × (z ≡ record y { frees = free })) (λ y. (y.frees, refl)) slots m.0
-      (λ u. record u { frees = x }) (λ y e. (x, refl)) n.0 t live in
-      (same.0, there ∙ ap (λ (z : Task). Some z) same.1)
-
   later_task : (n : Tid) (t : Task) → named (on listed.tasks a.context.task.0 ending) n.0 ≡ Some t
-      → (free : Option Tid) × (task_of next n ≡ Some (record t { frees = free }))
-  later_task = freeing_later (on listed.tasks a.context.task.0 ending) (Some a.context.task) ended_task.scheduling
+      → (free : Option Freeable) × (task_of next n ≡ Some (record t { frees = free }))
+  later_task = freeing_later (on listed.tasks a.context.task.0 ending) (Some (freeable.Finished a.context.task)) ended_task.scheduling
 
   leaves : LeavesUnder s next a.context.task
   leaves = record {
@@ -268,7 +260,7 @@ module _ (p : Program) (w : List ℕ) (m : Memory) (events : List (ℕ × Event)
         by None (undeferred, final, is) = (stmt.Task f.function undeferred final, is, tt)
         by (Some y) (less, waits) = waits
 
-    ended_there : (free : Option Tid) × (task_of next a.context.task ≡ Some (record (ending ended_task) { frees = free }))
+    ended_there : (free : Option Freeable) × (task_of next a.context.task ≡ Some (record (ending ended_task) { frees = free }))
     ended_there =
         later_task a.context.task (ending ended_task)
         (on_same listed.tasks a.context.task.0 ending ∙ ap (option_map ending) current_listed.live)

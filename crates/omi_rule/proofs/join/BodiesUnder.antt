@@ -1,5 +1,5 @@
 -- The open bodies under a task that ends: the tasks that made way for it, and those under them, stay what they are.
-use Rattle.std.proofs.Common.{◌≡◌, ℕ, Bool, List, [], ◌∷◌, length, slice_get, slice_index, Option, Some, sym, ap, ◌∙◌}
+use Rattle.std.proofs.Common.{◌≡◌, ℕ, Bool, List, [], ◌∷◌, length, slice_get, slice_index, Option, Some, None, refl, sym, ap, ◌∙◌}
 use Rattle.std.specs.Option.{option_map_or}
 use Rattle.omi_script.specs.declared.env.Env.{Env}
 use Rattle.omi_script.specs.declared.program.Program.{Program}
@@ -9,8 +9,11 @@ use Rattle.omi_model.specs.declared.id.Tid.{Tid}
 use Rattle.omi_model.specs.declared.item.Item.{Item}
 use Rattle.omi_model.specs.declared.region.Region.{Region}
 use Rattle.omi_model.specs.Changes.{encounter_by, level_of}
+use Rattle.omi_model.specs.Freeing.{freeing}
+use Rattle.omi_model.specs.Put.{Slots, named}
 use Rattle.omi_model.specs.Rows.{working}
 use Rattle.omi_model.specs.State.{State, region_of, task_of}
+use Rattle.omi_model.proofs.Slots.{later_on}
 use Rattle.omi_pc.specs.declared.context.Context.{Context}
 use Rattle.omi_pc.specs.declared.frame.Frame.{Frame}
 use Rattle.omi_pc.specs.declared.frame.Opened.{Opened}
@@ -20,19 +23,31 @@ use Rattle.omi_rule.specs.Ahead.{leaving, resuming}
 use Rattle.omi_rule.specs.Chains.{IsScheduledFrom, IsSuspended, KeepsBodies, KeepsBody, KeepsContext, encounter_of}
 use Rattle.omi_rule.proofs.OthersStand.{of_innermost}
 use Rattle.omi_rule.proofs.Own.{AreBelow, IsBelow}
+use Rattle.omi_model.specs.declared.freeable.Freeable.{Freeable}
 use Rattle.omi_model.specs.declared.task.Task.{Task}
+
+-- the tasks are as they were, but that something else may be given back next
+pub freeing_later : (slots : Slots Task) (x : Option Freeable) (o : Option Tid) (n : Tid) (t : Task)
+    → named slots n.0 ≡ Some t
+    → (free : Option Freeable) × (named (freeing x o slots) n.0 ≡ Some (record t { frees = free }))
+freeing_later slots x None n t live = (t.frees, live)
+freeing_later slots x (Some m) n t live =
+    let (v, there, same) =
+    later_on (λ (y z : Task). (free : Option Freeable) × (z ≡ record y { frees = free })) (λ y. (y.frees, refl)) slots m.0
+    (λ u. record u { frees = x }) (λ y e. (x, refl)) n.0 t live in
+    (same.0, there ∙ ap (λ (z : Task). Some z) same.1)
 
 -- a state in which one task has ended, or a region was joined
 pub record LeavesUnder (s u : State) (k : Tid) : Type 0 where
   pub environment : u.environment ≡ s.environment
   pub others : (n : Tid) → (n.0 ≡ k.0 → ⊥) → (t : Task) → task_of s n ≡ Some t
-      → (free : Option Tid) × (task_of u n ≡ Some (record t { frees = free }))
+      → (free : Option Freeable) × (task_of u n ≡ Some (record t { frees = free }))
   pub regions : (n : Rid) (r : Region) → region_of s n ≡ Some r
       → (q : Region) × (region_of u n ≡ Some q) × (q.team ≡ r.team) × (q.levels ≡ r.levels) × (q.arrivals ≡ r.arrivals)
 
 module _ (p : Program) (s u : State) (i : ℕ) (k : Tid) (leaves : LeavesUnder s u k) where
   pub task_kept : (c : Context) → (c.task ≡ k → ⊥) → (t : Task) → task_of s c.task ≡ Some t
-      → (free : Option Tid) × (task_of u c.task ≡ Some (record t { frees = free }))
+      → (free : Option Freeable) × (task_of u c.task ≡ Some (record t { frees = free }))
   task_kept c apart =
       leaves.others c.task (λ (e : c.task.0 ≡ k.0). apart (ap (λ (d : Id). record { 0 = d }) e))
 

@@ -7,6 +7,7 @@ use Rattle.omi_script.specs.declared.statement.Stmt.TheVariants as stmt
 use Rattle.omi_model.specs.declared.encounter.Encounter.{Encounter}
 use Rattle.omi_model.specs.declared.event.Event.{Event}
 use Rattle.omi_model.specs.declared.event.Event.TheVariants as event
+use Rattle.omi_model.specs.declared.freeable.Freeable.TheVariants as freeable
 use Rattle.omi_model.specs.declared.id.Rid.{Rid}
 use Rattle.omi_model.specs.declared.item.Item.{Item}
 use Rattle.omi_model.specs.declared.item.Item.TheVariants as item
@@ -67,7 +68,7 @@ use Rattle.omi_rule.proofs.barrier.ArrivedBodies.{met_by}
 use Rattle.omi_rule.proofs.barrier.AtCounter.{ahead_is, body, fits_counter, here, own, owes_now, region_there, sees, stands}
 use Rattle.omi_rule.proofs.barrier.Events.{none_new, relisted_state, relisted_words, steps}
 use Rattle.omi_rule.proofs.plain.OwnEvents.{environment_stays}
-use Rattle.omi_rule.proofs.join.BodiesUnder.{LeavesUnder, encounter_kept, task_kept, under_kept}
+use Rattle.omi_rule.proofs.join.BodiesUnder.{freeing_later, LeavesUnder, encounter_kept, task_kept, under_kept}
 use Rattle.omi_model.proofs.StaysKept.{stays_step}
 use Rattle.omi_rule.specs.Chains.{RunsFunctions}
 use Rattle.omi_rule.proofs.Runs.{bodies_run}
@@ -126,11 +127,10 @@ module _ (p : Program) (w : List ℕ) (m : Memory) (events : List (ℕ × Event)
   leaves : LeavesUnder s next a.context.task
   leaves = record {
     environment = refl;
-    others = λ n other t live. (
-      t.frees,
-      on_other listed.tasks a.context.task.0 (λ t. record t { progress = Finished }) n.0 other
-          ∙ on_other s.tasks a.context.task.0 (relisted []) n.0 other ∙ live,
-    );
+    others = λ n other t live. freeing_later (on listed.tasks a.context.task.0 (λ u. record u { progress = Finished }))
+        (Some (freeable.Joined ended_task.region 0)) mine.region.encountering n t
+        (on_other listed.tasks a.context.task.0 (λ u. record u { progress = Finished }) n.0 other
+        ∙ on_other s.tasks a.context.task.0 (relisted []) n.0 other ∙ live);
     regions = regions_go_on;
   }
 

@@ -36,7 +36,6 @@ use Rattle.omi_rule.proofs.barrier.AtCounter.{GoesTo, ahead_is, fits_counter, he
 use Rattle.omi_model.proofs.NamesLive.{names_live}
 use Rattle.omi_model.proofs.Slots.{some_same}
 use Rattle.omi_rule.proofs.OwnRow.{is_open}
-use Rattle.omi_layout.specs.Table.{width}
 use Rattle.omi_layout.specs.Valid.{IsValid}
 use Rattle.omi_rule_words.specs.Objects.{IsDeferredIn}
 use Rattle.omi_rule_words.proofs.Shown.{found_generations}
@@ -73,7 +72,7 @@ module _ (p : Program) (w : List ℕ) (m : Memory) (events : List (ℕ × Event)
     (rule : Rule p w m events s actors) (valid : IsValid w) where
   -- a word of a row that is not 0 is such a code
   pub code_there : (a : Actor) (row : Place) (o : IsRowTask s a row) (place : ℕ)
-      → place < width w (number TaskSlots)
+      → place < OWN_SLOTS
       → m o.name.0.creator tasks o.name.0.slot (number TaskSlots) place ≢ 0
       → IsCoded w s a o.task place (m o.name.0.creator tasks o.name.0.slot (number TaskSlots) place)
   code_there a row o place within some =

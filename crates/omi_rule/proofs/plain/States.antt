@@ -30,7 +30,7 @@ use Rattle.omi_model.specs.Rows as Rows
 use Rattle.omi_model.specs.State.{State, region_of}
 use Rattle.omi_model.proofs.LevelsCount.{levels_count}
 use Rattle.omi_model.proofs.members.EncounterLaws.{encounters}
-use Rattle.omi_model.proofs.Slots.{id_same, some_same}
+use Rattle.omi_model.proofs.Slots.{id_same}
 use Rattle.omi_model.proofs.StaysLater.{stay}
 use Rattle.omi_model.proofs.Steps.{relisted}
 use Rattle.omi_layout.specs.declared.field.Field.TheVariants.{ThreadState}

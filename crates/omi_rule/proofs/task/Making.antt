@@ -42,7 +42,7 @@ use Rattle.omi_model.specs.declared.region.Region.{Region}
 use Rattle.omi_model.specs.Put.{Slots, made, named}
 use Rattle.omi_model.proofs.Slots.{each_made, made_same, made_stays, on_same, some_same}
 use Rattle.omi_model.proofs.StaysKept.{fresh_empty}
-use Rattle.omi_rule_words.specs.Owes.{Owed, all_owed, nothing, owed, with_raises}
+use Rattle.omi_rule_words.specs.Owes.{Owed, all_owed, nothing, owed, with_reference}
 use Rattle.omi_rule.specs.Rows.{HasFilledTask, IsFilled, IsVariable, KnowsVariables}
 use Rattle.omi_rule.proofs.Own.{ChangesTask, bodies_kept, encounter_kept}
 use Rattle.omi_rule.proofs.OthersStand.{of_innermost}
@@ -102,7 +102,7 @@ module _ (p : Program) (w : List ℕ) (m : Memory) (events : List (ℕ × Event)
       own_changes p s i (actors i) (stands p w m events s actors i before c at) (relisted zs) Z
       (λ x live. relisted_alike zs x) refl refl refl refl
 
-  pub is_ready : owed (actors i) ≡ with_raises (actors i).context t → HasTask w t → (place : Option ℕ)
+  pub is_ready : owed (actors i) ≡ with_reference (actors i).context t → HasTask w t → (place : Option ℕ)
       → HasFilledTask p w m s (actors i) place t TASK_WORDS
       → IsReady p w m s (all_owed actors) i (actors i) t
       (relisted zs (context p w m events s actors i before c at).task)
@@ -121,7 +121,7 @@ module _ (p : Program) (w : List ℕ) (m : Memory) (events : List (ℕ × Event)
         current = record { name = (stands p w m events s actors i before c at).current; live = live };
         within = within_relisted s K zs w before.rule.within;
         names = subst AreNamesLive (list_moved p s i (actors i) (stands p w m events s actors i before c at) zs) (names_stay_live s i zs (names_live p events s before.rule.reached));
-        owes = record { owed = raises ∙ ap (λ (n : Rid). record nothing { tasks = t ∷ []; pending = Some n; raised = Some K }) (sym o.region_is); made_by = there; live = live };
+        owes = record { owed = raises ∙ ap (λ (n : Rid). record nothing { tasks = t ∷ []; pending = Some n; raised = Some K; referred = Some K }) (sym o.region_is); made_by = there; live = live };
         filled = subst (λ k. IsFilled (m k tasks t.0.slot) (task_plan w (new_task p (actors i))) TASK_WORDS) making.maker filled;
         variables = known variables;
         bodies = bodies_kept p s Z i K changes (actors i).context (actors i).stack (own_below p s i (actors i) (stands p w m events s actors i before c at) events before.rule.reached) (stands p w m events s actors i before c at).bodies;

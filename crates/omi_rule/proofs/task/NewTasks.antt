@@ -4,7 +4,7 @@ use Rattle.omi_script.specs.declared.program.Program.{Program}
 use Rattle.omi_model.specs.declared.task.Task.{Task}
 use Rattle.omi_numbers.specs.Addresses.{exit_below, exit_frame}
 use Rattle.omi_model.specs.Tasking.{deferred_task, scheduled}
-use Rattle.omi_layout.specs.declared.field.Field.TheVariants.{TaskChildren}
+use Rattle.omi_layout.specs.declared.field.Field.TheVariants.{TaskChildren, TaskReferences}
 use Rattle.omi_layout.specs.Memory.{Rec}
 use Rattle.omi_pc.specs.declared.actor.Actor.{Actor}
 use Rattle.omi_pc.specs.declared.limits.TheConstants.{TASK_WORDS}
@@ -29,7 +29,7 @@ module _ (p : Program) (w : List ℕ) (a : Actor) (f : ℕ) (final : Bool) (plac
       planned_codes w (new_task p a) r filled t.variables (are_variables t.variables a.gathered.variables few known) few
 
   pub record_is_filled : IsFilledFor w r (deferred_task p a.context.task t f final place)
-  record_is_filled = record { environment = environment; children = planned_stands w (new_task p a) r filled TaskChildren 0 0 refl }
+  record_is_filled = record { environment = environment; children = planned_stands w (new_task p a) r filled TaskChildren 0 0 refl; references = planned_stands w (new_task p a) r filled TaskReferences 0 1 refl }
     where
       same : planned_task (new_task p a) t.variables
           ≡ record (task_told (deferred_task p a.context.task t f final place)) { thread = a.thread; number = a.context.number; scheduling = Some a.context.task; exit = exit_frame a.thread (task_depth a) }

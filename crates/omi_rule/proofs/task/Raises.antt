@@ -1,5 +1,5 @@
--- A thread raises the counts for a new task: in its region, and in the task that makes it.
-use Rattle.std.proofs.Common.{◌≡◌, ◌<◌, inl, ℕ, List, [], ◌∷◌, Option, Some, None, refl, sym, ap, ◌∙◌, subst, arith}
+-- A thread raises the counts for a new task: in its region, and in the task that makes it, as an unfinished one and as one that refers to it.
+use Rattle.std.proofs.Common.{◌≡◌, ◌≢◌, ◌<◌, inl, ℕ, List, [], ◌∷◌, Option, Some, None, refl, sym, ap, ◌∙◌, subst, arith}
 use Rattle.std.specs.List.{All}
 use Rattle.std.specs.Prelude.{IsSome}
 use Rattle.std.proofs.lemmas.List.Elements.{All-head}
@@ -11,7 +11,8 @@ use Rattle.omi_model.specs.declared.id.Rid.{Rid}
 use Rattle.omi_model.specs.declared.id.Tid.{Tid}
 use Rattle.omi_model.specs.State.{State}
 use Rattle.omi_model.proofs.Slots.{found_live, none_some}
-use Rattle.omi_layout.specs.declared.field.Field.TheVariants.{RegionPending, TaskChildren, TaskSlots}
+use Rattle.omi_layout.specs.declared.field.Field.{Field}
+use Rattle.omi_layout.specs.declared.field.Field.TheVariants.{RegionPending, TaskChildren, TaskReferences, TaskSlots}
 use Rattle.omi_layout.specs.Field.{regions, tasks}
 use Rattle.omi_layout.specs.Memory.{Memory, Rec, replace_at}
 use Rattle.omi_layout.specs.Named.{number}
@@ -25,10 +26,10 @@ use Rattle.omi_pc.specs.declared.task_counter.TaskCounter.TheVariants as task
 use Rattle.omi_rep.specs.declared.outcome.Outcome.TheVariants as outcome
 use Rattle.omi_rule_words.specs.BarrierKinds.{one_more, with_region_word, word_of_region}
 use Rattle.omi_rule_words.specs.CountKinds.{with_task_word, word_of_task}
-use Rattle.omi_rule_words.specs.Owes.{Owed, all_owed, in_the_making, owed, with_raises}
+use Rattle.omi_rule_words.specs.Owes.{Owed, all_owed, in_the_making, owed, with_raises, with_reference}
 use Rattle.omi_rule_words.specs.Words.{IsInTheMaking, KeepsWords}
 use Rattle.omi_rule_words.proofs.PendingWords.{pending_adds_keep}
-use Rattle.omi_rule_words.proofs.TaskCounts.{children_adds_keep}
+use Rattle.omi_rule_words.proofs.TaskCounts.{children_adds_keep, references_add_keep}
 use Rattle.omi_step_words.specs.Moving.{to_task}
 use Rattle.omi_step_words.specs.Placed.{IsPlacedTask}
 use Rattle.omi_step_words.specs.Plan.{task_plan}
@@ -40,7 +41,7 @@ use Rattle.omi_rule.specs.Chains.{encounter_of}
 use Rattle.omi_rule.specs.Rows.{HasFilledTask, HasPlace, KeepsTaskRow}
 use Rattle.omi_rule.specs.Steps.{KeepsRule, RecordWord, StepKeeps}
 use Rattle.omi_rule.proofs.Assembly.{Before, quiet_keeps, spares_begun, spares_region}
-use Rattle.omi_rule.proofs.CountsFew.{children_few, pending_few}
+use Rattle.omi_rule.proofs.CountsFew.{children_few, pending_few, references_few}
 use Rattle.omi_rule.proofs.KeptObjects.{region_kept, task_kept}
 use Rattle.omi_rule.proofs.Owing.{owed_after}
 use Rattle.omi_rule.proofs.task.Searches.{loaded_goes}
@@ -116,82 +117,138 @@ module _ (p : Program) (w : List ℕ) (m : Memory) (events : List (ℕ × Event)
 
   -- ---- in the task that makes it
 
-  module _ (at : (actors i).counter ≡ counter.Task (task.AddChildren place t)) where
-    abbrev D : TaskCounter
-    D = task.AddChildren place t
+  abbrev k : Tid
+  k = (actors i).context.task
 
-    abbrev k : Tid
-    k = (actors i).context.task
+  abbrev word_on : Field → RecordWord
+  word_on count = record { creator = (actors i).context.task.0.creator; slot = (actors i).context.task.0.slot; field = count; place = 0 }
 
-    abbrev Y : RecordWord
-    Y = record { creator = (actors i).context.task.0.creator; slot = (actors i).context.task.0.slot; field = TaskChildren; place = 0 }
-
+  -- a word of that task for what is counted of its children
+  module _ (count : Field) (no_slots : number TaskSlots ≢ number count) (D : TaskCounter)
+      (at : (actors i).counter ≡ counter.Task D) (took : (owed (actors i)).tasks ≡ t ∷ [])
+      (filled : HasFilledTask p w m s (actors i) place t TASK_WORDS) where
     abbrev After : Memory
     After =
-        with_task_word m (actors i).context.task TaskChildren
-        (one_more (word_of_task m (actors i).context.task TaskChildren))
-
-    raised : (b : Actor) → owed b ≡ with_raises (actors i).context t
-        → KeepsWords w After s (all_owed (replace_at actors i b))
-    raised b is =
-        let o : owed (actors i) ≡ record (in_the_making t) { pending = Some (actors i).context.region } =
-        owes p w m events s actors i before D at in
-        let here = context p w m events s actors i before D at in
-        let counted = (task_kept p w m events s actors before.rule k here.task here.live).counts.children in
-        let most = children_few w s before.valid before.rule.within.count (all_owed actors) k in
-        let few : word_of_task m k TaskChildren < MOST_EVENTS = omega (arith, counted, most) in
-        owed_after w After s actors i b (with_raises (actors i).context t) is
-        (subst (λ (x : Owed). KeepsWords w After s (replace_at (all_owed actors) i (record x { raised = Some k }))) o
-        (children_adds_keep w m s (all_owed actors) i k before.rule.words before.known (ap (λ (x : Owed). x.raised) o) (subst IsSome (sym here.live) refl) few))
+        with_task_word m (actors i).context.task count
+        (one_more (word_of_task m (actors i).context.task count))
 
     slots_stay : (q : Option ℕ) → HasPlace p m (actors i) q → HasPlace p After (actors i) q
     slots_stay None o = tt
     slots_stay (Some j) (defers, empty) =
-        (defers, word_stays m k.0.creator tasks k.0.slot (number TaskChildren) 0 (one_more (word_of_task m k TaskChildren)) (actors i).context.row.0.creator tasks (actors i).context.row.0.slot (number TaskSlots) j (λ _ _ _ field _. absurd (omega (arith, field))) ∙ empty)
+        (defers, word_stays m k.0.creator tasks k.0.slot (number count) 0 (one_more (word_of_task m k count)) (actors i).context.row.0.creator tasks (actors i).context.row.0.slot (number TaskSlots) j (λ _ _ _ field _. no_slots field) ∙ empty)
 
     record_same : After t.0.creator tasks t.0.slot ≡ m t.0.creator tasks t.0.slot
     record_same =
         let here = context p w m events s actors i before D at in
-        let free = making D at (ap (λ (x : Owed). x.tasks) (owes p w m events s actors i before D at)) in
-        record_stays m k.0.creator tasks k.0.slot (number TaskChildren) 0
-        (one_more (word_of_task m k TaskChildren)) t.0.creator tasks t.0.slot
+        let free = making D at took in
+        record_stays m k.0.creator tasks k.0.slot (number count) 0
+        (one_more (word_of_task m k count)) t.0.creator tasks t.0.slot
         (λ c _ slot. none_some (subst (λ x. (s.tasks x k.0.slot).live ≡ None) (sym free.maker ∙ c) (subst (λ x. (s.tasks i x).live ≡ None) slot free.free)) (found_live k.0.generation (s.tasks k.0.creator k.0.slot) here.task here.live))
 
+    pub still_filled : (d : TaskCounter)
+        → HasFilledTask p w After s (going d (actors i).gathered (actors i)) place t TASK_WORDS
+    still_filled d = filled_goes p w m After s (actors i) d place t TASK_WORDS slots_stay record_same filled
+
+  -- ---- as an unfinished one
+
+  module _ (at : (actors i).counter ≡ counter.Task (task.AddChildren place t)) where
+    abbrev D : TaskCounter
+    D = task.AddChildren place t
+
+    owed_here : owed (actors i) ≡ record (in_the_making t) { pending = Some (actors i).context.region }
+    owed_here = owes p w m events s actors i before D at
+
+    raised : KeepsWords w (with_task_word m k TaskChildren (one_more (word_of_task m k TaskChildren))) s (all_owed (replace_at actors i (to_task (task.AddReferences place t) (actors i))))
+    raised =
+        let here = context p w m events s actors i before D at in
+        let counts = (task_kept p w m events s actors before.rule k here.task here.live).counts.children in
+        let most = children_few w s before.valid before.rule.within.count (all_owed actors) k in
+        let few : word_of_task m k TaskChildren < MOST_EVENTS = omega (arith, counts, most) in
+        owed_after w (with_task_word m k TaskChildren (one_more (word_of_task m k TaskChildren))) s actors i (to_task (task.AddReferences place t) (actors i)) (with_raises (actors i).context t) refl
+        (subst (λ (x : Owed). KeepsWords w (with_task_word m k TaskChildren (one_more (word_of_task m k TaskChildren))) s (replace_at (all_owed actors) i (record x { raised = Some k }))) owed_here
+        (children_adds_keep w m s (all_owed actors) i k before.rule.words before.known (ap (λ (x : Owed). x.raised) owed_here) (subst IsSome (sym here.live) refl) few))
+
     pub children_keeps : StepKeeps p w m events s actors i (making_next p w (actors i) D) (λ old. (making_moved p w (actors i) D old, making_outcome w (actors i) D old))
-    children_keeps = (
-      Y,
-      record { there = record { field = record { from = omega arith; to = omega arith }; record_slot = (context_placed p w m events s actors i before D at).task; within = omega arith }; address = refl },
+    children_keeps =
+        let none : number TaskSlots ≢ number TaskChildren = λ is. omega (arith, is) in
+        let took = ap (λ (x : Owed). x.tasks) owed_here in
+        let filled = row p w m events s actors i before D at in (
+          word_on TaskChildren,
+          record { there = record { field = record { from = omega arith; to = omega arith }; record_slot = (context_placed p w m events s actors i before D at).task; within = omega arith }; address = refl },
+          quiet_keeps p w m events s actors i before (op.Add (of_task w k TaskChildren) 1) (word_on TaskChildren)
+              (to_task (task.AddReferences place t) (actors i), outcome.Quiet) refl raised
+              (λ j other. let here = context p w m events s actors i before D at in
+              spares_begun m s k here.task TaskChildren 0 (one_more (word_of_task m k TaskChildren)) i j (actors j) here.live here.begun here.thread other)
+              (goes_on p w m events s actors i before D at (with_task_word m k TaskChildren (one_more (word_of_task m k TaskChildren)))
+              (task.AddReferences place t) (actors i).gathered (own p w m events s actors i before D at).fits.variables refl
+              (fits p w m events s actors i before D at) (placed p w m events s actors i before D at)
+              (still_filled TaskChildren none D at took filled (task.AddReferences place t))),
+        )
+
+  -- ---- as one that refers to it
+
+  module _ (at : (actors i).counter ≡ counter.Task (task.AddReferences place t)) where
+    abbrev E : TaskCounter
+    E = task.AddReferences place t
+
+    owed_there : owed (actors i) ≡ with_raises (actors i).context t
+    owed_there = owes p w m events s actors i before E at
+
+    abbrev Referred : Memory
+    Referred = with_task_word m k TaskReferences (one_more (word_of_task m k TaskReferences))
+
+    referred : (b : Actor) → owed b ≡ with_reference (actors i).context t
+        → KeepsWords w Referred s (all_owed (replace_at actors i b))
+    referred b is =
+        let here = context p w m events s actors i before E at in
+        let counts = (task_kept p w m events s actors before.rule k here.task here.live).counts.references in
+        let most = references_few w s before.valid before.rule.within.count (all_owed actors) k here.task in
+        let few : word_of_task m k TaskReferences < MOST_EVENTS = omega (arith, counts, most) in
+        owed_after w Referred s actors i b (with_reference (actors i).context t) is
+        (subst (λ (x : Owed). KeepsWords w Referred s (replace_at (all_owed actors) i (record x { referred = Some k }))) owed_there
+        (references_add_keep w m s (all_owed actors) i k before.rule.words before.known (ap (λ (x : Owed). x.referred) owed_there) (subst IsSome (sym here.live) refl) few))
+
+    pub references_keep : StepKeeps p w m events s actors i (making_next p w (actors i) E) (λ old. (making_moved p w (actors i) E old, making_outcome w (actors i) E old))
+    references_keep = (
+      word_on TaskReferences,
+      record { there = record { field = record { from = omega arith; to = omega arith }; record_slot = (context_placed p w m events s actors i before E at).task; within = omega arith }; address = refl },
       go place refl,
     )
       where
-        step : (d : TaskCounter)
-            → owed (going d (actors i).gathered (actors i)) ≡ with_raises (actors i).context t
-            → task_ahead p (encounter_of s (actors i).context) (actors i).stack d ≡ task_ahead p (encounter_of s (actors i).context) (actors i).stack D
-            → FitsTask p (going d (actors i).gathered (actors i)) d → IsPlacedTask w d → KeepsTaskRow p w After s i (going d (actors i).gathered (actors i)) d → KeepsRule p w m events s actors i (op.Add (of_task w k TaskChildren) 1) Y (to_task d (actors i), outcome.Quiet)
+        none : number TaskSlots ≢ number TaskReferences
+        none is = omega (arith, is)
+
+        took : (owed (actors i)).tasks ≡ t ∷ []
+        took = ap (λ (x : Owed). x.tasks) owed_there
+
+        filled : HasFilledTask p w m s (actors i) place t TASK_WORDS
+        filled = row p w m events s actors i before E at
+
+        step : (d : TaskCounter) → owed (to_task d (actors i)) ≡ with_reference (actors i).context t
+            → task_ahead p (encounter_of s (actors i).context) (actors i).stack d ≡ task_ahead p (encounter_of s (actors i).context) (actors i).stack E
+            → FitsTask p (going d (actors i).gathered (actors i)) d → IsPlacedTask w d → KeepsTaskRow p w Referred s i (going d (actors i).gathered (actors i)) d → KeepsRule p w m events s actors i (op.Add (of_task w k TaskReferences) 1) (word_on TaskReferences) (to_task d (actors i), outcome.Quiet)
         step d is ahead fits_there placed_there row_there =
-            let here = context p w m events s actors i before D at in
-            quiet_keeps p w m events s actors i before (op.Add (of_task w k TaskChildren) 1) Y
-            (to_task d (actors i), outcome.Quiet) refl (raised (to_task d (actors i)) is)
-            (λ j other. spares_begun m s k here.task TaskChildren 0 (one_more (word_of_task m k TaskChildren)) i j (actors j) here.live here.begun here.thread other)
-            (goes_on p w m events s actors i before D at After d (actors i).gathered (own p w m events s actors i before D at).fits.variables ahead fits_there placed_there row_there)
+            let here = context p w m events s actors i before E at in
+            quiet_keeps p w m events s actors i before (op.Add (of_task w k TaskReferences) 1) (word_on TaskReferences)
+            (to_task d (actors i), outcome.Quiet) refl (referred (to_task d (actors i)) is)
+            (λ j other. spares_begun m s k here.task TaskReferences 0 (one_more (word_of_task m k TaskReferences)) i j (actors j) here.live here.begun here.thread other)
+            (goes_on p w m events s actors i before E at Referred d (actors i).gathered (own p w m events s actors i before E at).fits.variables ahead fits_there placed_there row_there)
 
         now : (d : TaskCounter)
-            → HasFilledTask p w After s (going d (actors i).gathered (actors i)) place t TASK_WORDS
-        now d =
-            filled_goes p w m After s (actors i) d place t TASK_WORDS slots_stay record_same
-            (row p w m events s actors i before D at)
+            → HasFilledTask p w Referred s (going d (actors i).gathered (actors i)) place t TASK_WORDS
+        now d = still_filled TaskReferences none E at took filled d
 
         go : (q : Option ℕ) → place ≡ q
-            → KeepsRule p w m events s actors i (op.Add (of_task w k TaskChildren) 1) Y (to_task (behind_raises q t) (actors i), outcome.Quiet)
+            → KeepsRule p w m events s actors i (op.Add (of_task w k TaskReferences) 1) (word_on TaskReferences) (to_task (behind_raises q t) (actors i), outcome.Quiet)
         go None e =
             step (task.StartNow t) refl
             (ap (Ahead.making p (encounter_of s (actors i).context) (actors i).stack) (sym e))
-            (subst (λ (q : Option ℕ). IsTaskGot p (actors i) q t) e (fits p w m events s actors i before D at))
-            (placed p w m events s actors i before D at)
-            (subst (λ (q : Option ℕ). HasFilledTask p w After s (going (task.StartNow t) (actors i).gathered (actors i)) q t TASK_WORDS) e (now (task.StartNow t)))
+            (subst (λ (q : Option ℕ). IsTaskGot p (actors i) q t) e (fits p w m events s actors i before E at))
+            (placed p w m events s actors i before E at)
+            (subst (λ (q : Option ℕ). HasFilledTask p w Referred s (going (task.StartNow t) (actors i).gathered (actors i)) q t TASK_WORDS) e (now (task.StartNow t)))
         go (Some j) e =
             step (task.Defer j t) refl
             (ap (Ahead.making p (encounter_of s (actors i).context) (actors i).stack) (sym e))
-            (subst (λ (q : Option ℕ). IsTaskGot p (actors i) q t) e (fits p w m events s actors i before D at))
-            (placed p w m events s actors i before D at)
-            (subst (λ (q : Option ℕ). HasFilledTask p w After s (going (task.Defer j t) (actors i).gathered (actors i)) q t TASK_WORDS) e (now (task.Defer j t)))
+            (subst (λ (q : Option ℕ). IsTaskGot p (actors i) q t) e (fits p w m events s actors i before E at))
+            (placed p w m events s actors i before E at)
+            (subst (λ (q : Option ℕ). HasFilledTask p w Referred s (going (task.Defer j t) (actors i).gathered (actors i)) q t TASK_WORDS) e (now (task.Defer j t)))

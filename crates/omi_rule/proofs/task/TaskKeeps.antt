@@ -1,4 +1,4 @@
--- Each step of a `task` construct keeps the rule. The raise of references is not reached yet.
+-- Each step of a `task` construct keeps the rule.
 use Rattle.std.proofs.Common.{◌≡◌, ℕ, List}
 use Rattle.omi_script.specs.declared.program.Program.{Program}
 use Rattle.omi_model.specs.declared.event.Event.{Event}
@@ -10,28 +10,27 @@ use Rattle.omi_pc.specs.declared.task_counter.TaskCounter.{TaskCounter}
 use Rattle.omi_pc.specs.declared.task_counter.TaskCounter.TheVariants as task
 use Rattle.omi_task.specs.MakingSteps.{making_moved, making_next, making_outcome}
 use Rattle.omi_rule.specs.Steps.{StepKeeps}
-use Rattle.omi_rule.specs.StepsKeep.{IsTaskKept}
 use Rattle.omi_rule.proofs.Assembly.{Before}
 use Rattle.omi_rule.proofs.task.Defers.{defer_keeps}
 use Rattle.omi_rule.proofs.task.Fills.{fill_keeps, take_keeps}
 use Rattle.omi_rule.proofs.task.Loads.{variable_keeps}
-use Rattle.omi_rule.proofs.task.Raises.{children_keeps, pending_keeps}
+use Rattle.omi_rule.proofs.task.Raises.{children_keeps, pending_keeps, references_keep}
 use Rattle.omi_rule.proofs.task.Searches.{search_keeps}
 use Rattle.omi_rule.proofs.task.Slots.{slot_keeps}
 use Rattle.omi_rule.proofs.task.StartsNow.{start_now_keeps}
 
 module _ (p : Program) (w : List ℕ) (m : Memory) (events : List (ℕ × Event)) (s : State) (actors : ℕ → Actor)
     (i : ℕ) (before : Before p w m events s actors i) where
-  pub task_keeps : (c : TaskCounter) → IsTaskKept c → (actors i).counter ≡ counter.Task c
+  pub task_keeps : (c : TaskCounter) → (actors i).counter ≡ counter.Task c
       → StepKeeps p w m events s actors i (making_next p w (actors i) c) (λ old. (making_moved p w (actors i) c old, making_outcome w (actors i) c old))
-  task_keeps (task.LoadSlot place) kept at = slot_keeps p w m events s actors i before place at
-  task_keeps (task.LoadVariable place word) kept at =
+  task_keeps (task.LoadSlot place) at = slot_keeps p w m events s actors i before place at
+  task_keeps (task.LoadVariable place word) at =
       variable_keeps p w m events s actors i before place word at
-  task_keeps (task.LoadLife place slot) kept at = search_keeps p w m events s actors i before place slot at
-  task_keeps (task.Take place t) kept at = take_keeps p w m events s actors i before place t at
-  task_keeps (task.Fill place t word) kept at = fill_keeps p w m events s actors i before place t word at
-  task_keeps (task.AddPending place t) kept at = pending_keeps p w m events s actors i before place t at
-  task_keeps (task.AddChildren place t) kept at = children_keeps p w m events s actors i before place t at
-  task_keeps (task.AddReferences place t) kept at = absurd kept
-  task_keeps (task.Defer place t) kept at = defer_keeps p w m events s actors i before place t at
-  task_keeps (task.StartNow t) kept at = start_now_keeps p w m events s actors i before t at
+  task_keeps (task.LoadLife place slot) at = search_keeps p w m events s actors i before place slot at
+  task_keeps (task.Take place t) at = take_keeps p w m events s actors i before place t at
+  task_keeps (task.Fill place t word) at = fill_keeps p w m events s actors i before place t word at
+  task_keeps (task.AddPending place t) at = pending_keeps p w m events s actors i before place t at
+  task_keeps (task.AddChildren place t) at = children_keeps p w m events s actors i before place t at
+  task_keeps (task.AddReferences place t) at = references_keep p w m events s actors i before place t at
+  task_keeps (task.Defer place t) at = defer_keeps p w m events s actors i before place t at
+  task_keeps (task.StartNow t) at = start_now_keeps p w m events s actors i before t at

@@ -8,10 +8,10 @@ use Rattle.omi_model.specs.declared.region.Region.{Region}
 use Rattle.omi_model.specs.declared.task.Task.{Task}
 use Rattle.omi_numbers.specs.Addresses.{exit_frame, entry_address, exit_below}
 use Rattle.omi_model.specs.Teams.{inherited, member_task, new_region}
+use Rattle.omi_numbers.specs.declared.limits.TheConstants.{OWN_SLOTS}
 use Rattle.omi_layout.specs.declared.field.Field.TheVariants.{RegionActive, RegionArrived, RegionEnclosing, RegionEncountering, RegionFunction, RegionLevels, RegionReleased, RegionSize, RegionTeam, TaskChildren, TaskReferences, TaskSlots}
 use Rattle.omi_layout.specs.Memory.{Rec}
 use Rattle.omi_layout.specs.Named.{number}
-use Rattle.omi_layout.specs.Table.{width}
 use Rattle.omi_pc.specs.declared.actor.Actor.{Actor}
 use Rattle.omi_pc.specs.declared.limits.TheConstants.{REGION_WORDS, TASK_WORDS}
 use Rattle.omi_rep.specs.Codes.{HasCodes, TaskWords, region_code, region_told, task_code, task_told}
@@ -90,7 +90,7 @@ module _ (p : Program) (w : List ℕ) (a : Actor) (n : Rid) (f : ℕ) (t : Task)
     slots = slots;
   }
     where
-      slots : (place : ℕ) → place < width w (number TaskSlots) → Has q TaskSlots place 0
+      slots : (place : ℕ) → place < OWN_SLOTS → Has q TaskSlots place 0
       slots zero within = planned_stands w (new_member p a n j) q o TaskSlots 0 0 refl
       slots (suc zero) within = planned_stands w (new_member p a n j) q o TaskSlots 1 0 refl
       slots (suc (suc zero)) within = planned_stands w (new_member p a n j) q o TaskSlots 2 0 refl

@@ -1,15 +1,21 @@
 use Rattle.std.proofs.Common.{◌∙◌, ap, sym, subst}
-use Rattle.omi_model.specs.Changes.{with_ahead}
+use Rattle.omi_model.specs.Changes.{with_ahead, with_list}
 use Rattle.omi_model.specs.State.{State}
+use Rattle.omi_model.specs.declared.item.Item.{Item}
 use Rattle.omi_machine.specs.Kept.{state_of}
 use Rattle.omi_machine.specs.Needs.{Needs}
-use Rattle.omi_machine.proofs.AfterEvents.{after_is, fits_is, needs_moved}
+use Rattle.omi_machine.proofs.AfterEvents.{after_is, fits_is, item_is, needs_moved}
 use Rattle.omi_machine.proofs.after_event.after.Goals as goal
 
 pub take_effect-requires-clause-needs : goal.take_effect-requires-clause-needs
 take_effect-requires-clause-needs c =
-    subst (λ (s : State). Needs s c.args.thread c.args.e.now) (sym c.exchange_ahead-old_frees.ensures.after)
-    (needs_moved (state_of c.args.s.now) c.args.thread c.in-Some.list c.args.e.now c.requires.item c.requires.rule)
+    let item =
+    item_is c.args.p.now
+    (state_of c.args.s.now) c.args.thread c.args.e.now c.requires _ _ c.in_ok-moved.moved c.encounter.ensures c.ahead_of-frees.ensures c.in_ok-moved.ensures c.in-Some.x c.in-Some.list c.in-Some.is in
+    subst (λ (s : State). Needs s c.args.thread c.args.e.now c.in-Some.x)
+    (sym c.exchange_ahead-old_frees.ensures.after)
+    (subst (λ (x : Item). Needs (with_list (state_of c.args.s.now) c.args.thread c.in-Some.list) c.args.thread c.args.e.now x) (sym item)
+    (needs_moved (state_of c.args.s.now) c.args.thread c.in-Some.list c.args.e.now c.requires.item c.requires.rule))
 
 pub take_effect-requires-clause-taken : goal.take_effect-requires-clause-taken
 take_effect-requires-clause-taken c =

@@ -1,6 +1,6 @@
 use Rattle.std.proofs.Common.{◌+◌, ◌∙◌, ap, List, Option, ℕ, Some}
 use Rattle.omi_model.specs.Put.{on}
-use Rattle.omi_model.specs.declared.id.Tid.{Tid}
+use Rattle.omi_model.specs.declared.freeable.Freeable.{Freeable}
 use Rattle.omi_model.specs.declared.item.Item.{Item}
 use Rattle.omi_model.specs.declared.slot.Slot.{Slot}
 use Rattle.omi_model.specs.declared.task.Task.{Task}
@@ -17,7 +17,7 @@ returns-clause-after c =
     let back =
     c.put_live.ensures
     ∙ ap
-    (λ (frees : Option Tid). with_slot c.take_live.new.slots c.args.k.0 (record { generations = c.args.k.0.generation + 1; live = Some (record t { frees = frees; list = c.replace-old.new.dest }) })) c.replace-old_frees.ensures.after
+    (λ (frees : Option Freeable). with_slot c.take_live.new.slots c.args.k.0 (record { generations = c.args.k.0.generation + 1; live = Some (record t { frees = frees; list = c.replace-old.new.dest }) })) c.replace-old_frees.ensures.after
     ∙ ap
     (λ (list : List Item). with_slot c.take_live.new.slots c.args.k.0 (record { generations = c.args.k.0.generation + 1; live = Some (record t { frees = c.args.frees; list = list }) })) c.replace-old.ensures.after in
     slots_changed c.args.tasks.now c.take_live.new.slots c.put_live.new.slots c.args.k.0 _
@@ -31,5 +31,5 @@ returns-clause-back c =
     ∙ on_back (slots_of c.args.tasks.now) c.args.k.0
     (λ t. record t { frees = c.args.frees; list = c.args.list }) t c.in-Some.ensures.found
     (λ t. record t { frees = c.replace-old_frees.result; list = c.replace-old.result })
-    (ap (λ (old : Option Tid). record t { frees = old; list = c.replace-old.result }) c.replace-old_frees.ensures.value
+    (ap (λ (old : Option Freeable). record t { frees = old; list = c.replace-old.result }) c.replace-old_frees.ensures.value
     ∙ ap (λ (old : List Item). record t { list = old }) c.replace-old.ensures.value)

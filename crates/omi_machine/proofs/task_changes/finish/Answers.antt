@@ -2,7 +2,9 @@ use Rattle.std.proofs.Common.{◌∙◌, ap, sym, ℕ, Some}
 use Rattle.omi_model.specs.Changes.{with_current}
 use Rattle.omi_machine.specs.Kept.{state_of}
 use Rattle.omi_model.specs.State.{State}
-use Rattle.omi_model.specs.Tasking.{finished, freeing}
+use Rattle.omi_model.specs.Freeing.{freeing}
+use Rattle.omi_model.specs.Tasking.{finished}
+use Rattle.omi_model.specs.declared.freeable.Freeable.TheVariants as freeable
 use Rattle.omi_model.specs.declared.progress.Progress.TheVariants.{Finished}
 use Rattle.omi_model.specs.declared.slot.Slot.{Slot}
 use Rattle.omi_model.specs.declared.task.Task.{Task}
@@ -23,7 +25,7 @@ returns c =
     (λ u. record u { progress = Finished }) t took.kept took.found took.taken c.put_live.ensures in
     let slots =
     c.free_next.ensures
-    ∙ ap (λ (x : State). freeing (Some k) t.scheduling x.tasks) ended in
+    ∙ ap (λ (x : State). freeing (Some (freeable.Finished k)) t.scheduling x.tasks) ended in
     let whole =
     c.set_current.ensures
     ∙ ap (λ (m : ℕ → ℕ → Slot Task). with_current (record (state_of s) { tasks = m }) i t.scheduling) slots in

@@ -1,10 +1,10 @@
 use Rattle.std.proofs.Common.{◌∙◌, ap, sym, Option}
-use Rattle.omi_model.specs.Tasking.{freeing}
+use Rattle.omi_model.specs.Freeing.{freeing}
 use Rattle.omi_model.specs.declared.id.Tid.{Tid}
 use Rattle.omi_model.specs.declared.task.Task.{Task}
 use Rattle.omi_machine.specs.Kept.{slots_of}
 use Rattle.omi_machine.proofs.StateChanges.{slots_changed}
-use Rattle.omi_machine.proofs.task_changes.free_next.Goals as goal
+use Rattle.omi_machine.proofs.freeing.free_next.Goals as goal
 
 pub returns : goal.returns
 returns c =
