@@ -159,7 +159,7 @@ class Layout:
 
     def judge_arenas(self):
         taken = []
-        counts = {'thread': (self.threads, 16), 'region': (self.regions, 64),
+        counts = {'thread': (self.threads, 64), 'region': (self.regions, 64),
                   'task': (self.tasks, 4096)}
         for record, k in zip(RECORDS, (1, 3, 6, 9)):
             start = self.start[record]
@@ -401,7 +401,7 @@ class Script:
 
     def head(self, words):
         if words[0] == 'threads' and len(words) == 2:
-            kind, faults = 'threads', self.value((1, 16), words[1])
+            kind, faults = 'threads', self.value((1, 64), words[1])
         elif words[0] == 'env' and len(words) == 3 and words[1] in HEADS:
             kind, faults = words[1], self.value(HEADS[words[1]], words[2])
         else:

@@ -177,6 +177,7 @@ FitsTeam p a team.Ask =
     × (length a.gathered.team < a.gathered.wanted)
     × (a.gathered.asked < p.threads)
     × (a.gathered.asked ≢ a.thread)
+    × (length a.gathered.team < p.threads)
 FitsTeam p a (team.LoadRegionLife slot) = IsTeamGot p a
 FitsTeam p a (team.TakeRegion r) = IsRegionGot p a r
 FitsTeam p a (team.FillRegion r word) = IsRegionGot p a r × (word < REGION_WORDS)

@@ -16,7 +16,7 @@ pub const MAX_STATEMENTS: usize = 4_096;
 pub const MAX_DEPTH: usize = 15;
 
 /// The most threads of a program, at most `MAX_SIZE`.
-pub const MAX_THREADS: u8 = 16;
+pub const MAX_THREADS: u8 = 64;
 
 /// The greatest size of a team, as it is asked for.
 pub const MAX_SIZE: u8 = 64;

@@ -14,6 +14,8 @@ mod look;
 #[cfg(test)]
 mod look_tests;
 #[cfg(test)]
+mod many_tests;
+#[cfg(test)]
 mod moves;
 #[cfg(test)]
 mod operation_tests;

@@ -90,6 +90,10 @@ pub const MANY_THREADS: [&str; 2] = [
     "threads 12\nfunc w\nwork\nend\nfunc d\ncritical 4 w\nend\nfunc c\nparallel d num 3\nend\nfunc b\nonly 0 c\nonly 3 c\nonly 5 w\nset_num_threads 4\nend\nfunc main\nparallel b num 8\nend\n",
 ];
 
+/// A team of as many threads as a program can have.
+pub const SIXTY_FOUR_THREADS: &str =
+    "threads 64\nfunc b\nbarrier\nend\nfunc main\nparallel b num 64\nend\n";
+
 /// Calls and locks.
 pub const CALLS: [&str; 3] = [
     "threads 4\nfunc w\nwork\nend\nfunc c\nonly 0 w\nonly 2 w\nrepeat 3 w\nrepeat 0 w\ncall w\nend\nfunc b\ncall c\nonly 1 c\nend\nfunc main\nrepeat 2 w\nparallel b num 4\nend\n",

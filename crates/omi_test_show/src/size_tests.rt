@@ -1,10 +1,10 @@
-//! Cores of the greatest size, and of one word more.
+//! Cores of the greatest size, of one word more, and of the most threads.
 
 ghost use Rattle.std.specs.Prelude.{◌≤◌};
 
 use crate::show_tests::{OPENING, expect};
 use omi_outside::Status;
-use omi_test_calls::{EMPTY, core_of};
+use omi_test_calls::{EMPTY, call, core_of};
 use std::alloc::{AllocError, Global};
 use std::test::Fail;
 
@@ -32,5 +32,19 @@ fn cores_of_many_words(rt: HostRuntime) -> Result<(), Fail> {
     }
     let over = longer_core(alloc, 1_048_577)?;
     expect(&rt, alloc, &over, Status::Core, "core 32 5 TooLarge\n")?;
+    Ok(())
+}
+
+/// As many threads as a program can have, of which thread 0 alone has begun.
+#[test]
+fn sixty_four_threads(rt: HostRuntime) -> Result<(), Fail> {
+    let alloc = rt.alloc();
+    let core = core_of(alloc, "0", "threads 64\nfunc main\nend\n")?;
+    assert_eq!(&rt; core.len(), 4_026_784);
+    let shown = call(alloc, &["show", "c"], ("", Some(&core)), &[], &[], &[])?;
+    assert_eq!(&rt; shown.status, Status::Success);
+    let text = str::from_utf8(shown.out.bytes())?;
+    assert_eq!(&rt; text.lines().count(), 70);
+    assert!(&rt; text.contains("\nnative 1063 none\n"));
     Ok(())
 }

@@ -23,8 +23,8 @@ const A_TASK: &str =
     "threads 4\nfunc t\nwork\nend\nfunc b\ntask t\ntaskwait\nend\nfunc main\nparallel b num 4\nend\n";
 
 /// A team of as many threads as a program can have.
-const A_TEAM_OF_SIXTEEN: &str =
-    "threads 16\nfunc f\nwork\nend\nfunc main\nparallel f num 16\nend\n";
+const A_TEAM_OF_SIXTY_FOUR: &str =
+    "threads 64\nfunc f\nwork\nend\nfunc main\nparallel f num 64\nend\n";
 
 /// What the threads of a script's program make, in the layout of family 0.
 fn run<R: Threads + Sync, G: Gate>(
@@ -96,7 +96,7 @@ fn threads_run_beside_each_other(rt: HostRuntime) -> Result<(), Fail> {
     for (script, threads, passes) in [
         (A_TEAM_OF_TWO, 2, 10),
         (A_TASK, 4, 20),
-        (A_TEAM_OF_SIXTEEN, 16, 80),
+        (A_TEAM_OF_SIXTY_FOUR, 64, 320),
     ] {
         let gate = Meeting::of(threads);
         let end = run(&rt, rt.alloc(), script, 5, None, &gate);
@@ -157,7 +157,7 @@ fn a_break_is_seen_by_others(rt: HostRuntime) -> Result<(), Fail> {
 /// Thread 0 makes no step before all others have offered themselves. Where the budget has no third step, it doesn't wait.
 #[test]
 fn work_begins_once_all_have_offered(rt: HostRuntime) -> Result<(), Fail> {
-    for (script, threads) in [(A_TEAM_OF_TWO, 2), (A_TASK, 4), (A_TEAM_OF_SIXTEEN, 16)] {
+    for (script, threads) in [(A_TEAM_OF_TWO, 2), (A_TASK, 4), (A_TEAM_OF_SIXTY_FOUR, 64)] {
         let gate = Starting::new();
         let end = run(&rt, rt.alloc(), script, 5, None, &gate);
         assert!(rt; end.is_some(), "{threads} threads");

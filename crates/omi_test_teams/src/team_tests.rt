@@ -7,8 +7,8 @@ use omi_test_rows::A_TEAM_OF_TWO;
 use std::test::Fail;
 
 /// A team of as many threads as a program can have.
-const A_TEAM_OF_SIXTEEN: &str =
-    "threads 16\nfunc f\nwork\nend\nfunc main\nparallel f num 16\nend\n";
+const A_TEAM_OF_SIXTY_FOUR: &str =
+    "threads 64\nfunc f\nwork\nend\nfunc main\nparallel f num 64\nend\n";
 
 /// Two threads that come to one lock, and then to a barrier.
 const A_LOCK_AND_A_BARRIER: &str = "threads 2
@@ -51,7 +51,10 @@ fn all_threads_form_a_team(rt: HostRuntime) -> Result<(), Fail> {
     for (script, fork) in [
         (A_TEAM_OF_TWO, " t0 fork r0.1.0 size 2 team k0.1.0@0 "),
         (TASKS, " t0 fork r0.1.0 size 4 team k0.1.0@0 "),
-        (A_TEAM_OF_SIXTEEN, " t0 fork r0.1.0 size 16 team k0.1.0@0 "),
+        (
+            A_TEAM_OF_SIXTY_FOUR,
+            " t0 fork r0.1.0 size 64 team k0.1.0@0 ",
+        ),
     ] {
         let gate = StartGate::of(TURNS);
         let mut done = call_past(&rt, alloc, line, script, None, Vec::new(alloc), &gate)?;

@@ -119,6 +119,16 @@ others_and_own i n count own few = go (nat_lt i n) refl
     go false e =
         let less = others_few i n in let past : n ≤ i = grind (arith, nat_tests) in omega (arith, less, past, own)
 
+-- and fewer where another thread than the one is next
+others_short : (i n count : ℕ) → i < count → n < count → n ≢ i → length (others_below i n) + 1 < count
+others_short i n count own within apart = go (nat_lt i n) refl
+  where
+    go : (b : Bool) → nat_lt i n ≡ b → length (others_below i n) + 1 < count
+    go true e = let less = others_fewer i n (ltb-true i n e) in omega (arith, less, within)
+    go false e =
+        let less = others_few i n in
+        let past : n ≤ i = grind (arith, nat_tests) in omega (arith, less, past, own, apart)
+
 got_short : (asks : List (ℕ × Bool)) → length (got_threads asks) ≤ length asks
 got_short [] = omega arith
 got_short ((v, true) ∷ asks) = let rest = got_short asks in omega (arith, rest)
@@ -152,14 +162,28 @@ module _ (u : State) (i : ℕ) (a : Actor) (o : HasAsked u i a) where
   pub team_size_is : length a.gathered.team ≡ suc (length (got_threads (u.threads i).asks))
   team_size_is = sym (length-map a.gathered.team (λ (x : Tid × ℕ). x.1)) ∙ ap length o.joined
 
-  pub team_few : i < u.count → length a.gathered.team ≤ u.count
-  team_few known =
+  -- it has this thread, and others of those that were asked
+  team_of_asked : length a.gathered.team ≤ length (others_below i a.gathered.asked) + 1
+  team_of_asked =
       let asks : length (u.threads i).asks ≡ length (others_below i a.gathered.asked) =
       sym (length-map (u.threads i).asks (λ (x : ℕ × Bool). x.0)) ∙ ap length o.asked in
       let got = got_short (u.threads i).asks in
       let size = team_size_is in
+      omega (arith, asks, got, size)
+
+  pub team_few : i < u.count → length a.gathered.team ≤ u.count
+  team_few known =
+      let team = team_of_asked in
       let most = others_and_own i a.gathered.asked u.count known o.few in
-      omega (arith, asks, got, size, most)
+      omega (arith, team, most)
+
+  -- where another one is asked next, a thread is not in it
+  pub team_short : i < u.count → a.gathered.asked < u.count → a.gathered.asked ≢ i
+      → length a.gathered.team < u.count
+  team_short known within apart =
+      let team = team_of_asked in
+      let most = others_short i a.gathered.asked u.count known within apart in
+      omega (arith, team, most)
 
   -- no more threads are asked
   pub asks_over : length a.gathered.team ≤ a.gathered.wanted
@@ -199,17 +223,21 @@ module _ (p : Program) (w : List ℕ) (m : Memory) (events : List (ℕ × Event)
 
       go : (b : Bool) → (nat_lt (length g.team) g.wanted && nat_lt g.asked p.threads) ≡ b
           → IsReady p w n u i (actors i) (if b then team.Ask else team.LoadRegionLife 0) g
-      go true e = record {
-        variables = variables;
-        fits = (
-          (parallel, some, most),
-          ltb-true (length g.team) g.wanted (test_left (nat_lt (length g.team) g.wanted) (nat_lt g.asked p.threads) e),
-          ltb-true g.asked p.threads (test_right (nat_lt (length g.team) g.wanted) (nat_lt g.asked p.threads) e),
-          subst (λ j. g.asked ≢ j) (sym (before.rule.threads i before.known).thread) other,
-        );
-        placed = tt;
-        row = o;
-      }
+      go true e =
+          let within : g.asked < p.threads = ltb-true g.asked p.threads (test_right (nat_lt (length g.team) g.wanted) (nat_lt g.asked p.threads) e) in
+          record {
+            variables = variables;
+            fits = (
+              (parallel, some, most),
+              ltb-true (length g.team) g.wanted (test_left (nat_lt (length g.team) g.wanted) (nat_lt g.asked p.threads) e),
+              within,
+              subst (λ j. g.asked ≢ j) (sym (before.rule.threads i before.known).thread) other,
+              subst (λ k. length g.team < k) (sym threads)
+                  (team_short u i (going team.Ask g (actors i)) o known (subst (λ k. g.asked < k) threads within) other),
+            );
+            placed = tt;
+            row = o;
+          }
       go false e = record {
         variables = variables;
         fits = (parallel, some, most);
