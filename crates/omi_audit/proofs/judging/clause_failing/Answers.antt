@@ -1,0 +1,43 @@
+use Rattle.std.proofs.Common.{◌≡◌, ◌==◌, [], ◌&&◌, ◌||◌, ◌∙◌, true, false, Some, sym, ap}
+use Rattle.std.specs.Prelude.{nat_eq}
+use Rattle.std.specs.Option.{option_map_or}
+use Rattle.indexmap.specs.IndexSet.{insert_all}
+use Rattle.omi_session.specs.Named.{record_kind}
+use Rattle.omi_audit.specs.Clauses.{leads_to, may_be_none, clause_4}
+use Rattle.omi_audit.specs.Judged.{named_of}
+use Rattle.omi_audit.proofs.NamedWords.{pointer_passes, pointer_refused, clause_of}
+use Rattle.omi_audit.proofs.judging.clause_failing.Goals as goal
+
+pub returns-then-may_stand-clause-failing : goal.returns-then-may_stand-clause-failing
+returns-then-may_stand-clause-failing g c = λ memory tells known.
+    let w = c.args.s.now.layout in
+    let kind = record_kind c.in-Some.kind in
+    let led = c.in_ok-led.ensures.led memory tells known in
+    let leads : leads_to c.args.field ≡ Some kind = sym c.in-Some.ensures in
+    let holds : clause_4 w memory c.args.field c.args.word ≡ true =
+    clause_of w memory 0 c.args.field kind c.args.word leads
+    ∙ ap (λ b. (may_be_none c.args.field && c.args.word == 0) || b) (sym led.is)
+    ∙ sym c.may_stand.ensures ∙ c.if-may_stand.true in
+    record {
+      is = sym (pointer_passes w memory c.args.thread c.args.field kind c.args.word leads holds);
+      meets = λ _. record {
+        met = led.meets.met ∙ ap (λ o. insert_all nat_eq c.args.search.now.met.keys (option_map_or (λ k. named_of w memory k c.args.word) o [])) (sym leads);
+        links = led.meets.links;
+        begun = led.meets.begun;
+      };
+    }
+
+pub returns-else-may_stand-clause-failing : goal.returns-else-may_stand-clause-failing
+returns-else-may_stand-clause-failing g c = λ memory tells known.
+    let w = c.args.s.now.layout in
+    let kind = record_kind c.in-Some.kind in
+    let led = c.in_ok-led.ensures.led memory tells known in
+    let leads : leads_to c.args.field ≡ Some kind = sym c.in-Some.ensures in
+    let fails : clause_4 w memory c.args.field c.args.word ≡ false =
+    clause_of w memory 0 c.args.field kind c.args.word leads
+    ∙ ap (λ b. (may_be_none c.args.field && c.args.word == 0) || b) (sym led.is)
+    ∙ sym c.may_stand.ensures ∙ c.if-may_stand.false in
+    record {
+      is = sym (pointer_refused w memory c.args.thread c.args.field kind c.args.word leads fails);
+      meets = λ is. absurd (cc);
+    }

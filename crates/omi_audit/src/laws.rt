@@ -1,0 +1,10 @@
+//! Laws of the definitions. Each is a function that does nothing.
+
+ghost use Rattle.omi_audit.specs.Promise.{SearchIsWhole, SearchIsBreadthFirst};
+
+/// The records that a search meets are the least set that has the current task of each thread that has begun and, with a record, those that it
+/// names. They are met breadth-first.
+pub fn search_reaches()
+    ensures whole { SearchIsWhole }
+    ensures breadth_first { SearchIsBreadthFirst }
+{}
