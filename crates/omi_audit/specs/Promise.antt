@@ -28,8 +28,8 @@ abbrev pub OverTold : {C F : Type 0} → (C → Told) → Opened C F → Result 
 OverTold told s result Holds = (memory : Words) → Tells (told s.table.calls) memory
     → IfOk result (Holds memory)
 
--- no word is read twice: each word that is judged is read at most once, and so is the life word of each record that is reached, and that of one to
--- which a pointer leads that is refused
+-- how many words are asked for, at most: one for each place that is judged, one for the life word of each record that is reached, and one for that of
+-- a record to which a pointer leads that is refused. It counts, and names no address
 abbrev pub ReadsOnce : {C F : Type 0} → (C → Told) → (C → ℕ) → Opened C F → Opened C F → Type 0
 ReadsOnce told asked old new = (memory : Words) → Tells (told old.table.calls) memory
     → let w = old.layout in

@@ -28,7 +28,7 @@ use Rattle.omi_core.specs.declared.entry.Entry.{Entry}
 use Rattle.omi_core.specs.DeferLaws.{DefersBehindSlots, NoRunDefersBehindSlots}
 use Rattle.omi_core.specs.Steps.{IsStepFrom, Steps, Watches}
 use Rattle.omi_model.proofs.EachObject.{ahead_of_current}
-use Rattle.omi_model.proofs.ListLaws.{passes_front}
+use Rattle.omi_model.proofs.ListLaws.{taken_other}
 
 -- ---- the slot of a deferred task
 
@@ -91,8 +91,8 @@ defers_in_slot p w words past s i e next task from is =
       x,
       j,
       few_seen p (encounter s i) task here.1.list (leads.legal.item, leads.legal.behind) j here.3
-          (sym (passes_front p (encounter s i) (event.Defer task) here.1.frees here.1.list refl)
-          ∙ (ap (take_item p (encounter s i) (event.Defer task)) (sym (ahead_of_current s i here.0 here.1 here.2)) ∙ leads.legal.taken)),
+          (taken_other p (encounter s i) (event.Defer task) here.1.frees here.1.list (leads.legal.item, leads.legal.behind) refl
+          (ap (take_item p (encounter s i) (event.Defer task)) (sym (ahead_of_current s i here.0 here.1 here.2)) ∙ leads.legal.taken)),
       ap address_of stores,
     )
 

@@ -7,6 +7,5 @@ pub mod Stepping
 pub mod Opened
 pub mod Histories
 pub mod ScheduledSteps
-pub mod KeptCounters
 pub mod DeferSlots
 pub mod RecordedRuns

@@ -23,7 +23,6 @@ use Rattle.omi_step_words.specs.Outcomes.{outcome_with}
 use Rattle.omi_step_words.specs.Placed.{IsPlaced}
 use Rattle.omi_actor.specs.Steps.{next_of, resumed_at}
 use Rattle.omi_rule.specs.Rule.{KeepsThread}
-use Rattle.omi_rule.specs.StepsKeep.{IsKept}
 use Rattle.omi_core.specs.declared.entry.Entry.{Entry}
 use Rattle.omi_core.specs.declared.limits.TheConstants.{MOST_STEPS}
 use Rattle.omi_core.specs.declared.machine.Machine.{Machine}
@@ -33,14 +32,13 @@ use Rattle.omi_core.specs.declared.stop.End.{End}
 use Rattle.omi_core.specs.declared.stop.End.TheVariants as end
 use Rattle.omi_core.specs.declared.stop.Stop.{Stop}
 use Rattle.omi_core.specs.Ends.{IsBelow, end_at, met_at}
-use Rattle.omi_core.specs.Kept.{KeepsCore}
+use Rattle.omi_core.specs.Kept.{KeepsRun}
 use Rattle.omi_core.specs.Recorded.{IsRecorded}
 use Rattle.omi_core.specs.RecordedSteps.{IsAt, IsOpened, IsStepOn, run_with}
 use Rattle.omi_core.specs.RunSteps.{event_of, made_of}
 use Rattle.omi_core.specs.Runs.{AreOpeningActors, IsOpening, Run, actors_in, events_in, spare_in}
 use Rattle.omi_core.specs.Schedules.{IsListed, drawn_at, first_draw, next_draw, thread_at}
 use Rattle.omi_core.proofs.Histories.{history}
-use Rattle.omi_core.proofs.KeptCounters.{opening_kept, step_kept}
 use Rattle.omi_core.proofs.Opened.{opened_run}
 use Rattle.omi_core.proofs.ScheduledSteps.{SoFar, all_made, begins, ended, fewer, one_more}
 use Rattle.omi_core.proofs.Stepping.{actor_is, inside, other_room, own, run_after}
@@ -66,7 +64,7 @@ room_there a some below =
 
 -- ---- a step
 
-module _ (m : Machine) (es : Events) (made : Steps) (k : KeepsCore (run_with m es made)) (i : ℕ)
+module _ (m : Machine) (es : Events) (made : Steps) (k : KeepsRun (run_with m es made)) (i : ℕ)
     (thread : i < m.program.threads) (below : length made.items < MOST_STEPS) where
   abbrev before : Run
   before = run_with m es made
@@ -85,28 +83,23 @@ module _ (m : Machine) (es : Events) (made : Steps) (k : KeepsCore (run_with m e
   abbrev entry : Entry
   entry = record { op = op; old = found; outcome = behind.1 }
 
-  kept : IsKept (actors_in m.actors.items i).counter
-  kept = k.goes_on i thread
-
   spare : 1 ≤ spare_in (with_room before)
   spare = room_there before (omega (arith, thread)) below
 
-  roomy : KeepsCore (with_room before)
+  roomy : KeepsRun (with_room before)
   roomy = other_room before k _ _ refl refl
 
-  pub own_part : KeepsThread m.program m.layout.table (memory_of m.layout.table m.image) (events_in es.items) k.run.state i (actors_in m.actors.items i)
-  own_part = own before k.run i thread
+  pub own_part : KeepsThread m.program m.layout.table (memory_of m.layout.table m.image) (events_in es.items) k.state i (actors_in m.actors.items i)
+  own_part = own before k i thread
 
   pub word_there : IsWordOf m.image (address_of op)
-  word_there = inside (with_room before) roomy.run i thread spare kept
+  word_there = inside (with_room before) roomy i thread spare
 
   keeps_next : (b : Run) → b.program ≡ m.program → b.table ≡ m.layout.table → b.words ≡ words_after m.image op
       → b.actors ≡ slice_set m.actors.items i behind.0
-      → b.made.items ≡ made.items ++ made_of i entry ∷ [] → b.events.items ≡ es.items ++ event_of (length made.items + 1) i behind.1 → KeepsCore b
-  keeps_next b program table words actors steps events = record {
-    run = run_after (with_room before) roomy.run i thread spare kept b entry refl refl refl program table words actors steps events;
-    goes_on = step_kept before b i found thread k.run.actors k.goes_on program actors;
-  }
+      → b.made.items ≡ made.items ++ made_of i entry ∷ [] → b.events.items ≡ es.items ++ event_of (length made.items + 1) i behind.1 → KeepsRun b
+  keeps_next b program table words actors steps events =
+      run_after (with_room before) roomy i thread spare b entry refl refl refl program table words actors steps events
 
   pub stepped : (n : Machine) (tells : List (ℕ × ℕ × Event) → Type 0) (outcome : CompactOutcome) (team : List (Tid × ℕ))
       → n.program ≡ m.program → n.layout.table ≡ m.layout.table → n.image ≡ words_after m.image op
@@ -142,25 +135,25 @@ module _ (m : Machine) (es : Events) (made : Steps) (k : KeepsCore (run_with m e
 -- ---- a step of a machine, whose actor, operation and word stand in values of their own
 
 -- the parts of a run keep what it keeps
-keeps_parts : (m : Machine) (steps : ℕ) (a : Run) → IsAt m steps a → KeepsCore (run_with m a.events a.made)
-keeps_parts m steps a at = subst KeepsCore (sym at.parts) at.keeps
+keeps_parts : (m : Machine) (steps : ℕ) (a : Run) → IsAt m steps a → KeepsRun (run_with m a.events a.made)
+keeps_parts m steps a at = subst KeepsRun (sym at.parts) at.keeps
 
 -- a thread has its actor, whatever is answered for threads that don't exist
 pub actor_there : (m : Machine) (steps : ℕ) (a : Run) → IsAt m steps a → (i : ℕ) → i < m.program.threads
     → (other : Actor) → slice_index_or m.actors.items i other ≡ actors_in m.actors.items i
 actor_there m steps a at i thread other =
-    let listed = subst (λ n. i < n) (sym (keeps_parts m steps a at).run.actors) thread in
+    let listed = subst (λ n. i < n) (sym (keeps_parts m steps a at).actors) thread in
     actor_is m.actors.items i other listed
 
 module _ (m : Machine) (steps : ℕ) (a : Run) (at : IsAt m steps a) (i : ℕ) (thread : i < m.program.threads)
     (below : steps < MOST_STEPS) (b : Actor) (b_is : b ≡ actors_in m.actors.items i) where
-  keeps : KeepsCore (run_with m a.events a.made)
+  keeps : KeepsRun (run_with m a.events a.made)
   keeps = keeps_parts m steps a at
 
   under : length a.made.items < MOST_STEPS
   under = subst (λ n. n < MOST_STEPS) (sym at.count) below
 
-  owned : KeepsThread m.program m.layout.table (memory_of m.layout.table m.image) (events_in a.events.items) keeps.run.state i (actors_in m.actors.items i)
+  owned : KeepsThread m.program m.layout.table (memory_of m.layout.table m.image) (events_in a.events.items) keeps.state i (actors_in m.actors.items i)
   owned = own_part m a.events a.made keeps i thread under
 
   pub fits_now : Fits m.program b
@@ -229,10 +222,7 @@ opened_machine m valid suits words actors =
       };
       at = record {
         parts = refl;
-        keeps = record {
-          run = opened_run first valid suits words actors refl refl;
-          goes_on = opening_kept m.program m.actors.items actors;
-        };
+        keeps = opened_run first valid suits words actors refl refl;
         count = refl;
       };
     }
@@ -309,7 +299,7 @@ module _ (p : Program) (w : List ℕ) (how : Schedule) (stop : Stop) (m : Machin
           last = on.next;
           opens = u.opens;
           run = ended u.first how stop step met draw u.run on.next i on.entry why u.so_far below on.step thread_is is_now;
-          history = history on.next on.at.keeps.run;
+          history = history on.next on.at.keeps;
           words_are = ap (λ (z : Run). z.words) on.at.parts;
           steps_are = sym on.at.count;
           told = on.told;
@@ -321,7 +311,7 @@ module _ (p : Program) (w : List ℕ) (how : Schedule) (stop : Stop) (m : Machin
     last = u.run;
     opens = u.opens;
     run = all_made u.first how stop step met draw u.run u.so_far all;
-    history = history u.run u.at.keeps.run;
+    history = history u.run u.at.keeps;
     words_are = ap (λ (z : Run). z.words) u.at.parts;
     steps_are = sym (u.at.count ∙ all);
     told = u.told;

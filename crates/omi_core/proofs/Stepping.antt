@@ -38,7 +38,6 @@ use Rattle.omi_actor.specs.Steps.{next_of, resumed_at}
 use Rattle.omi_rule.specs.Commits.{ComesOf}
 use Rattle.omi_rule.specs.Rule.{KeepsThread, Rule}
 use Rattle.omi_rule.specs.Steps.{IsOn, KeepsRule, LeadsOn, RecordWord, StepKeeps, committed, found_in, left_in}
-use Rattle.omi_rule.specs.StepsKeep.{IsKept}
 use Rattle.omi_rule.proofs.StepsKept.{steps_keep}
 use Rattle.omi_rule_watch.specs.Demands.{MeetsDemands}
 use Rattle.omi_rule_watch.specs.Given.{IsGiven}
@@ -46,7 +45,7 @@ use Rattle.omi_rule_watch.specs.Watch.{Watch, watched}
 use Rattle.omi_rule_watch.specs.WatchLaws.{StepKeepsWatch}
 use Rattle.omi_rule_watch.proofs.Kept.{watch_kept}
 use Rattle.omi_core.specs.declared.entry.Entry.{Entry}
-use Rattle.omi_core.specs.Kept.{IsBehind, IsUnderWay, KeepsCore, KeepsRun}
+use Rattle.omi_core.specs.Kept.{IsBehind, IsUnderWay, KeepsRun}
 use Rattle.omi_core.specs.Runs.{Run, actors_in, events_in, spare_in}
 use Rattle.omi_core.specs.RunSteps.{IsRight, ShowsState, event_of, made_of, seats_of}
 use Rattle.omi_core.specs.Steps.{IsStepFrom, IsWatched, events_behind, opening_watches, steps_of}
@@ -83,39 +82,35 @@ actor_is (x ∷ xs) (suc i) d within = ap-default xs i d (waiting_actor (suc i))
 -- ---- the same run
 
 -- a run keeps what it keeps where its lists have the same elements and other room
-pub other_room : (a : Run) → KeepsCore a → (es : Events) (made : Steps) → es.items ≡ a.events.items
+pub other_room : (a : Run) → KeepsRun a → (es : Events) (made : Steps) → es.items ≡ a.events.items
     → made.items ≡ a.made.items
-    → KeepsCore (record { program = a.program; table = a.table; words = a.words; actors = a.actors; events = es; made = made })
+    → KeepsRun (record { program = a.program; table = a.table; words = a.words; actors = a.actors; events = es; made = made })
 other_room a k es made events steps =
-    let run = k.run in
-    let rule : Rule a.program a.table (memory_of a.table a.words) (events_in es.items) run.state (actors_in a.actors) =
+    let rule : Rule a.program a.table (memory_of a.table a.words) (events_in es.items) k.state (actors_in a.actors) =
     subst
-    (λ ys. Rule a.program a.table (memory_of a.table a.words) (events_in ys) run.state (actors_in a.actors))
-    (sym events) run.rule in
+    (λ ys. Rule a.program a.table (memory_of a.table a.words) (events_in ys) k.state (actors_in a.actors))
+    (sym events) k.rule in
     let few : length es.items ≤ length made.items =
     subst (λ ys. length ys ≤ length made.items) (sym events)
-    (subst (λ (ys : List Made). length a.events.items ≤ length ys) (sym steps) run.few) in
+    (subst (λ (ys : List Made). length a.events.items ≤ length ys) (sym steps) k.few) in
     record {
-      run = record {
-        state = run.state;
-        valid = run.valid;
-        suits = run.suits;
-        count = run.count;
-        tables = run.tables;
-        actors = run.actors;
-        few = few;
-        rule = rule;
-        entries = run.entries;
-        made_by = record { steps = run.made_by.steps; events = events ∙ run.made_by.events; made = steps ∙ run.made_by.made };
-        behind = run.behind;
-        workers = run.workers;
-        watched = run.watched;
-      };
-      goes_on = k.goes_on;
+      state = k.state;
+      valid = k.valid;
+      suits = k.suits;
+      count = k.count;
+      tables = k.tables;
+      actors = k.actors;
+      few = few;
+      rule = rule;
+      entries = k.entries;
+      made_by = record { steps = k.made_by.steps; events = events ∙ k.made_by.events; made = steps ∙ k.made_by.made };
+      behind = k.behind;
+      workers = k.workers;
+      watched = k.watched;
     }
 
-pub same_entries : (a : Run) (k : KeepsCore a) (es : Events) (made : Steps) (events : es.items ≡ a.events.items) (steps : made.items ≡ a.made.items)
-    → (other_room a k es made events steps).run.entries ≡ k.run.entries
+pub same_entries : (a : Run) (k : KeepsRun a) (es : Events) (made : Steps) (events : es.items ≡ a.events.items) (steps : made.items ≡ a.made.items)
+    → (other_room a k es made events steps).entries ≡ k.entries
 unfolding other_room
 same_entries a k es made events steps = refl
 
@@ -163,7 +158,7 @@ module _ (a : Run) (k : KeepsRun a) (i : ℕ) (thread : i < a.program.threads) w
   pub own : KeepsThread a.program a.table (memory_of a.table a.words) (events_in a.events.items) k.state i (actors_in a.actors i)
   own = k.rule.threads i known
 
-  module _ (spare : 1 ≤ spare_in a) (kept : IsKept (actors_in a.actors i).counter) where
+  module _ (spare : 1 ≤ spare_in a) where
     abbrev op : Op
     op = next_of a.program a.table (actors_in a.actors i)
 
@@ -180,7 +175,7 @@ module _ (a : Run) (k : KeepsRun a) (i : ℕ) (thread : i < a.program.threads) w
     pub keeps : StepKeeps a.program a.table (memory_of a.table a.words) (events_in a.events.items) k.state (actors_in a.actors) i op behind
     keeps =
         steps_keep a.program a.table (memory_of a.table a.words) (events_in a.events.items) k.state
-        (actors_in a.actors) i k.valid k.suits k.rule known few kept
+        (actors_in a.actors) i k.valid k.suits k.rule known few
 
     abbrev x : RecordWord
     x = keeps.0
@@ -289,7 +284,7 @@ module _ (a : Run) (k : KeepsRun a) (i : ℕ) (thread : i < a.program.threads) w
     watching : StepKeepsWatch a.program a.table (memory_of a.table a.words) k.state i op behind (k.made_by.steps.watches i)
     watching =
         watch_kept a.program a.table (memory_of a.table a.words) (events_in a.events.items) k.state
-        (actors_in a.actors) i k.valid k.suits k.rule known few kept (k.made_by.steps.watches i) (k.watched i)
+        (actors_in a.actors) i k.valid k.suits k.rule known few (k.made_by.steps.watches i) (k.watched i)
 
     abbrev y : RecordWord
     y = watching.0

@@ -13,7 +13,6 @@ use Rattle.omi_pc.specs.declared.team_counter.WorkerCounter.TheVariants as worke
 use Rattle.omi_pc.specs.Opening.{opening_actor}
 use Rattle.omi_rep.specs.Suits.{Suits}
 use Rattle.omi_rule.specs.Rule.{Rule}
-use Rattle.omi_rule.specs.StepsKeep.{IsKept}
 use Rattle.omi_rule_watch.specs.Given.{IsGiven}
 use Rattle.omi_core.specs.declared.entry.Entry.{Entry}
 use Rattle.omi_core.specs.Found.{MakeNext, actor_behind, found_by}
@@ -33,6 +32,7 @@ pub record IsBehind (p : Program) (w : List ℕ) (thread : ℕ) (es : List Entry
   pub follow : MakeNext p w thread es
   pub actor : a ≡ actor_behind p w (opening_actor p thread) (found_by es)
 
+-- what a run of this crate keeps
 pub record KeepsRun (a : Run) : Type 0 where
   pub state : State
   pub valid : IsValid a.table
@@ -48,12 +48,3 @@ pub record KeepsRun (a : Run) : Type 0 where
   pub behind : (i : ℕ) → IsBehind a.program a.table i (steps_of i entries) (actors_in a.actors i)
   pub workers : (i : ℕ) → 0 < i → IsUnderWay (steps_of i entries) (actors_in a.actors i).counter
   pub watched : (i : ℕ) → IsGiven a.program (actors_in a.actors i) (made_by.steps.watches i)
-
--- each thread stands at a counter whose step is made, so not where records are given back
-abbrev pub AreKept : Program → List Actor → Type 0
-AreKept p actors = (i : ℕ) → i < p.threads → IsKept (actors_in actors i).counter
-
--- what a run of this crate keeps
-pub record KeepsCore (a : Run) : Type 0 where
-  pub run : KeepsRun a
-  pub goes_on : AreKept a.program a.actors

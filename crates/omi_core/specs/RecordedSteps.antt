@@ -8,7 +8,7 @@ use Rattle.omi_step_words.specs.declared.outcomes.CompactOutcome.{CompactOutcome
 use Rattle.omi_step_words.specs.Outcomes.{outcome_with}
 use Rattle.omi_core.specs.declared.entry.Entry.{Entry}
 use Rattle.omi_core.specs.declared.machine.Machine.{Machine}
-use Rattle.omi_core.specs.Kept.{KeepsCore}
+use Rattle.omi_core.specs.Kept.{KeepsRun}
 use Rattle.omi_core.specs.RunSteps.{IsStep}
 use Rattle.omi_core.specs.Runs.{IsOpening, Run}
 
@@ -26,7 +26,7 @@ run_with m events made = record {
 -- these are the parts of a run of so many steps
 pub record IsAt (m : Machine) (steps : ℕ) (a : Run) : Type 0 where
   pub parts : run_with m a.events a.made ≡ a
-  pub keeps : KeepsCore a
+  pub keeps : KeepsRun a
   pub count : length a.made.items ≡ steps
 
 -- a step of a thread of a run, whose outcome this is but for a team, leads to a run with these parts, of whose events is told

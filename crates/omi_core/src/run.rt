@@ -49,7 +49,7 @@ impl Drop for Core {
 
 impl Model for Core {
     ghost use Rattle.omi_core.specs.declared.limits.TheConstants.{MOST_STEPS};
-    ghost use Rattle.omi_core.specs.Kept.{KeepsCore};
+    ghost use Rattle.omi_core.specs.Kept.{KeepsRun};
     ghost use Rattle.omi_core.specs.Runs.{Run};
 
     ghost Value = { Run };
@@ -63,7 +63,7 @@ impl Model for Core {
       made = a.made;
     } };
 
-    ghost invariant = { λ a. KeepsCore (record {
+    ghost invariant = { λ a. KeepsRun (record {
       program = a.program;
       table = a.layout.table;
       words = a.image;

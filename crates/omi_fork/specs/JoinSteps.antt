@@ -35,9 +35,9 @@ some_inside a old = nat_lt old (a.context.size - 1)
 
 -- ---- moves
 
--- the region is over, and the encountering task goes on. The records stay: no step leads to the counters that give them back yet
-abbrev pub past_join : Program → Actor → Actor
-past_join p a = back_to_work p (closed a)
+-- the region is over, and the encountering task is current again: first the records are given back, that of member 0's task before all
+abbrev pub past_join : Actor → Actor
+past_join a = to_join (join.LoadMember a.context.region a.context.size 0) (closed a)
 
 -- behind the record of a member's task, that of the next one is given back, and at last that of the region
 abbrev pub behind_free : Rid → ℕ → ℕ → JoinCounter
@@ -47,7 +47,7 @@ behind_free r size member =
 -- where the step found the word `old`
 abbrev pub join_moved : Program → List ℕ → Actor → JoinCounter → ℕ → Actor
 join_moved p w a join.LoadLeft old = if some_inside a old then a else to_join join.Join a
-join_moved p w a join.Join old = past_join p a
+join_moved p w a join.Join old = past_join a
 join_moved p w a (join.LoadMember r size member) old =
     to_join (join.LoadLife r size member (task_place w old)) a
 join_moved p w a (join.LoadLife r size member t) old =

@@ -13,7 +13,7 @@ ghost use Rattle.omi_step_words.specs.Placed.{IsPlaced};
 
 use omi_layout::{Field, Layout};
 use omi_model::{Rid, Tid};
-use omi_pc::{Actor, Counter, JoinCounter, bodies_stand};
+use omi_pc::{Actor, Context, Counter, JoinCounter, bodies_stand};
 use omi_run_lists::CompactEvent;
 use omi_script::Program;
 use omi_step_words::{
@@ -63,14 +63,22 @@ fn to_join(a: &mut Actor, c: JoinCounter)
     a.counter = Counter::Join(c);
 }
 
-/// The region is over, and the encountering task goes on.
+/// The region is over, and the encountering task is current again: the records are given back next.
 fn join(p: &Program, a: &mut Actor)
     requires { AreOpen p.now a.old.context a.old.stack }
-    ensures { a.new ≡ past_join p.now a.old }
+    ensures { a.new ≡ past_join a.old }
 {
     bodies_stand();
+    let Context { region, size, .. } = a.context;
     a.close();
-    a.work(p);
+    to_join(
+        a,
+        JoinCounter::LoadMember {
+            region,
+            size,
+            member: 0,
+        },
+    );
 }
 
 /// The counter behind the store that gives the record of a member's task back.

@@ -72,24 +72,24 @@ module _ (p : Program) (l : Layout) (budget : ℕ) (on : Option Break) (s : Stat
     (h : Keeps p l on s) (id : ℕ) (parts : List Part) (at : get_elem? s.views id ≡ some parts)
     (runs : List ThreadRun) (known : AreRunsKnown p l budget on parts runs) where
   part_of_run : (i : ℕ) (r : ThreadRun) → slice_get runs i ≡ Some r
-      → (x : Part) × IsPart p l h.behind.keeps.run.entries h.accesses h.behind.run.actors h.stop x × IsRunKnown p l budget on i x r
+      → (x : Part) × IsPart p l h.behind.keeps.entries h.accesses h.behind.run.actors h.stop x × IsRunKnown p l budget on i x r
   part_of_run i r got =
       let one = known.each i r got in (one.0, (h.seats.parts id i parts one.0 at one.1).1, one.2)
 
   run_is : (i : ℕ) (r : ThreadRun) → slice_get runs i ≡ Some r
-      → IsRunOf p l budget on i (steps_of i h.behind.keeps.run.entries) (accesses_of i h.accesses) r
+      → IsRunOf p l budget on i (steps_of i h.behind.keeps.entries) (accesses_of i h.accesses) r
   run_is i r got =
       let one = part_of_run i r got in
       let x = one.0 in
       let part = one.1 in
       let is = one.2 in
       subst (λ (es : List Entry). IsRunOf p l budget on i es (accesses_of i h.accesses) r)
-      (sym (ap (λ j. steps_of j h.behind.keeps.run.entries) (sym is.own) ∙ part.known.steps))
+      (sym (ap (λ j. steps_of j h.behind.keeps.entries) (sym is.own) ∙ part.known.steps))
       (subst (λ (ys : List Access). IsRunOf p l budget on i (steps_known x.known) ys r) (sym (ap (λ j. accesses_of j h.accesses) (sym is.own) ∙ part.did))
       (subst (λ (z : Program × Layout × ℕ). IsRunOf z.0 z.1 budget on z.2 (steps_known x.known) x.accesses r) (λ k. (is.program k, is.layout k, is.own k)) (own_run budget on x p l i r is)))
 
-  why_stopped : IsStopWord on h.behind.keeps.run.entries h.stop → h.stop ≡ 1
-      → IsRaised on h.behind.keeps.run.entries
+  why_stopped : IsStopWord on h.behind.keeps.entries h.stop → h.stop ≡ 1
+      → IsRaised on h.behind.keeps.entries
   why_stopped (inl not) is = absurd (omega (arith, not, is))
   why_stopped (inr (one, raised)) is = raised
 
@@ -97,7 +97,7 @@ module _ (p : Program) (l : Layout) (budget : ℕ) (on : Option Break) (s : Stat
   actors_are count = ap actors_in (same_actors h.behind.run.actors runs long each)
     where
       long : length h.behind.run.actors ≡ length runs
-      long = h.behind.keeps.run.actors ∙ ap (λ (q : Program). q.threads) h.behind.program ∙ sym count
+      long = h.behind.keeps.actors ∙ ap (λ (q : Program). q.threads) h.behind.program ∙ sym count
 
       each : (i : ℕ) (r : ThreadRun) → slice_get runs i ≡ Some r → (d : Actor)
           → slice_index_or h.behind.run.actors i d ≡ r.actor
@@ -107,31 +107,31 @@ module _ (p : Program) (l : Layout) (budget : ℕ) (on : Option Break) (s : Stat
           ∙ ap (actors_in h.behind.run.actors) (sym one.2.own) ∙ one.1.known.actor ∙ sym one.2.actor
 
   steps_made : (image : List ℕ) → image ≡ h.behind.run.words
-      → AreStepsOf p l.table h.behind.keeps.run.entries image h.behind.keeps.run.state
+      → AreStepsOf p l.table h.behind.keeps.entries image h.behind.keeps.state
   steps_made image is =
       subst
-      (λ (z : Program × List ℕ × List ℕ). AreStepsOf z.0 z.1 h.behind.keeps.run.entries z.2 h.behind.keeps.run.state)
-      (λ k. (h.behind.program k, h.behind.table k, sym is k)) h.behind.keeps.run.made_by.steps
+      (λ (z : Program × List ℕ × List ℕ). AreStepsOf z.0 z.1 h.behind.keeps.entries z.2 h.behind.keeps.state)
+      (λ k. (h.behind.program k, h.behind.table k, sym is k)) h.behind.keeps.made_by.steps
 
   pub is_live : length runs ≡ p.threads → (image : List ℕ) → image ≡ h.behind.run.words
       → IsLive p l budget on image runs
   is_live count image is = record {
-    entries = h.behind.keeps.run.entries;
-    state = h.behind.keeps.run.state;
+    entries = h.behind.keeps.entries;
+    state = h.behind.keeps.state;
     steps = steps_made image is;
-    reached = subst (λ (z : Program × List (ℕ × ℕ × Event)). Reached z.0 (events_in z.1) h.behind.keeps.run.state) (λ k. (h.behind.program k, h.behind.keeps.run.made_by.events k)) h.behind.keeps.run.rule.reached;
+    reached = subst (λ (z : Program × List (ℕ × ℕ × Event)). Reached z.0 (events_in z.1) h.behind.keeps.state) (λ k. (h.behind.program k, h.behind.keeps.made_by.events k)) h.behind.keeps.rule.reached;
     rule =
         subst
-        (λ (z : Program × List ℕ × List ℕ × List (ℕ × ℕ × Event) × (ℕ → Actor)). Rule z.0 z.1 (memory_of z.1 z.2) (events_in z.3) h.behind.keeps.run.state z.4)
-        (λ k. (h.behind.program k, h.behind.table k, sym is k, h.behind.keeps.run.made_by.events k, actors_are count k)) h.behind.keeps.run.rule;
-    shows = subst (λ (z : List ℕ × List ℕ). Shows z.0 (words_of z.1) h.behind.keeps.run.state) (λ k. (h.behind.table k, sym is k)) (shows_state h.behind.run h.behind.keeps.run h.behind.keeps.run.state h.behind.keeps.run.rule.reached);
-    tables = subst (λ (z : List ℕ × List ℕ). HasTables z.0 z.1) (λ k. (h.behind.table k, sym is k)) h.behind.keeps.run.tables;
-    counts = subst (λ (z : List ℕ × List ℕ). Counts z.0 z.1 h.behind.keeps.run.state) (λ k. (h.behind.table k, sym is k)) (counted h.behind.run h.behind.keeps.run);
+        (λ (z : Program × List ℕ × List ℕ × List (ℕ × ℕ × Event) × (ℕ → Actor)). Rule z.0 z.1 (memory_of z.1 z.2) (events_in z.3) h.behind.keeps.state z.4)
+        (λ k. (h.behind.program k, h.behind.table k, sym is k, h.behind.keeps.made_by.events k, actors_are count k)) h.behind.keeps.rule;
+    shows = subst (λ (z : List ℕ × List ℕ). Shows z.0 (words_of z.1) h.behind.keeps.state) (λ k. (h.behind.table k, sym is k)) (shows_state h.behind.run h.behind.keeps h.behind.keeps.state h.behind.keeps.rule.reached);
+    tables = subst (λ (z : List ℕ × List ℕ). HasTables z.0 z.1) (λ k. (h.behind.table k, sym is k)) h.behind.keeps.tables;
+    counts = subst (λ (z : List ℕ × List ℕ). Counts z.0 z.1 h.behind.keeps.state) (λ k. (h.behind.table k, sym is k)) (counted h.behind.run h.behind.keeps);
     threads = count;
     accesses = h.accesses;
     stop = h.stop;
     made =
-        subst (λ (z : List ℕ × List ℕ). AreAccesses p l.table h.behind.keeps.run.entries h.accesses z.0 z.1)
+        subst (λ (z : List ℕ × List ℕ). AreAccesses p l.table h.behind.keeps.entries h.accesses z.0 z.1)
         (λ k. (one_opening p l.table l.valid h.first (steps_made image is).first h.opens (steps_made image is).opens k, (h.behind.are ∙ ap (λ (ws : List ℕ). ws ++ h.stop ∷ []) (sym is)) k)) h.made;
     each = run_is;
     stopped = λ i r got stopped. let one = part_of_run i r got in why_stopped h.raised (one.1.told (one.2.worked.stopped stopped));

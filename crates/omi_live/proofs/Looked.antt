@@ -57,13 +57,13 @@ module _ (p : Program) (l : Layout) (on : Option Break) (s : State (Unit {0}) (L
   bit : h.stop ≤ 1
   bit = go h.raised
     where
-      go : IsStopWord on h.behind.keeps.run.entries h.stop → h.stop ≤ 1
+      go : IsStopWord on h.behind.keeps.entries h.stop → h.stop ≤ 1
       go (inl is) = omega (arith, is)
       go (inr (is, one)) = omega (arith, is)
 
   abbrev Behind : Access → ℕ → Part → Type 0
   Behind a stop =
-      IsPart p l h.behind.keeps.run.entries (h.accesses ++ (thread_of x, a) ∷ []) h.behind.run.actors stop
+      IsPart p l h.behind.keeps.entries (h.accesses ++ (thread_of x, a) ∷ []) h.behind.run.actors stop
 
   -- the word behind the image is that at its address
   here : (k : ℕ) → k ≡ place_of (address_at k)
@@ -87,7 +87,7 @@ module _ (p : Program) (l : Layout) (on : Option Break) (s : State (Unit {0}) (L
 
   keeps_look : Keeps p l on (state_after s (image_words l.table) (slice_index s.words (image_words l.table)) id [] (looks (h.stop == 1) x ∷ []) keeps)
   keeps_look =
-      let Was = IsPart p l h.behind.keeps.run.entries h.accesses h.behind.run.actors h.stop in
+      let Was = IsPart p l h.behind.keeps.entries h.accesses h.behind.run.actors h.stop in
       let look = access.Look (h.stop == 1) in
       record {
         stop = h.stop;
@@ -97,8 +97,8 @@ module _ (p : Program) (l : Layout) (on : Option Break) (s : State (Unit {0}) (L
         opens = h.opens;
         accesses = h.accesses ++ (thread_of x, look) ∷ [];
         made =
-            one_more_access p l on s h id x at look h.behind.keeps.run.entries _
-            (append-nil h.behind.keeps.run.entries)
+            one_more_access p l on s h id x at look h.behind.keeps.entries _
+            (append-nil h.behind.keeps.entries)
             (ap (slice_index s.words) (sym (here (image_words l.table))) ∙ stop_found ∙ read h.stop bit)
             (ap (λ k. slice_set s.words k (slice_index s.words k)) (here (image_words l.table)));
         seats =
@@ -113,7 +113,7 @@ module _ (p : Program) (l : Layout) (on : Option Break) (s : State (Unit {0}) (L
       → Keeps p l on (state_after s (image_words l.table) 1 id [] (raises x ∷ []) keeps)
   keeps_raised stops =
       let before = part p l on s h id x at in
-      let Was = IsPart p l h.behind.keeps.run.entries h.accesses h.behind.run.actors h.stop in
+      let Was = IsPart p l h.behind.keeps.entries h.accesses h.behind.run.actors h.stop in
       record {
         stop = 1;
         behind = run_with _ 1 (stop_set 1);
@@ -122,8 +122,8 @@ module _ (p : Program) (l : Layout) (on : Option Break) (s : State (Unit {0}) (L
         opens = h.opens;
         accesses = h.accesses ++ (thread_of x, access.Raise) ∷ [];
         made =
-            one_more_access p l on s h id x at access.Raise h.behind.keeps.run.entries _
-            (append-nil h.behind.keeps.run.entries) tt
+            one_more_access p l on s h id x at access.Raise h.behind.keeps.entries _
+            (append-nil h.behind.keeps.entries) tt
             (ap (λ k. slice_set s.words k 1) (here (image_words l.table)));
         seats = one_changed thread_of Was (Behind access.Raise 1) s.views h.seats id x at (raises x) refl
             (record { known = before.known; told = λ told. refl; did = own_did p l on s h id x at access.Raise })

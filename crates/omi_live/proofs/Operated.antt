@@ -33,7 +33,7 @@ use Rattle.omi_live.proofs.StopsLast.{still_stops}
 module _ (p : Program) (l : Layout) (on : Option Break) (s : State (Unit {0}) (List Part))
     (h : Keeps p l on s) (id : ℕ) (x : Part) (at : get_elem? s.views id ≡ some (x ∷ [])) where
   abbrev Was : Part → Type 0
-  Was = IsPart p l h.behind.keeps.run.entries h.accesses h.behind.run.actors h.stop
+  Was = IsPart p l h.behind.keeps.entries h.accesses h.behind.run.actors h.stop
 
   pub part : Was x
   part = own_part thread_of Was Was s.views h.seats id x at
@@ -53,7 +53,7 @@ module _ (p : Program) (l : Layout) (on : Option Break) (s : State (Unit {0}) (L
       other_access (thread_of z) (thread_of x) h.accesses a (λ same. other (sym same)) ∙ is.did
 
   pub one_more_access : (a : Access) (entries : List (ℕ × Entry)) (words : List ℕ)
-      → h.behind.keeps.run.entries ++ step_in (thread_of x) a ≡ entries
+      → h.behind.keeps.entries ++ step_in (thread_of x) a ≡ entries
       → Finds a (word_at s.words (address_of (operation_of (address_at (image_words l.table)) a))) → words ≡ words_after s.words (operation_of (address_at (image_words l.table)) a)
       → AreAccesses p l.table entries (h.accesses ++ (thread_of x, a) ∷ []) h.first words
   one_more_access a entries words is found after = record {
@@ -83,7 +83,7 @@ module _ (p : Program) (l : Layout) (on : Option Break) (s : State (Unit {0}) (L
   found : slice_index s.words (place_of (address_of e.op)) ≡ e.old
   found = found_here p l s.words (h.stop ∷ []) behind x.known part.known
 
-  still_raised : IsStopWord on h.behind.keeps.run.entries h.stop → IsStopWord on entries h.stop
+  still_raised : IsStopWord on h.behind.keeps.entries h.stop → IsStopWord on entries h.stop
   still_raised (inl not) = inl not
   still_raised (inr (is, one)) = inr (is, (one.0, go (one.0 == thread_of x) refl))
     where
@@ -91,11 +91,11 @@ module _ (p : Program) (l : Layout) (on : Option Break) (s : State (Unit {0}) (L
       go true same =
           let here : one.0 ≡ thread_of x = eqb-true one.0 (thread_of x) same in
           subst (λ j. some_stop on (steps_of j entries) ≡ true) (sym here)
-          (ap (some_stop on) (own_one_more (thread_of x) h.behind.keeps.run.entries e)
-          ∙ still_stops on (steps_of (thread_of x) h.behind.keeps.run.entries) e (subst (λ j. some_stop on (steps_of j h.behind.keeps.run.entries) ≡ true) here one.1))
+          (ap (some_stop on) (own_one_more (thread_of x) h.behind.keeps.entries e)
+          ∙ still_stops on (steps_of (thread_of x) h.behind.keeps.entries) e (subst (λ j. some_stop on (steps_of j h.behind.keeps.entries) ≡ true) here one.1))
       go false other =
           ap (some_stop on)
-          (other_one_more one.0 (thread_of x) h.behind.keeps.run.entries e (λ same. let yes : one.0 == thread_of x ≡ true = eq-eqb one.0 (thread_of x) (sym same) in cc (other, yes)))
+          (other_one_more one.0 (thread_of x) h.behind.keeps.entries e (λ same. let yes : one.0 == thread_of x ≡ true = eq-eqb one.0 (thread_of x) (sym same) in cc (other, yes)))
           ∙ one.1
 
   module _ (room : length x.known.found < MOST_BUDGET) where
@@ -103,11 +103,11 @@ module _ (p : Program) (l : Layout) (on : Option Break) (s : State (Unit {0}) (L
     abbrev next : HasRun p l words (h.stop ∷ [])
     next = run_now p l s.words (h.stop ∷ []) behind x.known part.known room
 
-    has : next.keeps.run.entries ≡ entries
+    has : next.keeps.entries ≡ entries
     has = entries_are p l s.words (h.stop ∷ []) behind x.known part.known room
 
     abbrev Now : Part → Type 0
-    Now = IsPart p l next.keeps.run.entries accesses next.run.actors h.stop
+    Now = IsPart p l next.keeps.entries accesses next.run.actors h.stop
 
     part_now : Now (makes e.old x)
     part_now = record {
@@ -157,7 +157,7 @@ step_allowed p l on slots id x st room o is s h homes at small =
       told,
     )
   where
-    known : IsKnown p l h.behind.keeps.run.entries h.behind.run.actors x.known
+    known : IsKnown p l h.behind.keeps.entries h.behind.run.actors x.known
     known = (part p l on s h id x at).known
 
     told : stepped st (x ∷ [], []) (slice_index s.words (place_of (address_of (entry_of h.behind.run (thread_of x)).op))) (makes (entry_of h.behind.run (thread_of x)).old x ∷ [], [])

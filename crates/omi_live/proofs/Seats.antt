@@ -16,7 +16,7 @@ use Rattle.omi_live.specs.Running.{IsPart, Keeps, thread_of}
 
 -- the rule holds on of other seats that know no more
 reseated : (p : Program) (l : Layout) (on : Option Break) (s : State (Unit {0}) (List Part)) (h : Keeps p l on s) (views : List (List Part))
-    → AreSeated thread_of (IsPart p l h.behind.keeps.run.entries h.accesses h.behind.run.actors h.stop) views
+    → AreSeated thread_of (IsPart p l h.behind.keeps.entries h.accesses h.behind.run.actors h.stop) views
     → Keeps p l on record { words = s.words; homes = s.homes; views = views }
 reseated p l on s h views seats = record {
   stop = h.stop;
@@ -35,13 +35,13 @@ pub split_allowed : (p : Program) (l : Layout) (on : Option Break) (q : Program)
     (without_first (all_below (first_part q m) (suc n))) (first_alone (all_below (first_part q m) (suc n)))
 split_allowed p l on q m id n s h at =
     reseated p l on s h _
-    (last_split thread_of (IsPart p l h.behind.keeps.run.entries h.accesses h.behind.run.actors h.stop) s.views h.seats id n (first_part q m) (λ i. refl) at)
+    (last_split thread_of (IsPart p l h.behind.keeps.entries h.accesses h.behind.run.actors h.stop) s.views h.seats id n (first_part q m) (λ i. refl) at)
 
 pub join_allowed : (p : Program) (l : Layout) (on : Option Break) (id : ℕ) (v : List Part) (other : ℕ) (w : List Part)
     → Joins (Keeps p l on) id v other w (v ++ w) []
 join_allowed p l on id v other w s h at apart at_other =
     reseated p l on s h _
-    (one_joined thread_of (IsPart p l h.behind.keeps.run.entries h.accesses h.behind.run.actors h.stop) s.views h.seats id other v w at apart at_other)
+    (one_joined thread_of (IsPart p l h.behind.keeps.entries h.accesses h.behind.run.actors h.stop) s.views h.seats id other v w at apart at_other)
 
 -- a table is opened
 pub opening_keeps : (p : Program) (l : Layout) (words : List ℕ) → Suits p l.table → AreOpening p l.table words
@@ -58,7 +58,7 @@ opening_keeps p l words suits opens on =
       accesses = [];
       made = record { among = sym (none_yet p l words (0 ∷ []) suits opens); lead = refl; threads = λ i past. refl };
       seats =
-          first_seated thread_of (IsPart p l run.keeps.run.entries [] run.run.actors 0)
+          first_seated thread_of (IsPart p l run.keeps.entries [] run.run.actors 0)
           (first_part p l) p.threads
           (λ i below. record { known = untouched_known p l words (0 ∷ []) suits opens i below; told = λ told. absurd (false≢true told); did = refl });
     }

@@ -39,10 +39,10 @@ pub record Keeps (p : Program) (l : Layout) (on : Option Break)
     (s : State (Unit {0}) (List Part)) : Type 0 where
   pub stop : ℕ
   pub behind : HasRun p l s.words (stop ∷ [])
-  pub raised : IsStopWord on behind.keeps.run.entries stop
+  pub raised : IsStopWord on behind.keeps.entries stop
   pub first : List ℕ
   pub opens : AreOpening p l.table first
   pub accesses : List (ℕ × Access)
-  pub made : AreAccesses p l.table behind.keeps.run.entries accesses first s.words
+  pub made : AreAccesses p l.table behind.keeps.entries accesses first s.words
   pub seats : AreSeated thread_of
-      (IsPart p l behind.keeps.run.entries accesses behind.run.actors stop) s.views
+      (IsPart p l behind.keeps.entries accesses behind.run.actors stop) s.views

@@ -10,6 +10,7 @@ use Rattle.omi_model.specs.declared.event.Event.{Event}
 use Rattle.omi_model.specs.declared.event.Event.TheVariants as event
 use Rattle.omi_model.specs.declared.freeable.Freeable.TheVariants as freeable
 use Rattle.omi_model.specs.declared.id.Id.{Id}
+use Rattle.omi_model.specs.declared.id.Rid.{Rid}
 use Rattle.omi_model.specs.declared.id.Tid.{Tid}
 use Rattle.omi_model.specs.declared.item.Item.{Item}
 use Rattle.omi_model.specs.declared.item.Item.TheVariants as item
@@ -17,11 +18,12 @@ use Rattle.omi_model.specs.declared.region.Region.{Region}
 use Rattle.omi_model.specs.declared.slot.Slot.{Slot}
 use Rattle.omi_model.specs.declared.task.Task.{Task}
 use Rattle.omi_model.specs.Changes.{IsCurrent, OfCurrent, OfCurrentRegion, ahead_of, encounter, on_task, on_thread, with_list}
+use Rattle.omi_model.specs.Freeing.{MayFreeMember}
 use Rattle.omi_model.specs.Lists.{fits, may_drop, opened, stays, take_item}
 use Rattle.omi_model.specs.Put.{Slots, changed, found, named, on, put}
 use Rattle.omi_model.specs.Rules.{Legal, Rule, after, effect}
 use Rattle.omi_model.specs.State.{State, task_of}
-use Rattle.omi_machine.specs.Needs.{HasCurrent, HasRegion, Needs}
+use Rattle.omi_machine.specs.Needs.{HasCurrent, HasMember, HasNextMember, HasRegion, Needs}
 use Rattle.omi_machine.proofs.ChangesBack.{named_on}
 use Rattle.omi_machine.proofs.TakenItems.{moved}
 
@@ -178,6 +180,18 @@ module _ (s : State) (i : ℕ) (list : List Item) where
       subst (λ (x : State). IsSome (task_of x task)) (sym (in_task k is.name))
       (same_some (task_of s task) (task_of (on_task s k (λ t. record t { frees = None; list = list })) task) (sym (still_named s.tasks k.0 task.0 (λ t. record t { frees = None; list = list }))) some)
 
+  finished_joined : (next : Tid) (n : Rid) (number : ℕ)
+      → item.Frees (freeable.Finished next) ≡ item.Frees (freeable.Joined n number) → ⊥
+  finished_joined next n number same = cc
+
+  next_member : (task : Tid) (n : Rid) (number : ℕ) → OfCurrent s i (λ k t. MayFreeMember s task n number)
+      → HasNextMember (with_list s i list) (item.Frees (freeable.Joined n number))
+  next_member task n number (k, t, is, may) m j same =
+      let region : n ≡ m = cc in
+      let one : number ≡ j = cc in
+      subst (λ (x : State). HasMember x m j) (sym (in_task k is.name))
+      (subst (λ (a : Rid). HasMember s a j) region (subst (HasMember s n) one (may.region, may.ended.live, may.known)))
+
   -- what an event's rule asks of the state gives what its change needs once the list has moved on
   pub needs_moved : (e : Event) (x : Item) → Rule s i e x → Needs (with_list s i list) i e x
   needs_moved (event.Ask w got) x rule = subst (λ (n : ℕ). w < n) (sym count_same) rule.known
@@ -196,8 +210,10 @@ module _ (s : State) (i : ℕ) (list : List Item) where
   needs_moved (event.Start task) x rule =
       (has_current _ rule, has_task _ task rule (some_task (task_of s task) rule.3.new rule.3.live))
   needs_moved (event.Finish task) x rule = has_current _ rule
-  needs_moved (event.FreeTask task) (item.Frees (freeable.Finished next)) rule = has_current _ rule
-  needs_moved (event.FreeTask task) (item.Frees (freeable.Joined n number)) rule = has_current _ rule
+  needs_moved (event.FreeTask task) (item.Frees (freeable.Finished next)) rule =
+      (has_current _ rule, λ n number same. absurd (finished_joined next n number same))
+  needs_moved (event.FreeTask task) (item.Frees (freeable.Joined n number)) rule =
+      (has_current _ rule, next_member task n number rule)
   needs_moved (event.FreeTask task) x rule = absurd rule
   needs_moved (event.FreeRegion region) (item.Frees (freeable.Joined n number)) rule = tt
   needs_moved (event.FreeRegion region) x rule = absurd rule

@@ -3,7 +3,7 @@
 ghost use Rattle.std.specs.Prelude.{◌≡◌, ◌<◌, true, Some, IsSome, OnOk, OnErr};
 ghost use Rattle.omi_script.specs.declared.program.Program.{Program};
 ghost use Rattle.omi_machine.specs.Kept.{state_of};
-ghost use Rattle.omi_machine.specs.Needs.{HasCurrent, HasRegion, Needs};
+ghost use Rattle.omi_machine.specs.Needs.{HasCurrent, HasNextMember, HasRegion, Needs};
 ghost use Rattle.omi_model.specs.Lists.{fits};
 ghost use Rattle.omi_model.specs.Rules.{effect};
 ghost use Rattle.omi_model.specs.State.{task_of};
@@ -118,13 +118,13 @@ fn start_by(alloc: Global, s: &mut State, i: u8, task: Tid, x: Item) -> Result<(
 }
 
 /// The record of a task is given back by its item.
-fn free_by(alloc: Global, s: &mut State, i: usize, task: Tid, x: Item) -> Result<(), OutOfMemory>
+fn free_by(alloc: Global, s: &mut State, i: usize, task: Tid, x: Item)
     requires known { i < (state_of s.old).count }
     requires current { HasCurrent (state_of s.old) i }
+    requires member { HasNextMember (state_of s.old) x }
     requires taken { fits (event.FreeTask task) x ≡ true }
-    ensures done { (p : Program) → OnOk result (effect p (state_of s.old) i (event.FreeTask task) x
-        ≡ Some (state_of s.new)) }
-    ensures refused { OnErr result (state_of s.new ≡ state_of s.old) }
+    ensures { (p : Program) → effect p (state_of s.old) i (event.FreeTask task) x
+        ≡ Some (state_of s.new) }
 {
     match x {
         Item::Frees {
@@ -132,10 +132,7 @@ fn free_by(alloc: Global, s: &mut State, i: usize, task: Tid, x: Item) -> Result
         } => free_member(alloc, s, i, task, region, number),
         Item::Frees {
             next: Freeable::Finished { .. },
-        } => {
-            free_finished(alloc, s, i, task);
-            Ok(())
-        }
+        } => free_finished(alloc, s, i, task),
         _ => unreachable!(),
     }
 }
@@ -168,7 +165,6 @@ pub(crate) fn take_effect(
         Event::Set { icv, value } => return set_variable(alloc, s, i, *icv, *value),
         Event::Lock { k } => return set_lock(s, *k, Some(thread)),
         Event::Unlock { k } => return set_lock(s, *k, None),
-        Event::FreeTask { task } => return free_by(alloc, s, i, *task, x),
         Event::Begin => begin(alloc, s, i),
         Event::Offer => offer(alloc, s, i),
         Event::Want { n } => want(alloc, s, i, *n),
@@ -179,6 +175,7 @@ pub(crate) fn take_effect(
         Event::ImplicitEnd { .. } => end_task(alloc, s, i),
         Event::Join { .. } => join(alloc, s, i),
         Event::Finish { .. } => finish(alloc, s, i),
+        Event::FreeTask { task } => free_by(alloc, s, i, *task, x),
         Event::FreeRegion { region } => free_region(alloc, s, *region),
         Event::SetTool { x } => set_tool(alloc, s, i, *x),
         Event::Pass

@@ -1,15 +1,15 @@
 //! Records that are given back: what it changes of tasks and regions.
 
-ghost use Rattle.std.specs.Prelude.{◌≡◌, ◌<◌, ◌+◌, Some, OnOk, OnErr, ⊤};
+ghost use Rattle.std.specs.Prelude.{◌≡◌, ◌<◌, ◌+◌, Some, ⊤};
 ghost use Rattle.omi_machine.specs.Kept.{slots_of, state_of};
+ghost use Rattle.omi_machine.specs.Needs.{HasMember};
 ghost use Rattle.omi_model.specs.Changes.{OfCurrent, by_current};
 ghost use Rattle.omi_model.specs.Freeing.{above, freed, freeing, region_freed};
 
 use crate::State;
 use crate::slot_changes::{put_live, take_away, take_live};
 use omi_model::{Freeable, Rid, Rows, Slot, Task, Tid};
-use omi_word::OutOfMemory;
-use std::alloc::{AllocError, Global};
+use std::alloc::Global;
 
 /// This may be given back next, in front of all that a task has ahead.
 pub(crate) fn free_next(
@@ -60,8 +60,21 @@ pub(crate) fn free_finished(alloc: Global, s: &mut State, i: usize, task: Tid)
     free_task(alloc, s, i, task, next);
 }
 
-/// The record of a member's task is given back, and behind it that of the next member may be. Without room for the
-/// number nothing changes.
+/// The number behind that of a member of a region: a team is so small that it fits.
+fn number_behind(s: &State, region: Rid, number: u8) -> u8
+    requires { HasMember (state_of s.now) region number }
+    ensures { result ≡ number + 1 }
+{
+    match s.region_of(region) {
+        Some(r) => {
+            let _most = r.team.len();
+            number + 1
+        }
+        None => unreachable!(),
+    }
+}
+
+/// The record of a member's task is given back, and behind it that of the next member may be.
 pub(crate) fn free_member(
     alloc: Global,
     s: &mut State,
@@ -69,20 +82,17 @@ pub(crate) fn free_member(
     task: Tid,
     region: Rid,
     number: u8,
-) -> Result<(), OutOfMemory>
+)
     requires known { i < (state_of s.old).count }
     requires current { OfCurrent (state_of s.old) i (λ k t. ⊤) }
-    ensures done { OnOk result (by_current (state_of s.old) i
+    requires member { HasMember (state_of s.old) region number }
+    ensures { by_current (state_of s.old) i
         (freed (state_of s.old) task (Some (Freeable.Joined region (number + 1))))
-        ≡ Some (state_of s.new)) }
-    ensures refused { OnErr result (s.new ≡ s.old) }
+        ≡ Some (state_of s.new) }
 {
-    let Some(number) = number.checked_add(1) else {
-        return Err(AllocError);
-    };
+    let number = number_behind(s, region, number);
     let next = Freeable::Joined { region, number };
     free_task(alloc, s, i, task, Some(next));
-    Ok(())
 }
 
 /// The record of a region is given back.

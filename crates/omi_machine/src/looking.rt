@@ -6,7 +6,7 @@ ghost use Rattle.omi_script.specs.declared.program.Program.{Program};
 ghost use Rattle.omi_model.specs.Lists.{fits, may_drop, opened};
 ghost use Rattle.omi_model.specs.Rows.{first_of};
 
-use omi_model::{Encounter, Event, Item, Shape};
+use omi_model::{Encounter, Event, Freeable, Item, Shape};
 use omi_numbers::OWN_SLOTS;
 use omi_script::Stmt;
 
@@ -55,7 +55,12 @@ pub fn may_pass_over(x: Item) -> bool
 {
     matches!(
         x,
-        Item::Asks | Item::Tasks { .. } | Item::OneTask | Item::Frees { .. }
+        Item::Asks
+            | Item::Tasks { .. }
+            | Item::OneTask
+            | Item::Frees {
+                next: Freeable::Finished { .. },
+            }
     )
 }
 
@@ -85,7 +90,13 @@ pub fn is_events_item(e: &Event, x: Item) -> bool
         (Event::StartNow { .. }, Item::StartNow { .. }) => true,
         (Event::Start { .. }, Item::Tasks { .. } | Item::OneTask) => true,
         (Event::Finish { .. }, Item::Finish) => true,
-        (Event::FreeTask { .. } | Event::FreeRegion { .. }, Item::Frees { .. }) => true,
+        (Event::FreeTask { .. }, Item::Frees { .. }) => true,
+        (
+            Event::FreeRegion { .. },
+            Item::Frees {
+                next: Freeable::Joined { .. },
+            },
+        ) => true,
         (Event::WaitDone, Item::WaitDone) => true,
         (Event::Yield, Item::Yield) => true,
         (Event::Set { icv, value }, Item::Set { icv: v, value: x }) => *icv == v && *value == x,

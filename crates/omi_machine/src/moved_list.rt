@@ -101,6 +101,9 @@ pub(crate) fn moved_ahead(
         if is_events_item(e, head) {
             return Ok(Some((head, list.from_place(alloc, 0)?)));
         }
+        if !may_pass_over(head) {
+            return Ok(None);
+        }
     }
     moved_list(alloc, p, at, e, list)
 }

@@ -2,13 +2,14 @@
 use Rattle.std.specs.Prelude.{◌≡◌, ◌≢◌, ◌⊎◌, ◌<◌, ℕ, suc, Bool, true, false, List, length, slice_get, Some}
 use Rattle.omi_model.specs.declared.claim.Claim.TheVariants.{Free}
 use Rattle.omi_model.specs.declared.id.Rid.{Rid}
+use Rattle.omi_model.specs.declared.id.Tid.{Tid}
 use Rattle.omi_model.specs.declared.progress.Progress.TheVariants.{Deferred, Finished}
 use Rattle.omi_model.specs.declared.region.Region.{Region}
 use Rattle.omi_model.specs.declared.slot.Slot.{Slot}
 use Rattle.omi_model.specs.declared.task.Task.{Task}
 use Rattle.omi_model.specs.declared.thread.Thread.{Thread}
-use Rattle.omi_machine_legal.specs.declared.unfinished.TasksOf.{TasksOf}
-use Rattle.omi_machine_legal.specs.declared.unfinished.TasksOf.TheVariants as tasks
+use Rattle.omi_machine_legal.specs.declared.freeing_rules.TasksOf.{TasksOf}
+use Rattle.omi_machine_legal.specs.declared.freeing_rules.TasksOf.TheVariants as tasks
 use Rattle.omi_model.specs.Put.{Slots}
 use Rattle.omi_model.specs.Teams.{WasAsked, got_threads}
 
@@ -28,13 +29,9 @@ abbrev pub IsOneOf : TasksOf → Task → Type 0
 IsOneOf (tasks.Region n) t = t.region ≡ n
 IsOneOf (tasks.Parent k) t = t.generating ≡ Some k
 
--- a task is no unfinished explicit one of those
-abbrev pub IsFinishedOf : TasksOf → Task → Type 0
-IsFinishedOf which t = t.implicit ≡ false → IsOneOf which t → t.progress ≡ Finished
-
--- no explicit one of those tasks is unfinished
-abbrev pub AreFinishedOf : TasksOf → Slots Task → Type 0
-AreFinishedOf which slots = AreLive (IsFinishedOf which) slots
+-- a task is no unfinished explicit child of a task
+abbrev pub IsFinishedOf : Tid → Task → Type 0
+IsFinishedOf k t = t.implicit ≡ false → t.generating ≡ Some k → t.progress ≡ Finished
 
 -- a task is none of those, or no explicit one of a region
 abbrev pub IsNoneOf : TasksOf → Task → Type 0

@@ -5,7 +5,7 @@ ghost use Rattle.omi_model.specs.Barriers.{HaveArrived, MayArrive, MayPass, MayR
 ghost use Rattle.omi_model.specs.Changes.{OfCurrentRegion};
 ghost use Rattle.omi_machine.specs.Kept.{state_of};
 
-use crate::unfinished::{TasksOf, are_finished};
+use crate::freeing_rules::has_no_explicit;
 use omi_machine::{State, arrivals_of};
 use omi_model::Region;
 
@@ -49,9 +49,7 @@ pub fn may_release(s: &State, i: usize) -> bool
         (λ k t r. MayRelease (state_of s.now) t r) }
 {
     match s.current_region(i) {
-        Some((_, t, r)) => t.number == 0
-            && have_arrived(r)
-            && are_finished(s, TasksOf::Region(t.region)),
+        Some((_, t, r)) => t.number == 0 && have_arrived(r) && has_no_explicit(s, t.region),
         None => false,
     }
 }

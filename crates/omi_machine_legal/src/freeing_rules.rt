@@ -2,15 +2,32 @@
 
 ghost use Rattle.std.specs.Prelude.{◌≡◌, ◌↔◌, ◌<◌, Some, true};
 ghost use Rattle.omi_machine.specs.Kept.{state_of};
-ghost use Rattle.omi_machine_legal.specs.Decided.{IsNoExplicitOf, IsNoneOf, IsNotWithin};
+ghost use Rattle.omi_machine_legal.specs.Decided.{IsNoExplicitOf, IsNoneOf, IsNotWithin, IsOneOf};
+ghost use Rattle.omi_model.specs.Barriers.{HasNoExplicit};
 ghost use Rattle.omi_model.specs.Changes.{OfCurrent};
 ghost use Rattle.omi_model.specs.Freeing.{IsOver, IsSpent, MayFree, MayFreeMember, MayFreeRegion};
 ghost use Rattle.omi_model.specs.State.{region_of, task_of};
 
 use crate::live::{Test, regions_pass, tasks_pass};
-use crate::unfinished::{TasksOf, is_one_of};
 use omi_machine::State;
 use omi_model::{Progress, Region, Rid, Task, Tid};
+
+/// The tasks of a region, or the children of a task.
+#[derive(Clone, Copy)]
+enum TasksOf {
+    Region(Rid),
+    Parent(Tid),
+}
+
+/// Whether a task is one of those.
+fn is_one_of(t: &Task, which: TasksOf) -> bool
+    ensures { (result ≡ true) ↔ IsOneOf which t.now }
+{
+    match which {
+        TasksOf::Region(n) => t.region == n,
+        TasksOf::Parent(k) => t.generating == Some(k),
+    }
+}
 
 /// That a task is none of the tasks of a region, or of the children of a task.
 #[derive(Drop)]
@@ -48,6 +65,13 @@ impl Test<Region> for IsOutside {
     }
 }
 
+/// Whether no explicit task of a region lives.
+pub fn has_no_explicit(s: &State, n: Rid) -> bool
+    ensures { (result ≡ true) ↔ HasNoExplicit (state_of s.now) n }
+{
+    tasks_pass(&IsNoExplicit(n), s)
+}
+
 /// Whether a live task is over.
 fn is_spent(s: &State, task: Tid, old: &Task) -> bool
     requires { task_of (state_of s.now) task ≡ Some old.now }
@@ -61,7 +85,7 @@ fn is_over(s: &State, n: Rid, r: &Region) -> bool
     requires { region_of (state_of s.now) n ≡ Some r.now }
     ensures { (result ≡ true) ↔ IsOver (state_of s.now) n r.now }
 {
-    r.joined && tasks_pass(&IsNoExplicit(n), s) && regions_pass(&IsOutside(n), s)
+    r.joined && has_no_explicit(s, n) && regions_pass(&IsOutside(n), s)
 }
 
 /// Whether an explicit task is given back, which may be next.
@@ -85,6 +109,7 @@ fn may_free_member_task(s: &State, task: Tid, n: Rid, number: u8) -> bool
         Some(old) => old.implicit
             && old.region == n
             && old.number == number as u64
+            && (number as usize) < r.team.len()
             && is_over(s, n, r)
             && is_spent(s, task, old),
         None => false,

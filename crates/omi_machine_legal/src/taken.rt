@@ -41,6 +41,9 @@ pub fn taken_ahead(
         if is_events_item(e, head) {
             return Some(head);
         }
+        if !may_pass_over(head) {
+            return None;
+        }
     }
     taken_item(at, e, list)
 }

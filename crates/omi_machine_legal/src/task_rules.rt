@@ -9,7 +9,7 @@ ghost use Rattle.omi_machine.specs.Kept.{slots_of, state_of};
 ghost use Rattle.omi_model.specs.Tasking.{AreChildrenFinished, IsTaken, MayFinish, MayStart, MayStartAt};
 
 use crate::fresh::is_fresh_task;
-use crate::unfinished::{TasksOf, are_finished};
+use crate::unfinished::are_children_finished;
 use omi_machine::State;
 use omi_model::{Item, Progress, Rid, Rows, Slot, Task, Tid};
 use omi_numbers::WAIT_TASKWAIT;
@@ -141,7 +141,7 @@ pub fn may_end_wait(s: &State, i: usize) -> bool
         (λ k t. AreChildrenFinished (state_of s.now) k) }
 {
     match s.current(i) {
-        Some((k, _)) => are_finished(s, TasksOf::Parent(k)),
+        Some((k, _)) => are_children_finished(s, k),
         None => false,
     }
 }

@@ -117,7 +117,12 @@ module _ (p : Program) (b : ℕ → ℕ) (ok : IsCounted p b) (s : State) (i : �
       subst (λ n. IsReady b n ph w (the_move.item ∷ the_move.behind)) same
       (by_taken p (encounter s i) e t.frees t.list the_move.item the_move.behind
       (λ f y ys. IsReady b (encounter s i).number ph w (y ∷ ys)) taken
-      (λ from. take_ready p b ok (encounter s i) e ph w t.list the_move.item the_move.behind from here) (λ task n. record { in_order = here.in_order; barriers = omega (arith, here.barriers); is_fair = here.is_fair }))
+      (λ from. take_ready p b ok (encounter s i) e ph w t.list the_move.item the_move.behind from here)
+      (λ task n. record {
+        in_order = here.in_order;
+        barriers = omega (arith, here.barriers);
+        is_fair = here.is_fair;
+      }))
     where
       here : IsReady b (encounter s i).number ph w t.list
       here = subst (λ n. IsReady b n ph w t.list) (sym (number_met s i k t is)) r
@@ -150,7 +155,9 @@ module _ (p : Program) (b : ℕ → ℕ) (ok : IsCounted p b) (s : State) (i : �
   other_member event.Arrive y (k0, t0, r0, is0, found0, im0) k t r q ne live im found change f member0 m =
       go (same_or_not t0.region.0 t.region.0)
     where
-      touched : (t0.region ≡ t.region → q.arrivals ≡ slice_set r.arrivals t0.number (slice_index r.arrivals t0.number + 1)) × ((t0.region ≡ t.region → ⊥) → q.arrivals ≡ r.arrivals) × (q.released ≡ r.released)
+      touched : (t0.region ≡ t.region
+          → q.arrivals ≡ slice_set r.arrivals t0.number (slice_index r.arrivals t0.number + 1))
+          × ((t0.region ≡ t.region → ⊥) → q.arrivals ≡ r.arrivals) × (q.released ≡ r.released)
       touched = change k0 t0 is0
 
       go : (t0.region.0 ≡ t.region.0) ⊎ (t0.region.0 ≡ t.region.0 → ⊥) → IsMemberOf b q t
@@ -250,7 +257,8 @@ module _ (p : Program) (b : ℕ → ℕ) (ok : IsCounted p b) (s : State) (i : �
   own_member e' y ys fit rule k t r q is im found change f taken m =
       same_member b r.arrivals q.arrivals r.released q.released r.function q.function t.number
       (stays (encounter s i) e' y ys) (ap (λ xs. slice_index xs t.number) change.0) change.1 f
-      (other_list b r.arrivals r.released r.function t.number t.list (stays (encounter s i) e' y ys) m (stays_ready b (encounter s i) t.number m.phase m.ahead e' y ys fit refl (taken m.phase m.ahead m.ready)))
+      (other_list b r.arrivals r.released r.function t.number t.list (stays (encounter s i) e' y ys) m
+      (stays_ready b (encounter s i) t.number m.phase m.ahead e' y ys fit refl (taken m.phase m.ahead m.ready)))
 
   own_explicit : (e' : Event) (y : Item) (ys : List Item) → fits e' y ≡ true → Rule s i e' y
       → (k : Tid) (t : Task) → IsCurrent s i k t → t.implicit ≡ false → Taken t e' y ys
@@ -277,7 +285,9 @@ module _ (p : Program) (b : ℕ → ℕ) (ok : IsCounted p b) (s : State) (i : �
       go false ex =
           let ready = taken_ready k0 t0 is taken Outside 0 ((all k0 t0 is.live).1 ex) in
           absurd
-          (item_wrong the_move.item (subst (λ (x : Event). fits x the_move.item ≡ true) is_release (take_fits p (encounter s i) e (in_front t0.frees t0.list) the_move.item the_move.behind taken)) ready.in_order)
+          (item_wrong the_move.item (subst (λ (x : Event). fits x the_move.item ≡ true) is_release
+          (take_fits p (encounter s i) e (in_front t0.frees t0.list) the_move.item the_move.behind taken))
+          ready.in_order)
         where
           item_wrong : (y : Item) → fits event.Release y ≡ true
               → order t0.number Outside (y ∷ the_move.behind) ≡ true → ⊥
@@ -351,7 +361,14 @@ module _ (p : Program) (b : ℕ → ℕ) (ok : IsCounted p b) (s : State) (i : �
       member region team f r j m at =
           let none : slice_index (replicate (length team) 0) j ≡ 0 =
           get_or-replicate (length team) j 0 0 (slice_get_within team j m at) in
-          record { phase = Outside; ahead = b f + 1; ready = member_ready p b ok (record { debug = p.env.debug; number = j; level = r.levels + 1; is_final = false }) f; stands = none; barriers = omega arith }
+          record {
+            phase = Outside;
+            ahead = b f + 1;
+            ready = member_ready p b ok (record
+                { debug = p.env.debug; number = j; level = r.levels + 1; is_final = false }) f;
+            stands = none;
+            barriers = omega arith;
+          }
 
   pub places_step : EachTask (HasPlace b next) next
   places_step = task_step_from p (HasPlace b s) (HasPlace b next) s i e next the_move own others law all
@@ -373,8 +390,12 @@ module _ (p : Program) (b : ℕ → ℕ) (ok : IsCounted p b) (s : State) (i : �
       others k t ne live place = (
         λ im.
             let (r, found, m) = place.0 im in
-            let (q, found_q, change, f) = region_after k t live r found in
-            (q, found_q, other_member e the_move.item the_move.rule k t r q ne live im found change f (λ k0 t0 is_release is first. releases_implicit k0 t0 is_release is (taken_by_current k0 t0 is)) m),
+            let (q, found_q, change, f) = region_after k t live r found in (
+              q,
+              found_q,
+              other_member e the_move.item the_move.rule k t r q ne live im found change f
+                  (λ k0 t0 is_release is first. releases_implicit k0 t0 is_release is (taken_by_current k0 t0 is)) m,
+            ),
         place.1,
       )
 

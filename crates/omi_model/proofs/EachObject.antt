@@ -2,7 +2,7 @@
 use Rattle.std.proofs.Common.{◌≡◌, ◌≢◌, ◌+◌, ◌-◌, ℕ, zero, suc, ◌⊎◌, inl, inr, Bool, true, false, List, [], ◌∷◌, slice_get, slice_index, slice_set, drop, Option, Some, refl, sym, ap, ◌∙◌, subst, arith, None}
 use Rattle.std.specs.Prelude.{IfSome, ⊤}
 use Rattle.std.specs.List.{All}
-use Rattle.std.specs.Option.{option_and_then, option_map_or}
+use Rattle.std.specs.Option.{option_and_then, option_map, option_map_or}
 use Rattle.omi_script.specs.declared.program.Program.{Program}
 use Rattle.omi_model.specs.declared.encounter.Encounter.{Encounter}
 use Rattle.omi_model.specs.declared.event.Event.{Event}
@@ -61,16 +61,27 @@ abbrev pub IsGoingOn : State → Task → Tid → Type 0
 IsGoingOn s t k = (t.scheduling ≡ Some k)
     ⊎ ((r : Region) × (region_of s t.region ≡ Some r) × (t.implicit ≡ true) × (t.number ≡ 0) × (r.encountering ≡ Some k))
 
--- where something else may be given back next: in front of what the task has ahead that goes on where another one ends, and in front of
--- what the current task has ahead once a task is given back
-abbrev pub IsFreeing : State → ℕ → Event → Item → Tid → Type 0
-IsFreeing s i e y k =
-    ((j : Tid) × (t : Task) × IsCurrent s i j t × (is_end e ≡ true) × IsGoingOn s t k)
-    ⊎ ((n : Freeable) × (y ≡ item.Frees n) × ((s.threads i).current ≡ Some k))
+-- what may be given back where task j, which is t, ends: the region that it joined, or the task itself
+abbrev pub FreesNext : Event → Tid → Task → Option Freeable → Type 0
+FreesNext e j t free = ((e ≡ event.Join t.region) × (free ≡ Some (freeable.Joined t.region 0)))
+    ⊎ (free ≡ Some (freeable.Finished j))
+
+-- and what behind that which was given back: a generating task, or the next member's
+abbrev pub FreesBehind : Freeable → Option Freeable → Type 0
+FreesBehind (freeable.Finished task) free = (o : Option Tid) × (free ≡ option_map freeable.Finished o)
+FreesBehind (freeable.Joined n number) free = free ≡ Some (freeable.Joined n (number + 1))
+
+-- where this may be given back next: in front of what the task has ahead that goes on where another one ends, and in front of what the
+-- current task has ahead once a task is given back
+abbrev pub IsFreeing : State → ℕ → Event → Item → Tid → Option Freeable → Type 0
+IsFreeing s i e y k free =
+    ((j : Tid) × (t : Task) × IsCurrent s i j t × (is_end e ≡ true) × IsGoingOn s t k × FreesNext e j t free)
+    ⊎ ((n : Freeable) × (task : Tid) × (y ≡ item.Frees n) × (e ≡ event.FreeTask task)
+    × ((s.threads i).current ≡ Some k) × FreesBehind n free)
 
 -- a law of each task over the effect of an event of thread i that takes an item, from a state to the next one
 pub record IsTaskLaw (p : Program) (s : State) (i : ℕ) (e : Event) (y : Item) (next : State) (P : Tid → Task → Type 0) : Type 0 where
-  pub frees : (k : Tid) (t : Task) (free : Option Freeable) → IsFreeing s i e y k → P k t
+  pub frees : (k : Tid) (t : Task) (free : Option Freeable) → IsFreeing s i e y k free → P k t
       → P k (record t { frees = free })
   pub shows : (k : Tid) (t : Task) (enter : ℕ) → P k t → P k (record t { enter = enter })
   pub tools : (k : Tid) (t : Task) (x : ℕ) → P k t → P k (record t { tool = x })
@@ -86,7 +97,8 @@ pub record IsTaskLaw (p : Program) (s : State) (i : ℕ) (e : Event) (y : Item) 
       → P k (record (scheduled i j t u) { list = start_list x (encounter s i) u.list })
   pub members : (region : Rid) (team : List (Tid × ℕ)) (f : ℕ) (k : Tid) (t : Task) (r : Region)
       → IsCurrent s i k t → region_of s t.region ≡ Some r → MayFork s i region team
-      → region_of next region ≡ Some (new_region k t r team f) → y ≡ item.Fork f → e ≡ event.Fork region team → (j : ℕ) (m : Tid × ℕ) → slice_get team j ≡ Some m → P m.0 (member_task p region k t r f j m.1)
+      → region_of next region ≡ Some (new_region k t r team f) → y ≡ item.Fork f → e ≡ event.Fork region team
+      → (j : ℕ) (m : Tid × ℕ) → slice_get team j ≡ Some m → P m.0 (member_task p region k t r f j m.1)
   pub deferred : (task : Tid) (f : ℕ) (is_final : Bool) (seen : ℕ) (k : Tid) (t : Task) → IsCurrent s i k t
       → y ≡ item.Defer seen f is_final → IsFresh s.tasks i task.0
       → P task (deferred_task p k t f is_final seen)
@@ -105,7 +117,7 @@ each_member P task number (m ∷ ms) slots all new =
     (λ j x e. let one_more : number + suc j ≡ number + 1 + j = omega arith in subst (λ h. P x.0 (task h x.1)) one_more (new (suc j) x e))
 
 -- the members of a new team are found under their names
-found_later : (task : ℕ → ℕ → Task) (number : ℕ) (team : List (Tid × ℕ)) (slots : Slots Task) (i : ℕ) (n : Id) (x : Task)
+pub found_later : (task : ℕ → ℕ → Task) (number : ℕ) (team : List (Tid × ℕ)) (slots : Slots Task) (i : ℕ) (n : Id) (x : Task)
     → AreNew slots i team → named slots n ≡ Some x → named (with_members task number team slots) n ≡ Some x
 found_later task number [] slots i n x new e = e
 found_later task number (m ∷ ms) slots i n x new e =
@@ -176,11 +188,12 @@ module _ (p : Program) (P : Tid → Task → Type 0) where
   the_current s i k t u is e = record { name = is.name; live = e }
 
   -- a task is given back
-  each_freed : (s : State) (i : ℕ) (e : Event) (was : Freeable) (task : Tid) (next : Option Freeable) (k : Tid) (t : Task)
-      → IsCurrent s i k t → EachTask P s → of_law s i e (item.Frees was) (freed s task next k t)
-  each_freed s i e was task next k t is all law =
+  each_freed : (s : State) (i : ℕ) (was : Freeable) (task : Tid) (next : Option Freeable) (k : Tid) (t : Task)
+      → IsCurrent s i k t → FreesBehind was next → EachTask P s
+      → of_law s i (event.FreeTask task) (item.Frees was) (freed s task next k t)
+  each_freed s i was task next k t is behind all law =
       each_changed (record s { tasks = gone s.tasks task.0 }) k (λ u. record u { frees = next })
-      (each_gone_task s task all) (λ u e' q. law.frees k u next (inr (was, refl, is.name)) q)
+      (each_gone_task s task all) (λ u e' q. law.frees k u next (inr (was, task, refl, refl, is.name, behind)) q)
 
   task_effect : (s : State) (i : ℕ) (e : Event) (y : Item) → Rule s i e y → EachTask P s
       → IfSome (effect p s i e y) (of_law s i e y)
@@ -193,11 +206,16 @@ module _ (p : Program) (P : Tid → Task → Type 0) where
       of_region s i (forked p s i region team f) (of_law s i (event.Fork region team) (item.Fork f))
       (λ k t r. MayFork s i region team) rule
       (λ k t r is found may law n u e. each_member P (member_task p region k t r f) 0 team s.tasks (λ m v h. all (record { 0 = m }) v h)
-      (λ j m at. let zero_more : 0 + j ≡ j = omega arith in subst (λ h. P m.0 (member_task p region k t r f h m.1)) (sym zero_more) (law.members region team f k t r is found may (made_same s.regions region.0 (new_region k t r team f)) refl refl j m at)) n.0 u e)
+      (λ j m at. let zero_more : 0 + j ≡ j = omega arith in subst
+      (λ h. P m.0 (member_task p region k t r f h m.1)) (sym zero_more)
+      (law.members region team f k t r is found may
+      (made_same s.regions region.0 (new_region k t r team f)) refl refl j m at)) n.0 u e)
   task_effect s i (event.Fork region team) y rule all = tt
   task_effect s i (event.ImplicitBegin task) y rule all =
       λ law. each_changed s task (λ t. record t { progress = Begun }) all
-      (λ t e h. let same : rule.member ≡ t = some_same rule.live e in law.begins task t (ap (λ (u : Task). u.progress) (sym same) ∙ rule.waiting) (ap (λ (u : Task). u.thread) (sym same) ∙ rule.mine) refl h)
+      (λ t e h. let same : rule.member ≡ t = some_same rule.live e in law.begins task t
+      (ap (λ (u : Task). u.progress) (sym same) ∙ rule.waiting)
+      (ap (λ (u : Task). u.thread) (sym same) ∙ rule.mine) refl h)
   task_effect s i (event.State state wait) y rule all = λ law. all
   task_effect s i event.Enter y rule all =
       of_current s i (entered s) (of_law s i event.Enter y) (λ k t. ⊤) rule
@@ -219,15 +237,15 @@ module _ (p : Program) (P : Tid → Task → Type 0) where
       (λ k t r is found h law. each_freeing (Some (freeable.Joined t.region 0)) (on_task s k (λ u. record u { progress = Finished }))
       (each_changed s k (λ u. record u { progress = Finished }) all (λ u e q. law.finishes k u (the_current s i k t u is e) refl q))
       r.encountering
-      (λ n u from q. law.frees n u _ (inl (k, t, is, refl, inr (r, found, h.implicit, h.first, from))) q))
+      (λ n u from q. law.frees n u _ (inl (k, t, is, refl, inr (r, found, h.implicit, h.first, from), inl (ap (λ (n : Rid). event.Join n) h.mine, refl))) q))
   task_effect s i (event.FreeTask task) (item.Frees (freeable.Finished n)) rule all =
       of_current s i (freed s task (above s task)) (of_law s i (event.FreeTask task) (item.Frees (freeable.Finished n)))
       _ rule
-      (λ k t is h. each_freed s i (event.FreeTask task) (freeable.Finished n) task (above s task) k t is all)
+      (λ k t is h. each_freed s i (freeable.Finished n) task (above s task) k t is (_, refl) all)
   task_effect s i (event.FreeTask task) (item.Frees (freeable.Joined n number)) rule all =
       of_current s i (freed s task (Some (freeable.Joined n (number + 1))))
       (of_law s i (event.FreeTask task) (item.Frees (freeable.Joined n number))) _ rule
-      (λ k t is h. each_freed s i (event.FreeTask task) (freeable.Joined n number) task _ k t is all)
+      (λ k t is h. each_freed s i (freeable.Joined n number) task _ k t is refl all)
   task_effect s i (event.FreeTask task) y rule all = tt
   task_effect s i (event.FreeRegion region) (item.Frees (freeable.Joined n number)) rule all = λ law. all
   task_effect s i (event.FreeRegion region) y rule all = tt
@@ -250,19 +268,23 @@ module _ (p : Program) (P : Tid → Task → Type 0) where
       (MayStart s task (item.Tasks state)) rule
       (λ k t is may law. each_changed s task (λ u. record (scheduled i k t u) { list = working (encounter s i) u.list }) all
       (λ u e q. let same : may.new ≡ u = some_same may.live e in
-      law.starts task u k t (item.Tasks state) is e (ap (λ (x : Task). x.implicit) (sym same) ∙ may.explicit) (ap (λ (x : Task). x.progress) (sym same) ∙ may.deferred) (subst (MayStartAt (item.Tasks state) k t) same may.allowed) refl refl q))
+      law.starts task u k t (item.Tasks state) is e (ap (λ (x : Task). x.implicit) (sym same) ∙ may.explicit)
+      (ap (λ (x : Task). x.progress) (sym same) ∙ may.deferred)
+      (subst (MayStartAt (item.Tasks state) k t) same may.allowed) refl refl q))
   task_effect s i (event.Start task) item.OneTask rule all =
       of_current s i (started_alone s i task) (of_law s i (event.Start task) item.OneTask)
       (MayStart s task item.OneTask) rule
       (λ k t is may law. each_changed s task (scheduled i k t) all
       (λ u e q. let same : may.new ≡ u = some_same may.live e in
-      law.starts task u k t item.OneTask is e (ap (λ (x : Task). x.implicit) (sym same) ∙ may.explicit) (ap (λ (x : Task). x.progress) (sym same) ∙ may.deferred) (subst (MayStartAt item.OneTask k t) same may.allowed) refl refl q))
+      law.starts task u k t item.OneTask is e (ap (λ (x : Task). x.implicit) (sym same) ∙ may.explicit)
+      (ap (λ (x : Task). x.progress) (sym same) ∙ may.deferred)
+      (subst (MayStartAt item.OneTask k t) same may.allowed) refl refl q))
   task_effect s i (event.Start task) y rule all = tt
   task_effect s i (event.Finish task) y rule all =
       of_current s i (finished s i) (of_law s i (event.Finish task) y) _ rule
       (λ k t is h law. each_freeing (Some (freeable.Finished k)) (on_task s k (λ u. record u { progress = Finished }))
       (each_changed s k (λ u. record u { progress = Finished }) all (λ u e q. law.finishes k u (the_current s i k t u is e) refl q)) t.scheduling
-      (λ n u from q. law.frees n u _ (inl (k, t, is, refl, inl from)) q))
+      (λ n u from q. law.frees n u _ (inl (k, t, is, refl, inl from, inr refl)) q))
   task_effect s i (event.Set icv value) y rule all =
       of_set s i icv value (of_law s i (event.Set icv value) y) rule (λ law. all)
       (λ k t v is e law. each_changed s k (λ u. record u { variables = v }) all
@@ -277,7 +299,9 @@ module _ (p : Program) (P : Tid → Task → Type 0) where
   -- the move of the current task's list
   abbrev pub Moves : State → ℕ → Event → Type 0
   Moves s i e =
-      (k : Tid) (t : Task) (y : Item) (ys : List Item) → IsCurrent s i k t → take_item p (encounter s i) e (in_front t.frees t.list) ≡ Some (y, ys) → P k t → P k (relisted (stays (encounter s i) e y ys) t)
+      (k : Tid) (t : Task) (y : Item) (ys : List Item) → IsCurrent s i k t
+      → take_item p (encounter s i) e (in_front t.frees t.list) ≡ Some (y, ys) → P k t
+      → P k (relisted (stays (encounter s i) e y ys) t)
 
 pub ahead_of_current : (s : State) (i : ℕ) (k : Tid) (t : Task) → IsCurrent s i k t
     → ahead_of s i ≡ in_front t.frees t.list
@@ -358,7 +382,11 @@ module _ (p : Program) (Q : Rid → Region → Type 0) where
   region_effect s i (event.Ask w false) y rule all = λ law. all
   region_effect s i (event.Fork region team) (item.Fork f) rule all =
       of_region s i (forked p s i region team f) (of_region_law s i) (λ k t r. MayFork s i region team) rule
-      (λ k t r is found may law n q e. each_made (λ h x. Q (record { 0 = h }) x) s.regions region.0 (new_region k t r team f) (λ h x g. all (record { 0 = h }) x g) (law.forks region team f k t r is found may (members_found (member_task p region k t r f) team s.tasks i (new_team s.tasks i team may.tasks_new may.distinct))) n.0 q e)
+      (λ k t r is found may law n q e. each_made (λ h x. Q (record { 0 = h }) x) s.regions region.0
+      (new_region k t r team f) (λ h x g. all (record { 0 = h }) x g)
+      (law.forks region team f k t r is found may
+      (members_found (member_task p region k t r f) team s.tasks i
+      (new_team s.tasks i team may.tasks_new may.distinct))) n.0 q e)
   region_effect s i (event.Fork region team) y rule all = tt
   region_effect s i (event.ImplicitBegin task) y rule all = λ law. all
   region_effect s i (event.State state wait) y rule all = λ law. all
@@ -368,18 +396,28 @@ module _ (p : Program) (Q : Rid → Region → Type 0) where
       of_current s i (left s) (of_region_law s i) (λ k t. ⊤) rule (λ k t is h law. all)
   region_effect s i event.Arrive y rule all =
       of_current_region s i (λ k t. arrived s t) (of_region_law s i) _ rule
-      (λ k t r is found h law. each_region_changed s t.region (λ q. record q { arrivals = slice_set q.arrivals t.number (slice_index q.arrivals t.number + 1) }) all (λ q e g. law.arrives k t q is e g))
+      (λ k t r is found h law. each_region_changed s t.region
+      (λ q. record q { arrivals = slice_set q.arrivals t.number (slice_index q.arrivals t.number + 1) })
+      all (λ q e g. law.arrives k t q is e g))
   region_effect s i event.Release y rule all =
       of_current_region s i (λ k t. released s t) (of_region_law s i) (λ k t r. MayRelease s t r) rule
       (λ k t r is found h law. each_region_changed s t.region (λ q. record q { released = q.released + 1 }) all
       (λ q e g. let same : r ≡ q = some_same found e in law.releases k t q is e (subst (MayRelease s t) same h) g))
   region_effect s i (event.ImplicitEnd task) y rule all =
       of_current_region s i (task_ended s i) (of_region_law s i) (λ k t r. MayEnd task k t) rule
-      (λ k t r is found h law. each_region_changed (on_task s k (λ u. record u { progress = Finished })) t.region (λ q. record q { ended = slice_set q.ended t.number true }) all (λ q e g. law.ends k t q is e h.implicit h.other g))
+      (λ k t r is found h law. each_region_changed (on_task s k (λ u. record u { progress = Finished }))
+      t.region (λ q. record q { ended = slice_set q.ended t.number true }) all
+      (λ q e g. law.ends k t q is e h.implicit h.other g))
   region_effect s i (event.Join region) y rule all =
       of_region s i (joined s i) (of_region_law s i) (λ k t r. MayJoin region t r) rule
       (λ k t r is found h law. each_region_changed s t.region (λ q. record q { joined = true }) all
-      (λ q e g. let same : r ≡ q = some_same found e in law.joins k t q is e (record { mine = refl; implicit = h.implicit; first = h.first; ended = subst (λ (x : Region). All (λ b. b ≡ true) (drop 1 x.ended)) same h.ended }) g))
+      (λ q e g. let same : r ≡ q = some_same found e in law.joins k t q is e
+      (record {
+        mine = refl;
+        implicit = h.implicit;
+        first = h.first;
+        ended = subst (λ (x : Region). All (λ b. b ≡ true) (drop 1 x.ended)) same h.ended;
+      }) g))
   region_effect s i (event.FreeTask task) (item.Frees (freeable.Finished n)) rule all =
       of_current s i (freed s task _) (of_region_law s i) _ rule (λ k t is h law. all)
   region_effect s i (event.FreeTask task) (item.Frees (freeable.Joined n number)) rule all =

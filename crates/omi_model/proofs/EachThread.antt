@@ -167,20 +167,29 @@ module _ (p : Program) (R : ℕ → Thread → Type 0) where
   thread_effect s i (event.StartNow task) (item.Defer seen f final) rule all =
       of_current s i (started_now p s i task f final) (of_law s i (event.StartNow task))
       (λ k t. IsFresh s.tasks i task.0) rule
-      (λ k t is fresh law. each_thread s i (record (s.threads i) { current = Some task }) all (law.makes task f final k t is (made_same s.tasks task.0 (scheduled i k t (deferred_task p k t f final 0))) (all i)))
+      (λ k t is fresh law. each_thread s i (record (s.threads i) { current = Some task }) all
+      (law.makes task f final k t is (made_same s.tasks task.0
+      (scheduled i k t (deferred_task p k t f final 0))) (all i)))
   thread_effect s i (event.StartNow task) (item.StartNow f final) rule all =
       of_current s i (started_now p s i task f final) (of_law s i (event.StartNow task))
       (λ k t. IsFresh s.tasks i task.0) rule
-      (λ k t is fresh law. each_thread s i (record (s.threads i) { current = Some task }) all (law.makes task f final k t is (made_same s.tasks task.0 (scheduled i k t (deferred_task p k t f final 0))) (all i)))
+      (λ k t is fresh law. each_thread s i (record (s.threads i) { current = Some task }) all
+      (law.makes task f final k t is (made_same s.tasks task.0
+      (scheduled i k t (deferred_task p k t f final 0))) (all i)))
   thread_effect s i (event.StartNow task) y rule all = tt
   thread_effect s i (event.Start task) (item.Tasks state) rule all =
       of_current s i (started s i task) (of_law s i (event.Start task))
       (MayStart s task (item.Tasks state)) rule
-      (λ k t is may law. each_thread s i (record (s.threads i) { current = Some task }) all (law.starts task (item.Tasks state) k t is may (started_found s task k (λ u. record (scheduled i k t u) { list = working (encounter s i) u.list }) may.new may.live (λ u. refl) (λ u. refl)) (all i)))
+      (λ k t is may law. each_thread s i (record (s.threads i) { current = Some task }) all
+      (law.starts task (item.Tasks state) k t is may
+      (started_found s task k (λ u. record (scheduled i k t u) { list = working (encounter s i) u.list })
+      may.new may.live (λ u. refl) (λ u. refl)) (all i)))
   thread_effect s i (event.Start task) item.OneTask rule all =
       of_current s i (started_alone s i task) (of_law s i (event.Start task))
       (MayStart s task item.OneTask) rule
-      (λ k t is may law. each_thread s i (record (s.threads i) { current = Some task }) all (law.starts task item.OneTask k t is may (started_found s task k (scheduled i k t) may.new may.live (λ u. refl) (λ u. refl)) (all i)))
+      (λ k t is may law. each_thread s i (record (s.threads i) { current = Some task }) all
+      (law.starts task item.OneTask k t is may
+      (started_found s task k (scheduled i k t) may.new may.live (λ u. refl) (λ u. refl)) (all i)))
   thread_effect s i (event.Start task) y rule all = tt
   thread_effect s i (event.Finish task) y rule all =
       of_current s i (finished s i) (of_law s i (event.Finish task)) (MayFinish task) rule
@@ -197,13 +206,16 @@ module _ (p : Program) (R : ℕ → Thread → Type 0) where
   -- the move of the list of a thread without a task
   abbrev pub ListMoves : State → ℕ → Event → Type 0
   ListMoves s i e =
-      (y : Item) (ys : List Item) → (s.threads i).current ≡ None → take_item p (encounter s i) e (s.threads i).list ≡ Some (y, ys) → R i (s.threads i) → R i (record (s.threads i) { list = stays (encounter s i) e y ys })
+      (y : Item) (ys : List Item) → (s.threads i).current ≡ None
+      → take_item p (encounter s i) e (s.threads i).list ≡ Some (y, ys) → R i (s.threads i)
+      → R i (record (s.threads i) { list = stays (encounter s i) e y ys })
 
 -- the law of each thread over a step, from a fact of each thread before it
 pub thread_step_from : (p : Program) (P Q : ℕ → Thread → Type 0) (s : State) (i : ℕ) (e : Event) (next : State)
     → (m : IsMove p s i e next)
     →
-    ((s.threads i).current ≡ None → take_item p (encounter s i) e (s.threads i).list ≡ Some (m.item, m.behind) → P i (s.threads i) → Q i (record (s.threads i) { list = stays (encounter s i) e m.item m.behind }))
+    ((s.threads i).current ≡ None → take_item p (encounter s i) e (s.threads i).list ≡ Some (m.item, m.behind)
+    → P i (s.threads i) → Q i (record (s.threads i) { list = stays (encounter s i) e m.item m.behind }))
     → ((j : ℕ) → (j ≡ i → (s.threads i).current ≡ None → ⊥) → P j (s.threads j) → Q j (s.threads j))
     → (EachThread Q (moved_on s i e m.item m.behind) → IsThreadLaw p (moved_on s i e m.item m.behind) i e next Q) → EachThread P s → EachThread Q next
 thread_step_from p P Q s i e after_step m moves others law all =
@@ -211,7 +223,9 @@ thread_step_from p P Q s i e after_step m moves others law all =
     let middle : EachThread Q (with_list s i zs) = list_moves s i zs (EachThread Q)
     (λ k is j. others j (λ same none. none_some none is) (all j))
     (λ none j. each_put Q s.threads i (record (s.threads i) { list = zs })
-    (moves none (ap (take_item p (encounter s i) e) (sym (ap (λ (o : Option Tid). option_map_or (λ (u : Task). in_front u.frees u.list) (option_and_then (task_of s) o) (s.threads i).list) none)) ∙ m.taken) (all i))
+    (moves none (ap (take_item p (encounter s i) e)
+    (sym (ap (λ (o : Option Tid). option_map_or (λ (u : Task). in_front u.frees u.list)
+    (option_and_then (task_of s) o) (s.threads i).list) none)) ∙ m.taken) (all i))
     j (λ ne. others j (λ same. absurd (ne same)) (all j))) in
     from_some (of_law p Q (with_list s i zs) i e)
     (effect p (with_list s i zs) i e m.item) after_step m.effect_is

@@ -1,11 +1,12 @@
 -- No list has what may be given back as an item: it stands in front of the list alone.
-use Rattle.std.proofs.Common.{◌≡◌, ℕ, true, false, List, [], ◌∷◌, Option, Some, refl, sym, subst, ◌+◌}
+use Rattle.std.proofs.Common.{◌≡◌, ℕ, true, false, List, [], ◌∷◌, Option, Some, None, refl, sym, ap, ◌∙◌, subst, ◌+◌}
 use Rattle.omi_script.specs.Bodies.{body_of}
 use Rattle.omi_script.specs.declared.program.Program.{Program}
 use Rattle.omi_model.specs.declared.encounter.Encounter.{Encounter}
 use Rattle.omi_model.specs.declared.event.Event.{Event}
 use Rattle.omi_model.specs.declared.event.Event.TheVariants as event
 use Rattle.omi_model.specs.declared.freeable.Freeable.{Freeable}
+use Rattle.omi_model.specs.declared.freeable.Freeable.TheVariants as freeable
 use Rattle.omi_model.specs.declared.id.Tid.{Tid}
 use Rattle.omi_model.specs.declared.item.Item.{Item}
 use Rattle.omi_model.specs.declared.item.Item.TheVariants as item
@@ -19,10 +20,10 @@ use Rattle.omi_model.specs.Rows.{main_items, member_items}
 use Rattle.omi_model.specs.Shapes.{shape_of}
 use Rattle.omi_model.specs.State.{State}
 use Rattle.omi_model.proofs.EachObject.{EachTask, IsTaskLaw, over_events, task_step}
-use Rattle.omi_model.proofs.ListLaws.{by_taken, passes_front, take_fits, take_keeps}
+use Rattle.omi_model.proofs.ListLaws.{by_taken, may_pass, passes_front, take_fits, take_keeps, takes_joined}
 use Rattle.omi_model.proofs.OpeningObjects.{each_first_task}
 use Rattle.omi_model.proofs.RowLaws.{KeepsPlain, KeepsRows, barrier_keeps, critical_keeps, drop_keeps, last_keeps, main_keeps, member_keeps, row_keeps, shown_keeps, start_keeps, task_keeps}
-use Rattle.omi_model.proofs.Slots.{false_true}
+use Rattle.omi_model.proofs.Slots.{false_true, some_same}
 use Rattle.omi_model.proofs.Steps.{IsRelisted}
 
 abbrev pub HasNoFrees : List Item → Type 0
@@ -62,23 +63,48 @@ module _ (p : Program) where
       main_keeps HasNoFrees plain_frees p at
       (barrier_keeps p at HasNoFrees (rows at) _ (item.Done ∷ []) tt)
 
-  -- what an event takes off such a list it takes off what stands in front of it, too
+  -- what an event takes off such a list it takes behind what stands in front of it, too, where this may be passed over
   pub taken_behind : (at : Encounter) (e : Event) (f : Option Freeable) (xs : List Item) (y : Item) (ys : List Item)
-      → HasNoFrees xs → take_item p at e xs ≡ Some (y, ys) → take_item p at e (in_front f xs) ≡ Some (y, ys)
-  taken_behind at (event.FreeTask task) f xs y ys none taken =
+      → HasNoFrees xs → may_pass f ≡ true → take_item p at e xs ≡ Some (y, ys)
+      → take_item p at e (in_front f xs) ≡ Some (y, ys)
+  taken_behind at (event.FreeTask task) f xs y ys none may taken =
       absurd (of_frees y (take_fits p at (event.FreeTask task) xs y ys taken) (take_frees at (event.FreeTask task) xs y ys taken none))
     where
       of_frees : (z : Item) → fits (event.FreeTask task) z ≡ true → HasNoFrees (z ∷ ys) → ⊥
       of_frees (item.Frees n) fit h = h
       of_frees z fit h = false_true fit
-  taken_behind at (event.FreeRegion region) f xs y ys none taken =
+  taken_behind at (event.FreeRegion region) f xs y ys none may taken =
       absurd (of_frees y (take_fits p at (event.FreeRegion region) xs y ys taken) (take_frees at (event.FreeRegion region) xs y ys taken none))
     where
       of_frees : (z : Item) → fits (event.FreeRegion region) z ≡ true → HasNoFrees (z ∷ ys) → ⊥
       of_frees (item.Frees n) fit h = h
       of_frees z fit h = false_true fit
-  taken_behind at e f xs y ys none taken =
-      subst (λ o. o ≡ Some (y, ys)) (sym (passes_front p at e f xs refl)) taken
+  taken_behind at e f xs y ys none may taken =
+      subst (λ o. o ≡ Some (y, ys)) (sym (passes_front p at e f xs refl may)) taken
+
+  -- and where what it takes may be given back, this stood in front of the list
+  pub front_taken : (at : Encounter) (e : Event) (f : Option Freeable) (xs : List Item) (y : Item) (ys : List Item)
+      → HasNoFrees xs → take_item p at e (in_front f xs) ≡ Some (y, ys) → (g : Freeable) → y ≡ item.Frees g → f ≡ Some g
+  front_taken at e f xs y ys none taken g of = go f taken
+    where
+      behind : take_item p at e xs ≡ Some (y, ys) → ⊥
+      behind from = subst (λ z. HasNoFrees (z ∷ ys)) of (take_frees at e xs y ys from none)
+
+      same : (h : Freeable) → item.Frees h ≡ y → Some h ≡ Some g
+      same h is = let one : item.Frees h ≡ item.Frees g = is ∙ of in cc
+
+      finished : (task : Tid) (d : Event) → take_item p at d xs ≡ take_item p at e xs
+          → take_item p at d (item.Frees (freeable.Finished task) ∷ xs) ≡ Some (y, ys)
+          → Some (freeable.Finished task) ≡ Some g
+      finished task (event.FreeTask of) at_e is =
+          same (freeable.Finished task) (ap (λ (o : Item × List Item). o.0) (some_same refl is))
+      finished task d at_e is = absurd (behind (sym at_e ∙ is))
+
+      go : (o : Option Freeable) → take_item p at e (in_front o xs) ≡ Some (y, ys) → o ≡ Some g
+      go None is = absurd (behind is)
+      go (Some (freeable.Finished task)) is = finished task e refl is
+      go (Some (freeable.Joined n number)) is =
+          same (freeable.Joined n number) (sym (takes_joined p at e n number xs (y, ys) is).1)
 
 stays_frees : (at : Encounter) (e : Event) (y : Item) (ys : List Item) → HasNoFrees (y ∷ ys)
     → HasNoFrees (stays at e y ys)

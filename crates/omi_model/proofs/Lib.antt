@@ -15,7 +15,7 @@ pub mod NeededTasks
 pub mod FreesLists
 pub mod NamesKept
 pub mod TeamsMade
-pub mod NamesLive
+pub mod OpenNames
 pub mod MembersKnown
 pub mod LevelsCount
 pub mod NthreadsShortened
@@ -50,3 +50,5 @@ pub mod LockLists
 pub mod LocksHeld
 pub mod claims
 pub mod members
+pub mod freeing
+pub mod NamesLive

@@ -1,10 +1,11 @@
 -- Laws of to-do lists: what holds of a list holds of an event's item and what stands behind it.
-use Rattle.std.proofs.Common.{◌≡◌, Bool, true, false, List, [], ◌∷◌, Some, None, if◌then◌else◌, refl, subst, Option, sym, ap, ◌∙◌}
+use Rattle.std.proofs.Common.{◌≡◌, ℕ, Bool, true, false, List, [], ◌∷◌, Some, None, if◌then◌else◌, refl, subst, Option, sym, ap, ◌∙◌}
 use Rattle.omi_script.specs.declared.program.Program.{Program}
 use Rattle.omi_script.specs.declared.statement.Stmt.{Stmt}
 use Rattle.omi_model.specs.declared.encounter.Encounter.{Encounter}
 use Rattle.omi_model.specs.declared.event.Event.{Event}
 use Rattle.omi_model.specs.declared.event.Event.TheVariants as event
+use Rattle.omi_model.specs.declared.id.Rid.{Rid}
 use Rattle.omi_model.specs.declared.item.Item.{Item}
 use Rattle.omi_model.specs.declared.item.Item.TheVariants as item
 use Rattle.omi_model.specs.Lists.{fits, may_drop, opened, take_item}
@@ -12,6 +13,7 @@ use Rattle.omi_model.specs.Rows.{behind, first_of}
 use Rattle.omi_model.proofs.Slots.{none_some, some_same, false_true}
 use Rattle.omi_model.specs.Changes.{in_front}
 use Rattle.omi_model.specs.declared.freeable.Freeable.{Freeable}
+use Rattle.omi_model.specs.declared.freeable.Freeable.TheVariants as freeable
 use Rattle.omi_model.specs.LawStays.{is_free}
 
 -- a law of lists is kept where an item is passed over and where a statement is replaced by its row
@@ -60,34 +62,65 @@ take_fits p at e (x ∷ xs) y ys is = fit (take_fits p at e xs y ys) (fits e (op
 
 -- ---- in front of a list
 
+-- what stands in front of a list may be passed over
+abbrev pub may_pass : Option Freeable → Bool
+may_pass None = true
+may_pass (Some n) = may_drop (item.Frees n)
+
 -- an event takes its item of the list, or something is given back in front of it
 pub by_taken : (p : Program) (at : Encounter) (e : Event) (f : Option Freeable) (xs : List Item) (y : Item) (ys : List Item)
     (Z : Event → Item → List Item → Type 0) → take_item p at e (in_front f xs) ≡ Some (y, ys)
     → (take_item p at e xs ≡ Some (y, ys) → Z e y ys)
     → ((g : Event) (n : Freeable) → Z g (item.Frees n) xs) → Z e y ys
 by_taken p at e None xs y ys Z is from free = from is
-by_taken p at e (Some n) xs y ys Z is from free = of_event e refl is
+by_taken p at e (Some n) xs y ys Z is from free = of_event n e refl is
   where
-    front : Item × List Item
-    front = (item.Frees n, xs)
+    front : Freeable → Item × List Item
+    front m = (item.Frees m, xs)
 
-    given_back : Some front ≡ Some (y, ys) → Z e y ys
-    given_back f =
-        let same : front ≡ (y, ys) = some_same refl f in
-        subst (λ (o : Item × List Item). Z e o.0 o.1) same (free e n)
+    given_back : (m : Freeable) → Some (front m) ≡ Some (y, ys) → Z e y ys
+    given_back m f =
+        let same : front m ≡ (y, ys) = some_same refl f in
+        subst (λ (o : Item × List Item). Z e o.0 o.1) same (free e m)
 
-    of_event : (g : Event) → e ≡ g → take_item p at g (in_front (Some n) xs) ≡ Some (y, ys) → Z e y ys
-    of_event (event.FreeTask task) same f = given_back f
-    of_event (event.FreeRegion region) same f = given_back f
-    of_event g same f = from (ap (λ d. take_item p at d xs) same ∙ f)
+    of_event : (m : Freeable) (g : Event) → e ≡ g → take_item p at g (item.Frees m ∷ xs) ≡ Some (y, ys) → Z e y ys
+    of_event m (event.FreeTask task) same f = given_back m f
+    of_event (freeable.Joined region number) (event.FreeRegion of) same f =
+        given_back (freeable.Joined region number) f
+    of_event (freeable.Joined region number) g same f = absurd (none_some refl f)
+    of_event (freeable.Finished task) g same f = from (ap (λ d. take_item p at d xs) same ∙ f)
 
--- any other event passes it over
+-- any other event passes it over, where this may be
 pub passes_front : (p : Program) (at : Encounter) (e : Event) (f : Option Freeable) (xs : List Item) → is_free e ≡ false
-    → take_item p at e (in_front f xs) ≡ take_item p at e xs
-passes_front p at e None xs other = refl
-passes_front p at (event.FreeTask task) (Some n) xs other = absurd (false_true (sym other))
-passes_front p at (event.FreeRegion region) (Some n) xs other = absurd (false_true (sym other))
-passes_front p at e (Some n) xs other = refl
+    → may_pass f ≡ true → take_item p at e (in_front f xs) ≡ take_item p at e xs
+passes_front p at e None xs other may = refl
+passes_front p at e (Some (freeable.Joined region number)) xs other may = absurd (false_true may)
+passes_front p at (event.FreeTask task) (Some n) xs other may = absurd (false_true (sym other))
+passes_front p at (event.FreeRegion region) (Some n) xs other may = absurd (false_true (sym other))
+passes_front p at e (Some (freeable.Finished task)) xs other may = refl
+
+-- and takes nothing where it may not
+pub taken_may_pass : (p : Program) (at : Encounter) (e : Event) (f : Option Freeable) (xs : List Item) (x : Item × List Item)
+    → is_free e ≡ false → take_item p at e (in_front f xs) ≡ Some x → may_pass f ≡ true
+taken_may_pass p at e None xs x other is = refl
+taken_may_pass p at e (Some (freeable.Finished task)) xs x other is = refl
+taken_may_pass p at (event.FreeTask task) (Some n) xs x other is = absurd (false_true (sym other))
+taken_may_pass p at (event.FreeRegion region) (Some n) xs x other is = absurd (false_true (sym other))
+taken_may_pass p at e (Some (freeable.Joined region number)) xs x other is = absurd (none_some refl is)
+
+-- so it takes its item of the list itself
+pub taken_other : (p : Program) (at : Encounter) (e : Event) (f : Option Freeable) (xs : List Item) (x : Item × List Item)
+    → is_free e ≡ false → take_item p at e (in_front f xs) ≡ Some x → take_item p at e xs ≡ Some x
+taken_other p at e f xs x other is =
+    sym (passes_front p at e f xs other (taken_may_pass p at e f xs x other is)) ∙ is
+
+-- a region that is being given back is taken before all else
+pub takes_joined : (p : Program) (at : Encounter) (e : Event) (n : Rid) (number : ℕ) (xs : List Item) (x : Item × List Item)
+    → take_item p at e (item.Frees (freeable.Joined n number) ∷ xs) ≡ Some x
+    → (is_free e ≡ true) × (x.0 ≡ item.Frees (freeable.Joined n number))
+takes_joined p at (event.FreeTask task) n number xs x is = (refl, ap (λ (o : Item × List Item). o.0) (sym (some_same refl is)))
+takes_joined p at (event.FreeRegion region) n number xs x is = (refl, ap (λ (o : Item × List Item). o.0) (sym (some_same refl is)))
+takes_joined p at e n number xs x is = absurd (none_some refl is)
 
 -- an item that stands for what may be given back
 abbrev pub is_frees : Item → Bool

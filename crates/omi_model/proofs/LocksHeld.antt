@@ -38,7 +38,7 @@ use Rattle.omi_model.proofs.EachThread.{EachThread, of_lists, thread_step}
 use Rattle.omi_model.proofs.ListLaws.{take_fits, take_keeps, by_taken}
 use Rattle.omi_model.proofs.LockLists.{Gives, is_lock_event, main_back, member_back, start_back, stays_back, take_back, task_back}
 use Rattle.omi_model.proofs.members.ClosingItems.{lists_right}
-use Rattle.omi_model.proofs.NamesLive.{names_live}
+use Rattle.omi_model.proofs.OpenNames.{open_names}
 use Rattle.omi_model.proofs.NeededTasks.{needed_current}
 use Rattle.omi_model.proofs.OpeningObjects.{each_first_task, each_first_thread}
 use Rattle.omi_model.proofs.ReachedStates.{over_reached}
@@ -289,7 +289,7 @@ module _ (k : ℕ) (p : Program) (events : List (ℕ × Event)) (s : State) (rea
           absurd
           (locked (no_take p (encounter s i) e (s.threads i).list m.item m.behind (ap (take_item p (encounter s i) e) (sym list) ∙ m.taken) (idle i)))
       go (Some n) name =
-          let (t, live, un) = (names_live p events s reached).currents i n name in
+          let (t, live, un) = (open_names p events s reached).currents i n name in
           let current : IsCurrent s i n t = record { name = name; live = live } in (n, t, current)
 
   gone_lock : (l w : ℕ) → m.item ≡ item.Lock l → Gives k w (m.item ∷ m.behind)

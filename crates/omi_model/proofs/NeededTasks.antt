@@ -1,12 +1,12 @@
 -- Tasks that no event takes away: the current tasks, those that a live task names, and those that encountered a region that is not joined.
-use Rattle.std.proofs.Common.{◌≡◌, ◌⊎◌, inl, inr, ℕ, false, List, Some, sym, ap, ◌∙◌}
+use Rattle.std.proofs.Common.{◌≡◌, ◌⊎◌, inl, inr, ℕ, false, List, slice_get, Some, sym, ap, ◌∙◌}
 use Rattle.omi_script.specs.declared.program.Program.{Program}
 use Rattle.omi_model.specs.declared.event.Event.{Event}
 use Rattle.omi_model.specs.declared.id.Rid.{Rid}
 use Rattle.omi_model.specs.declared.id.Tid.{Tid}
 use Rattle.omi_model.specs.declared.region.Region.{Region}
 use Rattle.omi_model.specs.declared.task.Task.{Task}
-use Rattle.omi_model.specs.LawNames.{IsMemberTask, NamesOfRegion}
+use Rattle.omi_model.specs.LawNames.{IsMemberTask}
 use Rattle.omi_model.specs.LawStays.{IsNeeded}
 use Rattle.omi_model.specs.Reached.{Reached}
 use Rattle.omi_model.specs.State.{State, region_of, task_of}
@@ -33,12 +33,13 @@ module _ (p : Program) (events : List (ℕ × Event)) (s : State) (reached : Rea
           inl (ap (λ (x : Task). x.implicit) one ∙ im, inr (inl (k, t, live, ex, here)))
 
   -- the task that encountered a region that is not joined: member 0 was made by it
-  pub needed_encountering : (n : Rid) (r : Region) → region_of s n ≡ Some r → r.joined ≡ false → NamesOfRegion s n r
+  pub needed_encountering : (n : Rid) (r : Region) → region_of s n ≡ Some r
+      → ((j : ℕ) (m : Tid × ℕ) → slice_get r.team j ≡ Some m → IsMemberTask s n j m)
       → (k : Tid) (t : Task) → r.encountering ≡ Some k → IsNeeded s k t
-  needed_encountering n r found unjoined names k t is =
+  needed_encountering n r found team k t is =
       let some = ((members_known p events s reached).regions n r found).some in
       let (a, at) = first_at r.team some in
-      go a (names.team unjoined 0 a at)
+      go a (team 0 a at)
     where
       go : (a : Tid × ℕ) → IsMemberTask s n 0 a → IsNeeded s k t
       go a member =

@@ -1,4 +1,4 @@
--- Past the last release of a region each explicit task of it is finished.
+-- Past the last release of a region no explicit task of it lives.
 use Rattle.std.proofs.Common.{◌≡◌, ◌⊎◌, inl, inr, ℕ, ◌+◌, ◌<◌, ◌≤◌, Bool, true, false, List, [], ◌∷◌, ◌++◌, slice_index, Some, refl, sym, ap, ◌∙◌, subst, arith}
 use Rattle.omi_script.specs.declared.program.Program.{Program}
 use Rattle.omi_model.specs.declared.event.Event.{Event}
@@ -8,10 +8,9 @@ use Rattle.omi_model.specs.declared.id.Rid.{Rid}
 use Rattle.omi_model.specs.declared.id.Tid.{Tid}
 use Rattle.omi_model.specs.declared.item.Item.{Item}
 use Rattle.omi_model.specs.declared.item.Item.TheVariants as item
-use Rattle.omi_model.specs.declared.progress.Progress.TheVariants.{Begun, Deferred, Finished, NotBegun}
 use Rattle.omi_model.specs.declared.region.Region.{Region}
 use Rattle.omi_model.specs.declared.task.Task.{Task}
-use Rattle.omi_model.specs.Barriers.{AreFinished}
+use Rattle.omi_model.specs.Barriers.{HasNoExplicit}
 use Rattle.omi_model.specs.Changes.{IsCurrent, ahead_of, encounter}
 use Rattle.omi_model.specs.LawEnds.{IsLast}
 use Rattle.omi_model.specs.LawStays.{Stays, is_free}
@@ -24,12 +23,11 @@ use Rattle.omi_model.proofs.BarrierCounts.{barriers_of, counted}
 use Rattle.omi_model.proofs.BarrierLaw.{Stands, near, number_met, placed}
 use Rattle.omi_model.proofs.BarrierOrder.{IsReady, Outside, Phase, Released, Waiting, Wrong, is_barrier_event, is_outside, left, order, take_ready}
 use Rattle.omi_model.proofs.BarrierSteps.{Changes, IsUntouched, region_changed}
-use Rattle.omi_model.proofs.ChainsKept.{current_begun}
 use Rattle.omi_model.proofs.Covered.{Covers, HasBehind, main_covers, member_covers, stays_covers, take_covers}
 use Rattle.omi_model.proofs.EachObject.{EachTask, IsTaskLaw, ahead_of_current, over_events, task_step, task_step_from}
 use Rattle.omi_model.proofs.LastItems.{Closes, main_closes, member_closes, start_closes, stays_closes, take_closes, task_closes}
-use Rattle.omi_model.proofs.ListLaws.{take_fits, by_taken, is_frees, passes_front, taken_plain}
-use Rattle.omi_model.proofs.NamesLive.{names_live}
+use Rattle.omi_model.proofs.ListLaws.{by_taken, is_frees, take_fits, taken_other, taken_plain}
+use Rattle.omi_model.proofs.OpenNames.{open_names}
 use Rattle.omi_model.proofs.OpeningObjects.{each_first_task}
 use Rattle.omi_model.proofs.ReachedStates.{over_reached}
 use Rattle.omi_model.proofs.Slots.{false_true, found_live, same_or_not, some_same}
@@ -76,10 +74,9 @@ covered p events s reached =
 abbrev IsRested : Program → Region → Type 0
 IsRested p r = barriers_of p r.function + 1 ≤ r.released
 
--- an explicit task of such a region is finished
+-- a task of such a region is none of its explicit ones
 abbrev Rests : Program → State → Tid → Task → Type 0
-Rests p s k t =
-    t.implicit ≡ false → (r : Region) → region_of s t.region ≡ Some r → IsRested p r → t.progress ≡ Finished
+Rests p s k t = t.implicit ≡ false → (r : Region) → region_of s t.region ≡ Some r → IsRested p r → ⊥
 
 defers_only : (e : Event) (seen f : ℕ) (final : Bool) → fits e (item.Defer seen f final) ≡ true
     → is_barrier_event e ≡ false
@@ -101,14 +98,14 @@ untouched_by s i event.Arrive n r q other change = absurd (false_true (sym other
 untouched_by s i event.Release n r q other change = absurd (false_true (sym other))
 untouched_by s i e n r q other change = change
 
--- the released barriers are as they were, or it was a release and each explicit task of the region is finished
+-- the released barriers are as they were, or it was a release and no explicit task of the region lives
 raised_by : (s : State) (i : ℕ) (e : Event) (y : Item) → Rule s i e y → (n : Rid) (r q : Region)
-    → Changes s i e n r q → (q.released ≡ r.released) ⊎ AreFinished s n
+    → Changes s i e n r q → (q.released ≡ r.released) ⊎ HasNoExplicit s n
 raised_by s i event.Arrive y (k, t, r0, is, found, im) n r q change = inl (change k t is).2
 raised_by s i event.Release y (k, t, r0, is, found, may) n r q change = go (same_or_not t.region.0 n.0)
   where
-    go : (t.region.0 ≡ n.0) ⊎ (t.region.0 ≡ n.0 → ⊥) → (q.released ≡ r.released) ⊎ AreFinished s n
-    go (inl same) = inr (subst (AreFinished s) (ap (λ (a : Id). record { 0 = a }) same) may.finished)
+    go : (t.region.0 ≡ n.0) ⊎ (t.region.0 ≡ n.0 → ⊥) → (q.released ≡ r.released) ⊎ HasNoExplicit s n
+    go (inl same) = inr (subst (HasNoExplicit s) (ap (λ (a : Id). record { 0 = a }) same) may.alone)
     go (inr other) = inl ((change k t is).1 (λ h. other (ap (λ (a : Rid). a.0) h)))
 raised_by s i e y rule n r q change = inl change.1
 
@@ -142,9 +139,6 @@ module _ (p : Program) (events : List (ℕ × Event)) (s : State) (reached : Rea
           taken_plain p (encounter s i) e t.frees t.list m.item m.behind makes
           (ap (take_item p (encounter s i) e) (sym (ahead_of_current s i k t is)) ∙ m.taken)
 
-      begun_finished : Begun ≡ Finished → ⊥
-      begun_finished h = cc
-
       go : (kind : Bool) → t.implicit ≡ kind → ⊥
       go true im =
           let (r, found, member) = ((placed p events s reached).places k t is.live).0 im in
@@ -164,14 +158,13 @@ module _ (p : Program) (events : List (ℕ × Event)) (s : State) (reached : Rea
           let last : barriers_of p q.function + 1 ≤ q.released = rested in
           omega arith
       go false ex =
-          let (r, found) = ((names_live p events s reached).tasks k t is.live).region in
+          let (r, found) = ((open_names p events s reached).tasks k t is.live).region in
           let (change, function) = was t.region q r found found_q in
           let released : q.released ≡ r.released = (untouched_by s i e t.region r q plain change).1 in
           let same : barriers_of p q.function ≡ barriers_of p r.function = ap (barriers_of p) function in
           let now : barriers_of p q.function + 1 ≤ q.released = rested in
           let last : barriers_of p r.function + 1 ≤ r.released = omega (arith, same, now, released) in
-          begun_finished
-          (sym (current_begun p events s reached i k t is.name is.live).0 ∙ all k t is.live ex r found last)
+          all k t is.live ex r found last
 
   -- a fact of the current task in the middle, by the state before
   current_before : (k : Tid) (t : Task) → IsCurrent middle i k t
@@ -204,42 +197,36 @@ module _ (p : Program) (events : List (ℕ × Event)) (s : State) (reached : Rea
       no_new k t is (item.Defer seen f final) of (λ h. h) refl
       (defers_only e seen f final (fits_item (item.Defer seen f final) of))
 
-  waiting_finished : (t : Task) → t.progress ≡ NotBegun → t.progress ≡ Finished → ⊥
-  waiting_finished t a b = cc
-
-  deferred_finished : (t : Task) → t.progress ≡ Deferred → t.progress ≡ Finished → ⊥
-  deferred_finished t a b = cc
-
   rest_law : EachTask (Rests p next) middle → IsTaskLaw p middle i e m.item next (Rests p next)
   rest_law of_tasks = record {
     frees = λ k t free how q. q;
     shows = λ k t x q. q;
     tools = λ k t x q. q;
     sets = λ k t icv value v f at_set q. q;
-    begins = λ k t waits mine by q ex r found rested. absurd (waiting_finished t waits (q ex r found rested));
-    finishes = λ k t is over q ex r found rested. refl;
-    starts = λ k u j t x is live ex de may of by q ex' r found rested. absurd (deferred_finished u de (q ex' r found rested));
+    begins = λ k t waits mine by q. q;
+    finishes = λ k t is over q. q;
+    starts = λ k u j t x is live ex de may of by q. q;
     members = λ region team f k t r is found may new of by j n at ex. absurd (false_true (sym ex));
     deferred = λ task f final seen k t is of fresh ex r found rested.
-        absurd (no_new k t is (item.Defer seen f final) of (λ h. h) refl (defers_only e seen f final (fits_item (item.Defer seen f final) of)) r found rested);
-    made = λ task f final k t is of fresh by ex r found rested. absurd (no_new_now k t is f final of r found rested);
+        no_new k t is (item.Defer seen f final) of (λ h. h) refl (defers_only e seen f final (fits_item (item.Defer seen f final) of)) r found rested;
+    made = λ task f final k t is of fresh by ex r found rested. no_new_now k t is f final of r found rested;
   }
 
   -- a task that was there
   still : (k : Tid) (t : Task) → task_of s k ≡ Some t → Rests p s k t → Rests p next k t
   still k t live h ex q found_q rested =
-      let (r, found) = ((names_live p events s reached).tasks k t live).region in
+      let (r, found) = ((open_names p events s reached).tasks k t live).region in
       let (change, function) = was t.region q r found found_q in
       go r found function (raised_by s i e m.item m.rule t.region r q change)
     where
       go : (r : Region) → region_of s t.region ≡ Some r → q.function ≡ r.function
-          → (q.released ≡ r.released) ⊎ AreFinished s t.region → t.progress ≡ Finished
+          → (q.released ≡ r.released) ⊎ HasNoExplicit s t.region → ⊥
       go r found function (inl same) =
           let all_of : barriers_of p q.function ≡ barriers_of p r.function = ap (barriers_of p) function in
           let now : barriers_of p q.function + 1 ≤ q.released = rested in
           h ex r found (omega (arith, all_of, now, same))
-      go r found function (inr finished) =
-          finished k.0.creator k.0.slot t
+      go r found function (inr alone) =
+          alone k.0.creator k.0.slot t
           (found_live k.0.generation (s.tasks k.0.creator k.0.slot) t live) ex refl
 
   pub rests_step : EachTask (Rests p next) next
@@ -359,8 +346,8 @@ pub last_rested : (p : Program) (events : List (ℕ × Event)) (s : State) → R
 last_rested p events s reached i e k t last legal is =
     let at = encounter s i in
     let taken : take_item p at e t.list ≡ Some (legal.item, legal.behind) =
-    sym (passes_front p at e t.frees t.list (last_other e last))
-    ∙ (ap (take_item p at e) (sym (ahead_of_current s i k t is)) ∙ legal.taken) in
+    taken_other p at e t.frees t.list (legal.item, legal.behind) (last_other e last)
+    (ap (take_item p at e) (sym (ahead_of_current s i k t is)) ∙ legal.taken) in
     let fit = take_fits p at e t.list legal.item legal.behind taken in
     let h : Closes (MayClose t.implicit) (legal.item ∷ legal.behind) =
     take_closes (MayClose t.implicit) p at e t.list legal.item legal.behind taken
@@ -382,11 +369,11 @@ last_rested p events s reached i e k t last legal is =
 pub regions_end : (p : Program) (events more : List (ℕ × Event)) (s u : State) → Reached p events s
     → (i : ℕ) (e : Event) (k : Tid) (t : Task) → IsLast e → Legal p s i e → IsCurrent s i k t
     → Leads p s more u
-    → (n : Tid) (v : Task) → task_of u n ≡ Some v → v.implicit ≡ false → v.region ≡ t.region → v.progress ≡ Finished
+    → (n : Tid) (v : Task) → task_of u n ≡ Some v → v.implicit ≡ false → v.region ≡ t.region → ⊥
 regions_end p events more s u reached i e k t last legal is leads n v live ex region =
     let (r, found, stood) = last_rested p events s reached i e k t last legal is in
     let reached_u : Reached p (events ++ more) u = leads_append p (opening p) events s more u reached leads in
-    let (q, found_q) = ((names_live p (events ++ more) u reached_u).tasks n v live).region in
+    let (q, found_q) = ((open_names p (events ++ more) u reached_u).tasks n v live).region in
     let same = (stays_leads p s more u leads).alike_regions t.region r q found (ap (region_of u) (sym region) ∙ found_q) in
     let function : barriers_of p q.function ≡ barriers_of p r.function = ap (barriers_of p) same.function in
     let rested : barriers_of p q.function + 1 ≤ q.released = omega (arith, function, same.released, stood) in

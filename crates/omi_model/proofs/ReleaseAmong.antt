@@ -12,7 +12,7 @@ use Rattle.omi_model.specs.declared.item.Item.{Item}
 use Rattle.omi_model.specs.declared.progress.Progress.TheVariants.{Deferred}
 use Rattle.omi_model.specs.declared.region.Region.{Region}
 use Rattle.omi_model.specs.declared.task.Task.{Task}
-use Rattle.omi_model.specs.Barriers.{AreFinished}
+use Rattle.omi_model.specs.Barriers.{HasNoExplicit}
 use Rattle.omi_model.specs.Changes.{IsCurrent}
 use Rattle.omi_model.specs.LawBarriers.{IsReleaseAmong}
 use Rattle.omi_model.specs.LawStays.{StaysOver}
@@ -22,7 +22,7 @@ use Rattle.omi_model.specs.State.{State, region_of, task_of}
 use Rattle.omi_model.proofs.BarrierLaw.{near, placed}
 use Rattle.omi_model.proofs.BarrierSteps.{Changes, region_changed}
 use Rattle.omi_model.proofs.NamesKept.{made_later, made_live, names_kept}
-use Rattle.omi_model.proofs.NamesLive.{names_live}
+use Rattle.omi_model.proofs.OpenNames.{open_names}
 use Rattle.omi_model.proofs.Slots.{same_or_not, some_same}
 use Rattle.omi_model.proofs.StaysKept.{needed_region, stays_step}
 use Rattle.omi_model.proofs.StaysLater.{leads_kept, stays_leads}
@@ -44,7 +44,7 @@ pub undeferred : (p : Program) (events : List (ℕ × Event)) (s : State) → Re
     → (k : Tid) (t : Task) → task_of s k ≡ Some t → t.implicit ≡ true → t.progress ≡ Deferred → ⊥
 undeferred p events s reached k t live im is =
     let (r, found, at) = (placed p events s reached).members.tasks k t live im in
-    let m = ((names_live p events s reached).regions t.region r found).members t.number (k, t.thread) at t live in
+    let m = ((open_names p events s reached).regions t.region r found).members t.number (k, t.thread) at t live in
     let one : m.task ≡ t = some_same m.live live in
     m.undeferred (ap (λ (x : Task). x.progress) one ∙ is)
 
@@ -69,7 +69,7 @@ module _ (p : Program) (n : Rid) where
             middle = s;
             leads = refl;
             legal = step.legal;
-            full = (k, t, r0, is, found, (region, may.first, may.arrived, subst (λ m. AreFinished s m) region may.finished));
+            full = (k, t, r0, is, found, (region, may.first, may.arrived, subst (λ m. HasNoExplicit s m) region may.alone));
           })
       go (inr other) = inl ((change k t is).1 (λ h. other (ap (λ (a : Rid). a.0) h)))
   raises s i e next step y rule r q change known xs = inl change.1

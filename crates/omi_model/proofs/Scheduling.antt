@@ -6,6 +6,7 @@ use Rattle.omi_script.specs.declared.statement.Stmt.TheVariants as stmt
 use Rattle.omi_model.specs.declared.encounter.Encounter.{Encounter}
 use Rattle.omi_model.specs.declared.event.Event.{Event}
 use Rattle.omi_model.specs.declared.event.Event.TheVariants as event
+use Rattle.omi_model.specs.declared.freeable.Freeable.TheVariants as freeable
 use Rattle.omi_model.specs.declared.id.Tid.{Tid}
 use Rattle.omi_model.specs.declared.item.Item.{Item}
 use Rattle.omi_model.specs.declared.item.Item.TheVariants as item
@@ -28,7 +29,7 @@ use Rattle.omi_model.proofs.OpeningObjects.{each_first_task}
 use Rattle.omi_model.proofs.Slots.{false_true, none_some, some_same}
 use Rattle.omi_model.proofs.Steps.{IsRelisted}
 use Rattle.omi_model.proofs.WaitLists.{Waits, main_waits, member_waits, start_waits, stays_waits, take_waits, task_waits}
-use Rattle.omi_model.proofs.ListLaws.{by_taken, passes_front}
+use Rattle.omi_model.proofs.ListLaws.{by_taken, taken_other}
 
 abbrev TaskWaits : Tid → Task → Type 0
 TaskWaits k t = Waits t.list
@@ -99,7 +100,7 @@ module _ (p : Program) (at : Encounter) (task : Tid) (state : ℕ) (ys : List It
   drop_passes item.Asks xs may h = h
   drop_passes (item.Tasks w) xs may h = h
   drop_passes item.OneTask xs may h = h
-  drop_passes (item.Frees n) xs may h = h
+  drop_passes (item.Frees (freeable.Finished n)) xs may h = h
   drop_passes x xs may h = absurd (false_true may)
 
   passes_back : (xs : List Item) → take_item p at (event.Start task) xs ≡ Some (item.Tasks state, ys)
@@ -168,8 +169,8 @@ module _ (p : Program) (events : List (ℕ × Event)) (s : State) (reached : Rea
       subst (λ (a : Tid). MayStartAt legal.item a t u) one_name
       (subst (λ (x : Task). MayStartAt legal.item k0 x u) one (subst (MayStartAt legal.item k0 t0) new may.allowed)) in
       at_item legal.item legal.behind k t u i task
-      (sym (passes_front p (encounter s i) (event.Start task) t.frees t.list refl)
-      ∙ (ap (take_item p (encounter s i) (event.Start task)) (sym (ahead_of_current s i k t is)) ∙ legal.taken)) is.live allowed
+      (taken_other p (encounter s i) (event.Start task) t.frees t.list (legal.item, legal.behind) refl
+      (ap (take_item p (encounter s i) (event.Start task)) (sym (ahead_of_current s i k t is)) ∙ legal.taken)) is.live allowed
 
 pub starts_are_constrained : (p : Program) (events : List (ℕ × Event)) (s : State) → Reached p events s
     → (i : ℕ) (task k : Tid) (t u : Task) → Legal p s i (event.Start task) → IsCurrent s i k t

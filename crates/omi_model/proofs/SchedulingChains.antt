@@ -9,7 +9,7 @@ use Rattle.omi_model.specs.declared.progress.Progress.{Progress}
 use Rattle.omi_model.specs.declared.progress.Progress.TheVariants.{Begun, Deferred, NotBegun}
 use Rattle.omi_model.specs.declared.task.Task.{Task}
 use Rattle.omi_model.specs.Changes.{IsCurrent}
-use Rattle.omi_model.specs.LawNames.{AreNamesLive, IsLiveTask}
+use Rattle.omi_model.specs.LawNames.{IsLiveTask}
 use Rattle.omi_model.specs.LawScheduling.{IsScheduled, IsScheduledRightly}
 use Rattle.omi_model.specs.LawStays.{IsNeeded, Stays}
 use Rattle.omi_model.specs.Opening.{opening}
@@ -19,7 +19,7 @@ use Rattle.omi_model.specs.Tasking.{MayStartAt}
 use Rattle.omi_model.specs.WellFormed.{Ends, along}
 use Rattle.omi_model.proofs.ChainsKept.{current_begun}
 use Rattle.omi_model.proofs.EachObject.{EachTask, IsTaskLaw, task_step_from, stays_after}
-use Rattle.omi_model.proofs.NamesLive.{names_live}
+use Rattle.omi_model.proofs.OpenNames.{AreOpenNamesLive, open_names}
 use Rattle.omi_model.proofs.NeededTasks.{needed_scheduling}
 use Rattle.omi_model.proofs.OpeningObjects.{each_first_task}
 use Rattle.omi_model.proofs.ReachedStates.{over_reached}
@@ -35,8 +35,8 @@ begun_not_deferred q a b = cc
 
 module _ (p : Program) (events : List (ℕ × Event)) (s : State) (reached : Reached p events s) (u : State)
     (stay : Stays s u) where
-  names : AreNamesLive s
-  names = names_live p events s reached
+  names : AreOpenNamesLive s
+  names = open_names p events s reached
 
   pub chain_stays : (m : ℕ) (o : Option Tid) → ((k : Tid) → o ≡ Some k → IsLiveTask s k)
       → ((k : Tid) (t : Task) → o ≡ Some k → task_of s k ≡ Some t → IsNeeded s k t)

@@ -40,7 +40,18 @@ use Rattle.omi_model.proofs.Steps.{from_some, is_relisted, list_moves, move_of, 
 -- ---- one object
 
 pub same_task : (t : Task) → IsSameTask t t
-same_task t = record { implicit = refl; region = refl; generating = refl; function = refl; is_final = refl; stage = omega arith; started = λ h. h; thread = λ h. refl; number = λ h. refl; scheduling = λ h. refl }
+same_task t = record {
+  implicit = refl;
+  region = refl;
+  generating = refl;
+  function = refl;
+  is_final = refl;
+  stage = omega arith;
+  started = λ h. h;
+  thread = λ h. refl;
+  number = λ h. refl;
+  scheduling = λ h. refl;
+}
 
 pub same_task_trans : (t u v : Task) → IsSameTask t u → IsSameTask u v → IsSameTask t v
 same_task_trans t u v a b = record {
@@ -57,7 +68,19 @@ same_task_trans t u v a b = record {
 }
 
 pub same_region : (r : Region) → IsSameRegion r r
-same_region r = record { enclosing = refl; encountering = refl; team = refl; function = refl; levels = refl; active = refl; members = refl; arrivals = λ j. omega arith; released = omega arith; ended = λ j h. h; joined = λ h. h }
+same_region r = record {
+  enclosing = refl;
+  encountering = refl;
+  team = refl;
+  function = refl;
+  levels = refl;
+  active = refl;
+  members = refl;
+  arrivals = λ j. omega arith;
+  released = omega arith;
+  ended = λ j h. h;
+  joined = λ h. h;
+}
 
 pub same_region_trans : (r q w : Region) → IsSameRegion r q → IsSameRegion q w → IsSameRegion r w
 same_region_trans r q w a b = record {
@@ -220,7 +243,18 @@ stage_most Finished = omega arith
 
 other_task : (t : Task) (enter tool : ℕ) (v : Variables) (zs : List Item) (next : Option Freeable)
     → IsSameTask t (record t { enter = enter; tool = tool; variables = v; list = zs; frees = next })
-other_task t enter tool v zs next = record { implicit = refl; region = refl; generating = refl; function = refl; is_final = refl; stage = omega arith; started = λ h. h; thread = λ h. refl; number = λ h. refl; scheduling = λ h. refl }
+other_task t enter tool v zs next = record {
+  implicit = refl;
+  region = refl;
+  generating = refl;
+  function = refl;
+  is_final = refl;
+  stage = omega arith;
+  started = λ h. h;
+  thread = λ h. refl;
+  number = λ h. refl;
+  scheduling = λ h. refl;
+}
 
 begun_task : (t : Task) → t.progress ≡ NotBegun → IsSameTask t (record t { progress = Begun })
 begun_task t is = record {
@@ -282,13 +316,49 @@ arrived_region r n = record {
 }
 
 released_region : (r : Region) → IsSameRegion r (record r { released = r.released + 1 })
-released_region r = record { enclosing = refl; encountering = refl; team = refl; function = refl; levels = refl; active = refl; members = refl; arrivals = λ j. omega arith; released = omega arith; ended = λ j h. h; joined = λ h. h }
+released_region r = record {
+  enclosing = refl;
+  encountering = refl;
+  team = refl;
+  function = refl;
+  levels = refl;
+  active = refl;
+  members = refl;
+  arrivals = λ j. omega arith;
+  released = omega arith;
+  ended = λ j h. h;
+  joined = λ h. h;
+}
 
 ended_region : (r : Region) (n : ℕ) → IsSameRegion r (record r { ended = slice_set r.ended n true })
-ended_region r n = record { enclosing = refl; encountering = refl; team = refl; function = refl; levels = refl; active = refl; members = refl; arrivals = λ j. omega arith; released = omega arith; ended = set_true r.ended n; joined = λ h. h }
+ended_region r n = record {
+  enclosing = refl;
+  encountering = refl;
+  team = refl;
+  function = refl;
+  levels = refl;
+  active = refl;
+  members = refl;
+  arrivals = λ j. omega arith;
+  released = omega arith;
+  ended = set_true r.ended n;
+  joined = λ h. h;
+}
 
 joined_region : (r : Region) → IsSameRegion r (record r { joined = true })
-joined_region r = record { enclosing = refl; encountering = refl; team = refl; function = refl; levels = refl; active = refl; members = refl; arrivals = λ j. omega arith; released = omega arith; ended = λ j h. h; joined = λ h. refl }
+joined_region r = record {
+  enclosing = refl;
+  encountering = refl;
+  team = refl;
+  function = refl;
+  levels = refl;
+  active = refl;
+  members = refl;
+  arrivals = λ j. omega arith;
+  released = omega arith;
+  ended = λ j h. h;
+  joined = λ h. refl;
+}
 
 -- ---- events
 
@@ -369,7 +439,10 @@ keeps_effect p s i event.Release y other rule =
 keeps_effect p s i (event.ImplicitEnd task) y other rule =
     of_current_region s i (task_ended s i) (KeepsAll s) _ rule
     (λ k t r is found h. let first : State = on_task s k (λ u. record u { progress = Finished }) in
-    keeps_current s _ i None (keeps_trans s first _ (keeps_setting s k (λ u. record u { progress = Finished }) finished_task) (keeps_region first t.region (λ q. record q { ended = slice_set q.ended t.number true }) (λ q e. ended_region q t.number))))
+    keeps_current s _ i None (keeps_trans s first _
+    (keeps_setting s k (λ u. record u { progress = Finished }) finished_task)
+    (keeps_region first t.region (λ q. record q { ended = slice_set q.ended t.number true })
+    (λ q e. ended_region q t.number))))
 keeps_effect p s i (event.Join region) y other rule =
     of_region s i (joined s i) (KeepsAll s) _ rule
     (λ k t r is found h. let first : State = on_task s k (λ u. record u { progress = Finished }) in
@@ -393,10 +466,16 @@ keeps_effect p s i (event.StartNow task) (item.StartNow f final) other rule =
 keeps_effect p s i (event.StartNow task) y other rule = tt
 keeps_effect p s i (event.Start task) (item.Tasks state) other rule =
     of_current s i (started s i task) (KeepsAll s) _ rule
-    (λ k t is may. keeps_current s _ i (Some task) (keeps_task s task (λ u. record (scheduled i k t u) { list = working (encounter s i) u.list }) (λ u e. let same : may.new ≡ u = some_same may.live e in started_task i k t u (working (encounter s i) u.list) (ap (λ (x : Task). x.progress) (sym same) ∙ may.deferred))))
+    (λ k t is may. keeps_current s _ i (Some task)
+    (keeps_task s task (λ u. record (scheduled i k t u) { list = working (encounter s i) u.list })
+    (λ u e. let same : may.new ≡ u = some_same may.live e in started_task i k t u
+    (working (encounter s i) u.list) (ap (λ (x : Task). x.progress) (sym same) ∙ may.deferred))))
 keeps_effect p s i (event.Start task) item.OneTask other rule =
     of_current s i (started_alone s i task) (KeepsAll s) _ rule
-    (λ k t is may. keeps_current s _ i (Some task) (keeps_task s task (scheduled i k t) (λ u e. let same : may.new ≡ u = some_same may.live e in started_task i k t u u.list (ap (λ (x : Task). x.progress) (sym same) ∙ may.deferred))))
+    (λ k t is may. keeps_current s _ i (Some task)
+    (keeps_task s task (scheduled i k t)
+    (λ u e. let same : may.new ≡ u = some_same may.live e in started_task i k t u u.list
+    (ap (λ (x : Task). x.progress) (sym same) ∙ may.deferred))))
 keeps_effect p s i (event.Start task) y other rule = tt
 keeps_effect p s i (event.Finish task) y other rule =
     of_current s i (finished s i) (KeepsAll s) _ rule

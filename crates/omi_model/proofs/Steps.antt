@@ -19,7 +19,7 @@ use Rattle.omi_model.specs.declared.slot.Slot.{Slot}
 use Rattle.omi_model.specs.declared.task.Task.{Task}
 use Rattle.omi_model.specs.declared.task.Variables.{Variables}
 use Rattle.omi_model.specs.declared.thread.Thread.{Thread}
-use Rattle.omi_model.specs.Barriers.{AreFinished}
+use Rattle.omi_model.specs.Barriers.{HasNoExplicit}
 use Rattle.omi_model.specs.Changes.{IsCurrent, OfCurrent, OfCurrentRegion, ahead_of, by_current, by_region, encounter, on_task, on_thread, with_list}
 use Rattle.omi_model.specs.Freeing.{IsOver, IsSpent, MayFree, MayFreeMember, MayFreeRegion}
 use Rattle.omi_model.specs.Fresh.{IsFresh}
@@ -173,11 +173,6 @@ module _ (s : State) (i : ℕ) (k0 : Tid) (is_current : (s.threads i).current �
     distinct = may.distinct;
   }
 
-  finished_moved : (n : Rid) → AreFinished s n → AreFinished next n
-  finished_moved n all c j t live =
-      on_live s.tasks k0.0 (relisted zs) (λ u. u.implicit ≡ false → u.region ≡ n → u.progress ≡ Finished)
-      (λ x h. h) c j (all c j) t live
-
   children_moved : (k : Tid) → AreChildrenFinished s k → AreChildrenFinished next k
   children_moved k all c j t live =
       on_live s.tasks k0.0 (relisted zs)
@@ -263,6 +258,11 @@ module _ (s : State) (i : ℕ) (k0 : Tid) (is_current : (s.threads i).current �
   none_moved P same none c j u found =
       on_live s.tasks k0.0 (relisted zs) (λ x. P x → ⊥) (λ x h q. h (same x q)) c j (none c j) u found
 
+  alone_moved : (n : Rid) → HasNoExplicit s n → HasNoExplicit next n
+  alone_moved n none c j u live ex of =
+      none_moved (λ x. (x.implicit ≡ false) × (x.region ≡ n)) (λ x h. h)
+      (λ d h x found q. none d h x found q.0 q.1) c j u live (ex, of)
+
   spent_moved : (task : Tid) (old : Task) → IsSpent s task old
       → (v : Task) × IsSpent next task v × (xs : Option Freeable × List Item) × (v ≡ relisted_to xs old)
   spent_moved task old spent =
@@ -283,7 +283,7 @@ module _ (s : State) (i : ℕ) (k0 : Tid) (is_current : (s.threads i).current �
   over_moved n r over = record {
     live = over.live;
     joined = over.joined;
-    alone = λ c j u found ex of. none_moved (λ x. (x.implicit ≡ false) × (x.region ≡ n)) (λ x h. h) (λ d h x live q. over.alone d h x live q.0 q.1) c j u found (ex, of);
+    alone = alone_moved n over.alone;
     inmost = over.inmost;
   }
 
@@ -304,6 +304,7 @@ module _ (s : State) (i : ℕ) (k0 : Tid) (is_current : (s.threads i).current �
       record {
         region = may.region;
         ended = over_moved n may.region may.ended;
+        known = may.known;
         old = v;
         spent = spent;
         implicit = ap (λ (x : Task). x.implicit) same ∙ may.implicit;
@@ -334,7 +335,7 @@ module _ (s : State) (i : ℕ) (k0 : Tid) (is_current : (s.threads i).current �
   busy_rule event.Arrive y rule = of_region_moved _ _ (λ k t r h. h) rule
   busy_rule event.Release y rule =
       of_region_moved _ _
-      (λ k t r h. record { first = h.first; arrived = h.arrived; finished = finished_moved t.region h.finished }) rule
+      (λ k t r h. record { first = h.first; arrived = h.arrived; alone = alone_moved t.region h.alone }) rule
   busy_rule event.Pass y rule = of_region_moved _ _ (λ k t r h. h) rule
   busy_rule (event.ImplicitEnd task) y rule =
       of_region_moved _ _

@@ -1,7 +1,6 @@
--- Barriers: each member of a team arrives; member 0 releases the barrier once all have arrived and no explicit task of the region is unfinished; then each member passes.
+-- Barriers: each member of a team arrives; member 0 releases the barrier once all have arrived and no explicit task of the region lives; then each member passes.
 use Rattle.std.specs.Prelude.{◌≡◌, ◌≤◌, ℕ, ◌+◌, true, false, slice_index, slice_set, Some, All}
 use Rattle.omi_model.specs.declared.id.Rid.{Rid}
-use Rattle.omi_model.specs.declared.progress.Progress.TheVariants.{Finished}
 use Rattle.omi_model.specs.Changes.{on_region}
 use Rattle.omi_model.specs.State.{State}
 use Rattle.omi_model.specs.declared.region.Region.{Region}
@@ -22,16 +21,16 @@ arrived s t =
 abbrev pub HaveArrived : Region → Type 0
 HaveArrived r = All (λ n. n ≡ r.released + 1) r.arrivals
 
--- no explicit task of a region is unfinished
-abbrev pub AreFinished : State → Rid → Type 0
-AreFinished s n = (c k : ℕ) (t : Task) → (s.tasks c k).live ≡ Some t → t.implicit ≡ false
-    → t.region ≡ n → t.progress ≡ Finished
+-- no explicit task of a region lives
+abbrev pub HasNoExplicit : State → Rid → Type 0
+HasNoExplicit s n = (c k : ℕ) (t : Task) → (s.tasks c k).live ≡ Some t → t.implicit ≡ false
+    → t.region ≡ n → ⊥
 
 -- Member 0 releases the barrier of its region.
 pub record MayRelease (s : State) (t : Task) (r : Region) : Type 0 where
   pub first : t.number ≡ 0
   pub arrived : HaveArrived r
-  pub finished : AreFinished s t.region
+  pub alone : HasNoExplicit s t.region
 
 abbrev pub released : State → Task → State
 released s t = on_region s t.region (λ r. record r { released = r.released + 1 })

@@ -1,10 +1,10 @@
--- Encounters: a region and its tasks were made by the thread of member 0, in a task that, where it lives, this thread runs in the enclosing region. While the region is not joined that task lives and is suspended there, not finished, and the enclosing region is visible and not joined. Only the initial region has no such task, and no enclosing region. An explicit task was made on a member's thread, runs on that of the member with its number, and its region is not joined before it is finished.
+-- Encounters: a region and its tasks were made by the thread of member 0, in a task that, where it lives, this thread runs in the enclosing region. While the region is not joined that task lives and is suspended there, not finished, and the enclosing region is visible and not joined. Only the initial region has no such task, and no enclosing region. An explicit task was made on a member's thread, runs on that of the member with its number, and its region is not joined while it lives.
 use Rattle.std.specs.Prelude.{◌≡◌, ℕ, List, false, slice_get, Some, None}
 use Rattle.omi_script.specs.declared.program.Program.{Program}
 use Rattle.omi_model.specs.declared.event.Event.{Event}
 use Rattle.omi_model.specs.declared.id.Rid.{Rid}
 use Rattle.omi_model.specs.declared.id.Tid.{Tid}
-use Rattle.omi_model.specs.declared.progress.Progress.TheVariants.{Begun, Deferred, Finished}
+use Rattle.omi_model.specs.declared.progress.Progress.TheVariants.{Begun, Deferred}
 use Rattle.omi_model.specs.declared.region.Region.{Region}
 use Rattle.omi_model.specs.declared.task.Task.{Task}
 use Rattle.omi_model.specs.Opening.{initial_region}
@@ -38,7 +38,7 @@ IsThreadOf s n j w = (r : Region) × (m : Tid × ℕ) × (region_of s n ≡ Some
 pub record IsInRegion (s : State) (k : Tid) (t : Task) : Type 0 where
   pub creator : (j : ℕ) × IsThreadOf s t.region j k.0.creator
   pub thread : (t.progress ≡ Deferred → ⊥) → IsThreadOf s t.region t.number t.thread
-  pub inside : (t.progress ≡ Finished → ⊥) → IsOpen s t.region
+  pub inside : IsOpen s t.region
 
 pub record AreEncounters (s : State) : Type 0 where
   pub named : (n : Rid) (r : Region) → region_of s n ≡ Some r → IsNamedByFirst n r.team

@@ -1,4 +1,4 @@
--- Names: each task and each region that an object or a thread names is live, and no such task is deferred; but for what a region names that is joined.
+-- Names: each task and each region that an object or a thread names is live, and no such task is deferred; but for the members of a region that is joined.
 use Rattle.std.specs.Prelude.{◌≡◌, ℕ, List, true, false, Some, slice_get}
 use Rattle.omi_script.specs.declared.program.Program.{Program}
 use Rattle.omi_model.specs.declared.event.Event.{Event}
@@ -33,10 +33,10 @@ pub record IsMemberTask (s : State) (n : Rid) (j : ℕ) (m : Tid × ℕ) : Type 
   pub number : task.number ≡ j
   pub thread : task.thread ≡ m.1
 
--- What a region names. The task that encountered it and its members' tasks are live while it is not joined; where a member's name is that of a live task, this is the member's.
+-- What a region names. Its members' tasks are live while it is not joined; where a member's name is that of a live task, this is the member's.
 pub record NamesOfRegion (s : State) (n : Rid) (r : Region) : Type 0 where
   pub enclosing : (o : Rid) → r.enclosing ≡ Some o → IsLiveRegion s o
-  pub encountering : r.joined ≡ false → (k : Tid) → r.encountering ≡ Some k → IsLiveTask s k
+  pub encountering : (k : Tid) → r.encountering ≡ Some k → IsLiveTask s k
   pub team : r.joined ≡ false → (j : ℕ) (m : Tid × ℕ) → slice_get r.team j ≡ Some m → IsMemberTask s n j m
   pub members : (j : ℕ) (m : Tid × ℕ) → slice_get r.team j ≡ Some m → (t : Task) → task_of s m.0 ≡ Some t
       → IsMemberTask s n j m

@@ -8,9 +8,9 @@ pub mod Rows
 pub mod Lists
 pub mod Opening
 pub mod Changes
+pub mod Barriers
 pub mod Freeing
 pub mod Teams
-pub mod Barriers
 pub mod Tasking
 pub mod Settings
 pub mod Rules
@@ -36,6 +36,7 @@ pub mod LawEnds
 pub mod LawJoins
 pub mod LawProgress
 pub mod LawEncounters
+pub mod LawFreeing
 pub mod LawLocks
 pub mod LawAsks
 pub mod LawClaims

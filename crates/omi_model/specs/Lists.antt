@@ -6,6 +6,7 @@ use Rattle.omi_model.specs.declared.item.Item.{Item}
 use Rattle.omi_model.specs.declared.item.Item.TheVariants as item
 use Rattle.omi_model.specs.declared.event.Event.{Event}
 use Rattle.omi_model.specs.declared.event.Event.TheVariants as event
+use Rattle.omi_model.specs.declared.freeable.Freeable.TheVariants as freeable
 use Rattle.omi_numbers.specs.declared.states.TheConstants.{IDLE}
 use Rattle.omi_model.specs.declared.encounter.Encounter.{Encounter}
 use Rattle.omi_model.specs.Rows.{shown, first_of, behind}
@@ -15,12 +16,13 @@ abbrev pub opened : Program → Encounter → Item → List Item → Item × Lis
 opened p at (item.Do s) rest = (first_of at s, behind p at s rest)
 opened p at x rest = (x, rest)
 
--- an item that may be passed over: one that stands for any number of events
+-- An item that may be passed over: one that stands for any number of events. A task that has finished may stay, until its place in
+-- front of the list is another's; a region that is joined is given back before all else.
 abbrev pub may_drop : Item → Bool
 may_drop item.Asks = true
 may_drop (item.Tasks state) = true
 may_drop item.OneTask = true
-may_drop (item.Frees next) = true
+may_drop (item.Frees (freeable.Finished task)) = true
 may_drop x = false
 
 -- the event is this item's. Slots for deferred tasks are looked at in the order 0 to 3.
@@ -47,7 +49,7 @@ fits (event.Start task) (item.Tasks state) = true
 fits (event.Start task) item.OneTask = true
 fits (event.Finish task) item.Finish = true
 fits (event.FreeTask task) (item.Frees next) = true
-fits (event.FreeRegion region) (item.Frees next) = true
+fits (event.FreeRegion region) (item.Frees (freeable.Joined n number)) = true
 fits event.WaitDone item.WaitDone = true
 fits event.Yield item.Yield = true
 fits (event.Set icv value) (item.Set v x) = icv == v && value == x

@@ -1,4 +1,4 @@
--- A run of two threads: thread 0 forks a team of two, member 0 defers a task, which member 1 starts at the barrier, the members end, member 0 joins, and the program is done.
+-- A run of two threads: thread 0 forks a team of two, member 0 defers a task, which member 1 starts at the barrier and gives back, the members end, member 0 joins, the region is given back behind its members' tasks, and the program is done.
 use Rattle.std.specs.Prelude.{ℕ, true, false, List, [], ◌∷◌, ◌++◌, None, codes, refl}
 use Rattle.omi_script.specs.Names.{name_of}
 use Rattle.omi_script.specs.declared.env.Env.{Env}
@@ -65,9 +65,9 @@ at0 e = (0, e)
 abbrev at1 : Event → ℕ × Event
 at1 e = (1, e)
 
--- up to the first release
-abbrev pub run_to_release : List (ℕ × Event)
-run_to_release =
+-- up to the finish of the deferred task
+abbrev pub run_to_finish : List (ℕ × Event)
+run_to_finish =
     at1 event.Begin ∷ at1 event.Offer
     ∷ at0 event.Enter ∷ at0 (event.State OVERHEAD 0) ∷ at0 (event.Want 2)
     ∷ at0 (event.Ask 1 true)
@@ -78,19 +78,31 @@ run_to_release =
     ∷ at0 (event.State WAIT_BARRIER_IMPLICIT_PARALLEL 0) ∷ at0 event.Arrive
     ∷ at1 (event.State WAIT_BARRIER_IMPLICIT_PARALLEL 0) ∷ at1 event.Arrive
     ∷ at1 (event.Start leaf) ∷ at1 (event.State WORK_PARALLEL 0) ∷ at1 event.Work
-    ∷ at1 (event.Finish leaf)
-    ∷ at1 (event.State WAIT_BARRIER_IMPLICIT_PARALLEL 0) ∷ []
+    ∷ at1 (event.Finish leaf) ∷ []
 
--- the release, the end of the region, and on to the last release
-abbrev pub run_to_last_release : List (ℕ × Event)
-run_to_last_release =
+-- it is given back, and on to the first release
+abbrev pub run_to_release : List (ℕ × Event)
+run_to_release =
+    at1 (event.FreeTask leaf) ∷ at1 (event.State WAIT_BARRIER_IMPLICIT_PARALLEL 0) ∷ []
+
+-- the release, and the end of the region
+abbrev pub run_to_join : List (ℕ × Event)
+run_to_join =
     at0 event.Release ∷ at0 event.Pass ∷ at1 event.Pass
     ∷ at1 (event.ImplicitEnd worker) ∷ at1 (event.State IDLE 0) ∷ at1 event.Offer
-    ∷ at0 (event.Join run_region) ∷ at0 (event.State WORK_SERIAL 0) ∷ at0 event.Leave
+    ∷ at0 (event.Join run_region) ∷ []
+
+-- the tasks of its members are given back, the region behind them, and on to the last release
+abbrev pub run_to_last_release : List (ℕ × Event)
+run_to_last_release =
+    at0 (event.FreeTask master) ∷ at0 (event.FreeTask worker) ∷ at0 (event.FreeRegion run_region)
+    ∷ at0 (event.State WORK_SERIAL 0) ∷ at0 event.Leave
     ∷ at0 (event.State WAIT_BARRIER_IMPLICIT_PARALLEL 0) ∷ at0 event.Arrive ∷ []
 
 abbrev pub run_to_done : List (ℕ × Event)
 run_to_done = at0 event.Release ∷ at0 event.Pass ∷ at0 event.Done ∷ []
 
 abbrev pub run_events : List (ℕ × Event)
-run_events = run_to_release ++ (run_to_last_release ++ run_to_done)
+run_events =
+    run_to_finish
+    ++ (run_to_release ++ (run_to_join ++ (run_to_last_release ++ run_to_done)))

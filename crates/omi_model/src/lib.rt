@@ -35,8 +35,9 @@ pub use machine_laws::{
     a_run_is_legal, asks_are_in_order, barriers_are_in_order, barriers_are_left, barriers_hold,
     begun_tasks_are_on_chains, claims_are_kept, joins_come_last, levels_count_regions,
     lists_are_right, locks_are_held, members_are_in_step, members_are_known, names_are_live,
-    nthreads_shorten, reached_is_well_formed, regions_are_encountered, regions_end_finished,
-    starts_are_constrained, tasks_have_lineage, teams_are_asked, threads_have_chains, what_stays,
+    nthreads_shorten, reached_is_well_formed, regions_are_encountered, regions_are_freed,
+    regions_end_alone, starts_are_constrained, tasks_have_lineage, teams_are_asked,
+    threads_have_chains, what_stays,
 };
 pub use omi_word::OutOfMemory;
 pub use progress::Progress;

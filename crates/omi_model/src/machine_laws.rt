@@ -7,7 +7,8 @@ ghost use Rattle.omi_model.specs.LawBarriersLeft.{BarriersAreLeft};
 ghost use Rattle.omi_model.specs.LawChains.{BegunTasksAreOnChains, ThreadsHaveChains};
 ghost use Rattle.omi_model.specs.LawClaims.{AsksAreInOrder, ClaimsAreKept};
 ghost use Rattle.omi_model.specs.LawEncounters.{RegionsAreEncountered};
-ghost use Rattle.omi_model.specs.LawEnds.{RegionsEndFinished};
+ghost use Rattle.omi_model.specs.LawEnds.{RegionsEndAlone};
+ghost use Rattle.omi_model.specs.LawFreeing.{FinishedMayBeFreed, JoinedMayBeFreed, RegionsAreFreed};
 ghost use Rattle.omi_model.specs.LawJoins.{JoinsComeLast};
 ghost use Rattle.omi_model.specs.LawLevels.{LevelsCountRegions};
 ghost use Rattle.omi_model.specs.LawLineage.{TasksHaveLineage};
@@ -33,8 +34,8 @@ pub fn what_stays()
 {}
 
 /// Each task and each region that a thread, a task or a region names is live, and a member of a team is an implicit task of
-/// its region with its number and thread. Of a region that is joined, the task that encountered it and its members' tasks need
-/// not live; where a member's name is that of a live task, this is the member's.
+/// its region with its number and thread. Of a region that is joined, its members' tasks need not live; where a member's name is
+/// that of a live task, this is the member's.
 pub fn names_are_live()
     ensures { NamesAreLive }
 {}
@@ -57,7 +58,7 @@ pub fn nthreads_shorten()
 {}
 
 /// A member has arrived at as many barriers as its region released, or at one more; and between an arrival and a pass the
-/// barrier is released, when every member has arrived and no explicit task of the region is unfinished.
+/// barrier is released, when every member has arrived and no explicit task of the region lives.
 pub fn barriers_hold()
     ensures near { ArrivalsAreNear }
     ensures released { PassFollowsRelease }
@@ -77,10 +78,20 @@ pub fn threads_have_chains()
     ensures { ThreadsHaveChains }
 {}
 
-/// Where a member may end, member 0 may join the others or the program may be done, each explicit task of the region is
-/// finished, and so is each that any later state has.
-pub fn regions_end_finished()
-    ensures { RegionsEndFinished }
+/// Where a member may end, member 0 may join the others or the program may be done, no explicit task of the region lives, and
+/// none does in any later state.
+pub fn regions_end_alone()
+    ensures { RegionsEndAlone }
+{}
+
+/// A region that is joined is being given back: its encountering task is current on the thread that made it, and what stands in
+/// front of its list says the next member whose task is to go; the tasks of those below are gone, and those of the others live. It
+/// is lawful to give this task back, and the region behind the last one; and so it is with an explicit task that has finished,
+/// once no explicit child of it lives.
+pub fn regions_are_freed()
+    ensures freed { RegionsAreFreed }
+    ensures goes_on { JoinedMayBeFreed }
+    ensures finished { FinishedMayBeFreed }
 {}
 
 /// In a region that was joined every member but member 0 has ended.
@@ -152,7 +163,7 @@ pub fn tasks_have_lineage()
 /// A region and its tasks were made by the thread of member 0, and all but the initial region in a task of the enclosing region
 /// that, where it lives, runs on this thread; while the region is not joined that task lives, has begun and not finished, and
 /// the enclosing region is visible and not joined; only the initial region has no enclosing one; an explicit task was made on a
-/// member's thread, runs on that of the member with its number, and its region is not joined before the task is finished.
+/// member's thread, runs on that of the member with its number, and its region is not joined while the task lives.
 pub fn regions_are_encountered()
     ensures { RegionsAreEncountered }
 {}

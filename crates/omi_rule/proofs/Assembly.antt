@@ -41,7 +41,7 @@ use Rattle.omi_rep.specs.Suits.{Suits}
 use Rattle.omi_rep.specs.Codes.{is_place}
 use Rattle.omi_rule_words.specs.ExplicitKinds.{slot_of}
 use Rattle.omi_rule_words.specs.Owes.{all_owed, owed}
-use Rattle.omi_rule_words.specs.Words.{KeepsWords}
+use Rattle.omi_rule_words.specs.Words.{KeepsWords, OwesOnLive}
 use Rattle.omi_rule_words.proofs.Moves.{moves_keep}
 use Rattle.omi_rule_words.proofs.Shown.{found_generations}
 use Rattle.omi_rule.specs.Commits.{CommitsAt, Compares, FindsEmptySlot}
@@ -58,7 +58,6 @@ use Rattle.omi_rule.proofs.Runs.{stack_runs}
 use Rattle.omi_rule.proofs.Named.{all_named}
 use Rattle.omi_rule.proofs.NothingNew.{Makes, nothing_new, within_stays}
 use Rattle.omi_rule.proofs.RowsStay.{Spares, row_stays}
-use Rattle.omi_model.specs.LawStays.{is_free}
 
 -- ---- premises
 
@@ -70,7 +69,7 @@ pub record Before (p : Program) (w : List ℕ) (m : Memory) (events : List (ℕ 
   pub known : i < s.count
   pub few : length events + 1 < MOST_EVENTS
   -- what barriers say of other threads stays
-  pub barriers : (e : Event) (u : State) → is_free e ≡ false → Step p s i e u → (j : ℕ) → j < s.count → j ≢ i
+  pub barriers : (e : Event) (u : State) → Step p s i e u → (j : ℕ) → j < s.count → j ≢ i
       → (c : BarrierCounter) → (actors j).counter ≡ counter.Barrier c → KeepsBarrierRow s (actors j) c
       → KeepsBarrierRow u (actors j) c
 
@@ -266,10 +265,11 @@ module _ (p : Program) (w : List ℕ) (m n : Memory) (events later : List (ℕ �
       → Spares m n s j (actors j)
       →
       ((k : Tid) → (owed (actors j)).hand ≡ Some k → (t : Task) × (task_of u k ≡ Some t) × (t.progress ≡ Deferred))
+      → OwesOnLive u (owed (actors j))
       →
       ((c : BarrierCounter) → (actors j).counter ≡ counter.Barrier c → KeepsBarrierRow s (actors j) c → KeepsBarrierRow u (actors j) c)
       → KeepsThread p w n later u j (actors j)
-  other_thread more j known other spares hands barriers =
+  other_thread more j known other spares hands owes barriers =
       let o = rule.threads j known in
       record {
         thread = o.thread;
@@ -277,7 +277,7 @@ module _ (p : Program) (w : List ℕ) (m n : Memory) (events later : List (ℕ �
         placed = o.placed;
         stands = others_stand p s u i leaves j other (actors j) o.stands;
         runs = stack_runs p s u j names.stays (actors j) o.stands o.runs;
-        row = row_stays p w m n s u i leaves names j other (actors j) spares o.fits o.stands (own_row p events s rule.reached j (actors j).context) known hands (rule.words.made j known).making barriers o.row;
+        row = row_stays p w m n s u i leaves names j other (actors j) spares o.fits o.thread o.stands (own_row p events s rule.reached j (actors j).context) known hands owes (rule.words.made j known).making barriers o.row;
         ended = ended_stays j (actors j).counter more o.ended;
       }
 
@@ -296,6 +296,7 @@ module _ (p : Program) (w : List ℕ) (m n : Memory) (events later : List (ℕ �
           let other : j ≢ i = λ same. cc (sym (eq-eqb j i same), e) in
           other_thread more j (subst (λ c. j < c) leaves.count known) other (spares j other)
           (λ k is. words.deferred.hands j k known (ap (λ (x : Actor). (owed x).hand) (put_other actors i j a other) ∙ is))
+          (subst (λ (x : Actor). OwesOnLive u (owed x)) (put_other actors i j a other) (words.made j known).objects)
           (barriers j (subst (λ c. j < c) leaves.count known) other)
 
 -- ---- steps
@@ -304,12 +305,6 @@ module _ (p : Program) (w : List ℕ) (m n : Memory) (events later : List (ℕ �
 no_slot : (e : Event) (found : ℕ) → (Makes e → ⊥) → FindsEmptySlot e found
 no_slot (event.Defer task) found not = absurd (not tt)
 no_slot e found not = tt
-
--- an event that a step commits gives no record back
-held_back : (w : List ℕ) (s : State) (i : ℕ) (e : Event) (o : Op) → CommitsAt w s i e o → is_free e ≡ false
-held_back w s i (event.FreeTask task) o commits = absurd commits
-held_back w s i (event.FreeRegion region) o commits = absurd commits
-held_back w s i e o commits = refl
 
 module _ (p : Program) (w : List ℕ) (m : Memory) (events : List (ℕ × Event)) (s : State) (actors : ℕ → Actor)
     (i : ℕ) (before : Before p w m events s actors i) where
@@ -352,8 +347,7 @@ module _ (p : Program) (w : List ℕ) (m : Memory) (events : List (ℕ × Event)
       → AreWithin w regions u.regions → AreWithin w tasks u.tasks → AreNewMembers p u → KeepsWords w (left_in m o x) u (all_owed (replace_at actors i after.0))
       → ((j : ℕ) → j ≢ i → Spares m (left_in m o x) s j (actors j)) → KeepsThread p w (left_in m o x) (events ++ (i, e) ∷ []) u i after.0 → KeepsRule p w m events s actors i o x after
   event_keeps o x (a, out) e u is step commits finds in_regions in_tasks waiting words spares own =
-      let held = held_back w s i e o commits in
-      let leaves : LeavesOthers s u i = events_leave_others p events s rule.reached i e u held step in
+      let leaves : LeavesOthers s u i = events_leave_others p events s rule.reached i e u step in
       let reached : Reached p (events ++ (i, e) ∷ []) u =
       leads_on p (opening p) events s (i, e) u rule.reached step in
       let named : LiveAreNamed u.regions × LiveAreNamed u.tasks =
@@ -375,7 +369,7 @@ module _ (p : Program) (w : List ℕ) (m : Memory) (events : List (ℕ × Event)
           };
           words = words;
           waiting = waiting;
-          threads = all_threads p w m (left_in m o x) events (events ++ (i, e) ∷ []) s u actors i rule leaves (names_step p s i e u held step) a words (λ y there. Contains-append_left events ((i, e) ∷ []) y there) spares (before.barriers e u held step) own;
+          threads = all_threads p w m (left_in m o x) events (events ++ (i, e) ∷ []) s u actors i rule leaves (names_step p s i e u step) a words (λ y there. Contains-append_left events ((i, e) ∷ []) y there) spares (before.barriers e u step) own;
         };
       })
 

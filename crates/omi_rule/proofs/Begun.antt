@@ -23,7 +23,7 @@ use Rattle.omi_rule_words.specs.Owes.{nothing, owed}
 use Rattle.omi_step_words.specs.Placed.{AreContextsPlaced, IsPlaced}
 use Rattle.omi_rule.specs.Ahead as Ahead
 use Rattle.omi_rule.specs.Ahead.{IsAhead}
-use Rattle.omi_rule.specs.Chains.{KeepsBodies, StandsWith, encounter_of}
+use Rattle.omi_rule.specs.Chains.{KeepsBodies, IsPassable, StandsWith, encounter_of}
 use Rattle.omi_rule.specs.Rule.{KeepsThread}
 use Rattle.omi_rule.proofs.BodyMoves.{settled_of, working_of}
 use Rattle.omi_rule.proofs.Forgotten.{at_counter, settled_forgets, worked_forgets}
@@ -66,8 +66,9 @@ working_is_placed p w a f fs is placed = go p.env.debug
 pub works : (p : Program) (w : List ℕ) (m : Memory) (events : List (ℕ × Event)) (u : State) (i : ℕ) (a : Actor) (f : Frame) (fs : List Frame)
     → a.stack ≡ f ∷ fs → a.thread ≡ i → HasTask p a → FitsPlain p a plain.WorkState
     → AreContextsPlaced w a.context a.stack → (encounter_of u a.context).debug ≡ p.env.debug → (u.threads i).current ≡ Some a.context.task → KeepsBodies p u i a.context a.stack → RunsFunctions u a.context a.stack
-    → ((t : Task) → task_of u a.context.task ≡ Some t → t.list ≡ working (encounter_of u a.context) (Ahead.worked p (encounter_of u a.context) a.stack)) → KeepsThread p w m events u i (Moves.back_to_work p a)
-works p w m events u i a f fs is thread has fits placed debug current bodies runs list =
+    → ((t : Task) → task_of u a.context.task ≡ Some t → t.list ≡ working (encounter_of u a.context) (Ahead.worked p (encounter_of u a.context) a.stack))
+    → ((t : Task) → task_of u a.context.task ≡ Some t → IsPassable t.frees) → KeepsThread p w m events u i (Moves.back_to_work p a)
+works p w m events u i a f fs is thread has fits placed debug current bodies runs list front =
     let differs : DifferInBodies a (Moves.back_to_work p a) = working_differs p a in
     let first : IsFirst (Moves.back_to_work p a).counter = working_is_first p a f fs is in
     let (g, gs, stack) =
@@ -87,6 +88,7 @@ works p w m events u i a f fs is thread has fits placed debug current bodies run
             (subst (IsAhead p (encounter_of u a.context) (Moves.back_to_work p a).stack (Moves.back_to_work p a).counter)
             (sym (list t (subst (λ (c : Context). task_of u c.task ≡ Some t) differs.context live)))
             (working_ahead p (encounter_of u a.context) debug a f fs is));
+        front = λ t live. first.front t.frees (front t (subst (λ (c : Context). task_of u c.task ≡ Some t) differs.context live));
       });
       runs = working_of (RunsFunctions u) (runs_are_of_bodies u) p a runs;
       row = first.row p w m u i (Moves.back_to_work p a);
@@ -117,8 +119,9 @@ settled_is_placed p w a f fs is placed =
 pub settles : (p : Program) (w : List ℕ) (m : Memory) (events : List (ℕ × Event)) (u : State) (i : ℕ) (a : Actor) (f : Frame) (fs : List Frame)
     → a.stack ≡ f ∷ fs → a.thread ≡ i → HasTask p a
     → AreContextsPlaced w a.context a.stack → (encounter_of u a.context).debug ≡ p.env.debug → (u.threads i).current ≡ Some a.context.task → KeepsBodies p u i a.context a.stack → RunsFunctions u a.context a.stack
-    → ((t : Task) → task_of u a.context.task ≡ Some t → t.list ≡ Ahead.ahead p (encounter_of u a.context) a.stack) → KeepsThread p w m events u i (settled p a)
-settles p w m events u i a f fs is thread has placed debug current bodies runs list =
+    → ((t : Task) → task_of u a.context.task ≡ Some t → t.list ≡ Ahead.ahead p (encounter_of u a.context) a.stack)
+    → ((t : Task) → task_of u a.context.task ≡ Some t → IsPassable t.frees) → KeepsThread p w m events u i (settled p a)
+settles p w m events u i a f fs is thread has placed debug current bodies runs list front =
     let differs : DifferInBodies a (settled p a) = settled_differs p a in
     let first : IsFirst (settled p a).counter = settled_is_first p a f fs is in
     let (g, gs, stack) =
@@ -138,6 +141,7 @@ settles p w m events u i a f fs is thread has placed debug current bodies runs l
             (subst (IsAhead p (encounter_of u a.context) (settled p a).stack (settled p a).counter)
             (sym (list t (subst (λ (c : Context). task_of u c.task ≡ Some t) differs.context live)))
             (settled_ahead p (encounter_of u a.context) debug a f fs is));
+        front = λ t live. first.front t.frees (front t (subst (λ (c : Context). task_of u c.task ≡ Some t) differs.context live));
       });
       runs = settled_of (RunsFunctions u) (runs_are_of_bodies u) p a runs;
       row = first.row p w m u i (settled p a);

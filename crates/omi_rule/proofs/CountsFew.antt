@@ -9,17 +9,17 @@ use Rattle.omi_layout.specs.Field.{tasks}
 use Rattle.omi_layout.specs.Table.{per_thread, thread_count}
 use Rattle.omi_layout.specs.Valid.{IsValid}
 use Rattle.omi_layout.proofs.Arenas.{tasks_of_valid, threads_of_valid}
-use Rattle.omi_rule_words.specs.Counts.{children_owed, is_explicit, live_children, own_reference, references_owed, generating_of, is_region, is_some_region, is_some_task, is_unfinished, of_live, one, pending_owed, sum_below, sum_of_owed, sum_of_slots, unfinished_children, unfinished_in}
+use Rattle.omi_rule_words.specs.Counts.{children_owed, is_explicit, live_children, own_reference, references_owed, generating_of, is_at_some, is_region, is_some_region, is_some_task, is_unfinished, of_live, one, pending_owed, sum_below, sum_of_owed, sum_of_slots, unfinished_children, unfinished_in}
 use Rattle.omi_rule_words.specs.Owes.{Owed}
 
 one_few : (b : Bool) → one b ≤ 1
 one_few true = omega arith
 one_few false = omega arith
 
--- of threads and slots, each of which counts for at most two, and of threads that count for all of their records
-twos_few : (n : ℕ) (f : ℕ → ℕ) → ((i : ℕ) → f i ≤ 2) → sum_below n f ≤ 2 * n
-twos_few zero f all = omega arith
-twos_few (suc n) f all = let rest = twos_few n f all in let last = all n in omega (arith, rest, last)
+-- of threads and slots, each of which counts for at most three, and of threads that count for all of their records
+threes_few : (n : ℕ) (f : ℕ → ℕ) → ((i : ℕ) → f i ≤ 3) → sum_below n f ≤ 3 * n
+threes_few zero f all = omega arith
+threes_few (suc n) f all = let rest = threes_few n f all in let last = all n in omega (arith, rest, last)
 
 ones_few : (n : ℕ) (f : ℕ → ℕ) → ((i : ℕ) → f i ≤ 1) → sum_below n f ≤ n
 ones_few zero f all = omega arith
@@ -41,14 +41,14 @@ module _ (w : List ℕ) (s : State) (valid : IsValid w) (same : s.count ≡ thre
       let few = threads_of_valid w valid in
       omega (arith, all, few, same)
 
-  owed_few : (owes : ℕ → Owed) (f : Owed → ℕ) → ((o : Owed) → f o ≤ 2) → sum_of_owed s owes f ≤ 2 * 64
+  owed_few : (owes : ℕ → Owed) (f : Owed → ℕ) → ((o : Owed) → f o ≤ 3) → sum_of_owed s owes f ≤ 3 * 64
   owed_few owes f all =
-      let sum = twos_few s.count (λ i. f (owes i)) (λ i. all (owes i)) in
+      let sum = threes_few s.count (λ i. f (owes i)) (λ i. all (owes i)) in
       let few = threads_of_valid w valid in
       omega (arith, sum, few, same)
 
   pub children_few : (owes : ℕ → Owed) (k : Tid)
-      → unfinished_children w s k + sum_of_owed s owes (children_owed s k) ≤ 4096 * 64 + 2 * 64
+      → unfinished_children w s k + sum_of_owed s owes (children_owed s k) ≤ 4096 * 64 + 3 * 64
   children_few owes k =
       let live = slots_few (λ t. is_unfinished t && is_some_task k t.generating) in
       let owed =
@@ -57,15 +57,17 @@ module _ (w : List ℕ) (s : State) (valid : IsValid w) (same : s.count ≡ thre
       omega (arith, live, owed)
 
   pub references_few : (owes : ℕ → Owed) (k : Tid) (t : Task)
-      → own_reference t + (live_children w s k + sum_of_owed s owes (references_owed k)) ≤ 1 + (4096 * 64 + 2 * 64)
+      → own_reference t + (live_children w s k + sum_of_owed s owes (references_owed k)) ≤ 1 + (4096 * 64 + 3 * 64)
   references_few owes k t =
-      let own = one_few (is_explicit t) in
+      let own = one_few (is_unfinished t) in
       let live = slots_few (λ t. is_explicit t && is_some_task k t.generating) in
-      let owed = owed_few owes (references_owed k) (λ o. let first = one_few (is_some_task k o.referred) in omega (arith, first)) in
+      let owed =
+      owed_few owes (references_owed k)
+      (λ o. let first = one_few (is_some_task k o.referred) in let second = one_few (is_some_task k o.own) in let third = one_few (is_at_some k o.returned) in omega (arith, first, second, third)) in
       omega (arith, own, live, owed)
 
   pub pending_few : (owes : ℕ → Owed) (n : Rid)
-      → unfinished_in w s n + sum_of_owed s owes (pending_owed n) ≤ 4096 * 64 + 2 * 64
+      → unfinished_in w s n + sum_of_owed s owes (pending_owed n) ≤ 4096 * 64 + 3 * 64
   pending_few owes n =
       let live = slots_few (λ t. is_unfinished t && is_region n t.region) in
       let owed =

@@ -32,6 +32,7 @@ use Rattle.omi_model.proofs.Slots.{false_true, some_same}
 use Rattle.omi_model.proofs.ReachedStates.{over_reached}
 use Rattle.omi_model.proofs.StaysKept.{needed_begun, needed_generating, stays_step}
 use Rattle.omi_model.proofs.Steps.{IsMove, is_relisted, move_of, moved_on}
+use Rattle.omi_rule_words.specs.FreeKinds.{DescendsInRegion}
 use Rattle.omi_rule.specs.Descends.{TasksDescend}
 use Rattle.omi_rule.proofs.MemberFunctions.{member_function}
 
@@ -292,3 +293,18 @@ module _ (p : Program) (events : List (ℕ × Event)) (s : State) (reached : Rea
           let small : u.function ≤ r.function =
           chain_below gs g u r maker (ap (region_of s) region ∙ found) rest in
           omega (arith, less, small)
+
+-- and stands in its region
+pub descends_in_region : (p : Program) (events : List (ℕ × Event)) (s : State) → Reached p events s → DescendsInRegion s
+descends_in_region p events s reached k g t u live ex by there =
+    (home lineage.tasks lineage.chain, tasks_descend p events s reached k t live ex g u by there)
+  where
+    lineage : HasLineage s t
+    lineage = have_lineage p events s reached k t live
+
+    home : (ks : List Tid) → IsLineage s t.implicit t.region t.generating ks → t.region ≡ u.region
+    home [] im = absurd (cc (sym ex, im))
+    home (n ∷ ns) (explicit, v, made, found, same, begun, rest) =
+        let one : n ≡ g = some_same made by in
+        let other : v ≡ u = some_same (subst (λ (x : Tid). task_of s x ≡ Some v) one found) there in
+        sym (ap (λ (x : Task). x.region) (sym other) ∙ same)

@@ -1,3 +1,4 @@
+pub mod WaitingFronts
 pub mod Others
 pub mod OthersStand
 pub mod Settling
@@ -6,6 +7,7 @@ pub mod Own
 pub mod NewMembers
 pub mod NothingNew
 pub mod Named
+pub mod LivesOn
 pub mod NamesStay
 pub mod OwnRow
 pub mod RowsStay
@@ -15,6 +17,8 @@ pub mod OwnTask
 pub mod SameBodies
 pub mod Runs
 pub mod Owing
+pub mod GivesBack
+pub mod OwedInside
 pub mod worker
 pub mod Generations
 pub mod SlotGenerations

@@ -31,7 +31,7 @@ use Rattle.omi_rep.proofs.Opened.{opening_shown}
 use Rattle.omi_rule_words.proofs.Opened.{opening_kept}
 use Rattle.omi_step_words.specs.Placed.{AreContextsPlaced, IsPlaced}
 use Rattle.omi_rule.specs.Ahead.{IsAhead}
-use Rattle.omi_rule.specs.Chains.{KeepsBodies, KeepsContext, StandsWith, encounter_of}
+use Rattle.omi_rule.specs.Chains.{KeepsBodies, KeepsContext, IsPassable, StandsWith, encounter_of}
 use Rattle.omi_rule.specs.Opens.{OpeningKeepsRule}
 use Rattle.omi_rule.specs.Rule.{IsNewMember, KeepsThread}
 use Rattle.omi_rule.proofs.BodyMoves.{settled_of}
@@ -114,6 +114,9 @@ module _ (p : Program) (w words : List ℕ) (valid : IsValid w) (suits : Suits p
               (subst (λ (x : Task). IsAhead p (encounter_of (opening p) initial_context) (settled p a).stack (settled p a).counter x.list)
               (some_same refl (subst (λ (c : Context). task_of (opening p) c.task ≡ Some t) differs.context live))
               (settled_ahead p (encounter_of (opening p) initial_context) refl a (at_start p.main Main) [] refl));
+          front = λ t live.
+              first.front t.frees
+              (subst (λ (x : Task). IsPassable x.frees) (some_same refl (subst (λ (c : Context). task_of (opening p) c.task ≡ Some t) differs.context live)) tt);
         });
         runs = settled_of (RunsFunctions (opening p)) (runs_are_of_bodies (opening p)) p a (λ opens t live. ap (λ (x : Task). x.function) (some_same {x = t} live refl), tt);
         row = first.row p w (memory_of w words) (opening p) 0 (settled p a);

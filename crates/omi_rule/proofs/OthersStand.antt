@@ -12,7 +12,7 @@ use Rattle.omi_numbers.specs.declared.states.TheConstants.{IDLE}
 use Rattle.omi_model.specs.Rows.{working}
 use Rattle.omi_model.specs.declared.item.Item.TheVariants as item
 use Rattle.omi_script.specs.declared.env.Env.{Env}
-use Rattle.omi_model.specs.State.{State, task_of}
+use Rattle.omi_model.specs.State.{region_of, State, task_of}
 use Rattle.omi_model.proofs.Slots.{some_same}
 use Rattle.omi_pc.specs.declared.actor.Actor.{Actor}
 use Rattle.omi_pc.specs.declared.context.Context.{Context}
@@ -26,11 +26,14 @@ use Rattle.omi_pc.specs.declared.team_counter.WorkerCounter.TheVariants as worke
 use Rattle.omi_pc.specs.Moves.{context_under}
 use Rattle.omi_rule.specs.Ahead.{IsAhead, leaving, resuming}
 use Rattle.omi_rule.specs.Chains.{IsScheduledFrom, IsSuspended, IsWorkerAhead, KeepsBodies, KeepsBody, KeepsContext, Stands, StandsAlone, StandsInTask, StandsWith, encounter_of, offering, worker_ahead}
-use Rattle.omi_rule.specs.LeavesOthers.{LeavesOthers}
+use Rattle.omi_rule.specs.LeavesOthers.{IsSameForOthers, LeavesOthers}
 
 -- a task that has begun is not deferred
 pub begun_undeferred : (t : Task) → t.progress ≡ progress.Begun → t.progress ≡ progress.Deferred → ⊥
 begun_undeferred t begun deferred = cc (sym begun, deferred)
+
+pub begun_unfinished : (t : Task) → t.progress ≡ progress.Begun → t.progress ≡ progress.Finished → ⊥
+begun_unfinished t begun over = cc (sym begun, over)
 
 -- the context of the innermost body of a stack
 pub of_innermost : (p : Program) (s : State) (i : ℕ) (c : Context) (fs : List Frame) → KeepsBodies p s i c fs
@@ -42,11 +45,17 @@ module _ (p : Program) (s u : State) (i : ℕ) (leaves : LeavesOthers s u i) (j 
   task_stays : (c : Context) (o : KeepsContext s j c) → task_of u c.task ≡ Some o.task
   task_stays c o =
       leaves.tasks c.task o.task o.live (λ same. other (sym o.thread ∙ same))
-      (begun_undeferred o.task o.begun)
+      (begun_undeferred o.task o.begun) (begun_unfinished o.task o.begun)
+
+  region_stays : (c : Context) (o : KeepsContext s j c)
+      → (q : Region) × (region_of u c.region ≡ Some q) × IsSameForOthers i o.region q
+  region_stays c o =
+      let (q, found, same) = leaves.regions c.task o.task o.region o.live (ap (region_of s) o.region_is ∙ o.found) in
+      (q, ap (region_of u) (sym o.region_is) ∙ found, same)
 
   context_stays : (c : Context) → KeepsContext s j c → KeepsContext u j c
   context_stays c o =
-      let (q, found, same) = leaves.regions c.region o.region o.found in
+      let (q, found, same) = region_stays c o in
       record {
         task = o.task;
         live = task_stays c o;
@@ -67,7 +76,7 @@ module _ (p : Program) (s u : State) (i : ℕ) (leaves : LeavesOthers s u i) (j 
   -- what the rows of statements see of a task
   level_stays : (c : Context) (o : KeepsContext s j c) → level_of u o.task.region ≡ level_of s o.task.region
   level_stays c o =
-      let (q, found, same) = leaves.regions c.region o.region o.found in
+      let (q, found, same) = region_stays c o in
       subst (λ n. level_of u n ≡ level_of s n) (sym o.region_is)
       (ap (λ (x : Option Region). option_map_or (λ r. r.levels) x 0) found ∙ same.levels ∙ sym (ap (λ (x : Option Region). option_map_or (λ r. r.levels) x 0) o.found))
 
@@ -130,6 +139,7 @@ module _ (p : Program) (s u : State) (i : ℕ) (leaves : LeavesOthers s u i) (j 
             let same : top.task ≡ t = some_same (task_stays a.context top) live in
             subst (λ (x : Task). IsAhead p (encounter_of u a.context) a.stack a.counter x.list) same
             (subst (λ at. IsAhead p at a.stack a.counter top.task.list) (sym (encounter_stays a.context top)) (o.ahead top.task top.live));
+        front = λ t live. o.front t (top.live ∙ ap Some (some_same (task_stays a.context top) live));
       }
 
   worker_stays : (c : WorkerCounter) → worker_ahead u c ≡ worker_ahead s c

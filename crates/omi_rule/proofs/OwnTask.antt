@@ -1,5 +1,5 @@
 -- A thread's step in its own task: the state after an event on the task, and where the thread stands in it.
-use Rattle.std.proofs.Common.{◌≡◌, ℕ, List, [], ◌∷◌, Option, Some, refl, sym, ap, ◌∙◌, subst, None}
+use Rattle.std.proofs.Common.{◌≡◌, ℕ, List, [], ◌∷◌, Option, Some, refl, sym, ap, ◌∙◌, subst, None, true}
 use Rattle.std.specs.Option.{option_and_then, option_map, option_map_or}
 use Rattle.omi_script.specs.declared.program.Program.{Program}
 use Rattle.omi_model.specs.declared.id.Tid.{Tid}
@@ -26,8 +26,11 @@ use Rattle.omi_pc.specs.declared.team_counter.WorkerCounter.{WorkerCounter}
 use Rattle.omi_pc.specs.Moves.{context_under}
 use Rattle.omi_pc.specs.OpenBodies.{IsCalled}
 use Rattle.omi_step_words.specs.Placed.{AreContextsPlaced}
+use Rattle.omi_model.specs.declared.freeable.Freeable.{Freeable}
+use Rattle.omi_model.specs.declared.freeable.Freeable.TheVariants as freeable
+use Rattle.omi_model.proofs.ListLaws.{may_pass}
 use Rattle.omi_rule.specs.Ahead.{IsAhead}
-use Rattle.omi_rule.specs.Chains.{IsWorkerAhead, KeepsBodies, KeepsBody, KeepsContext, Stands, StandsInTask, StandsWith, encounter_of}
+use Rattle.omi_rule.specs.Chains.{IsFront, IsWorkerAhead, KeepsBodies, KeepsBody, KeepsContext, IsPassable, Stands, StandsInTask, StandsWith, encounter_of}
 use Rattle.omi_rule.proofs.BodyMoves.{IsOfBodies}
 use Rattle.omi_rule.proofs.OthersStand.{of_innermost}
 use Rattle.omi_rule.proofs.Own.{AreBelow, ChangesTask, IsAlike, below_current, bodies_kept, encounter_kept}
@@ -74,6 +77,14 @@ places_are_of_bodies w = record {
   again = λ c f left fs called o. (o.0, subst (λ (d : Context). AreContextsPlaced w d fs) (called_under c f.opened called) o.1);
 }
 
+-- ---- what stands in front of a list
+
+-- what may be passed over, as an item
+pub passable : (o : Option Freeable) → IsPassable o → may_pass o ≡ true
+passable None may = refl
+passable (Some (freeable.Finished t)) may = refl
+passable (Some (freeable.Joined n number)) may = absurd may
+
 -- ---- the current task
 
 -- a thread at a counter of a task has a body open, and stands in its task
@@ -109,11 +120,15 @@ module _ (p : Program) (s : State) (i : ℕ) (a : Actor) (o : StandsInTask p s i
   own_list = list_of_current s i a.context.task top.task is_current
 
   -- an event that its list allows
-  pub own_taken : (events : List (ℕ × Event)) → Reached p events s → (at : Encounter) (e : Event) (y : Item) (zs : List Item)
+  pub own_taken : (events : List (ℕ × Event)) → Reached p events s → IsPassable top.task.frees
+      → (at : Encounter) (e : Event) (y : Item) (zs : List Item)
       → take_item p at e top.task.list ≡ Some (y, zs) → take_item p at e (ahead_of s i) ≡ Some (y, zs)
-  own_taken events reached at e y zs taken =
+  own_taken events reached may at e y zs taken =
       ap (take_item p at e) (ahead_of_current s i a.context.task top.task is_current)
-      ∙ taken_behind p at e top.task.frees top.task.list y zs (no_frees p events s reached a.context.task top.task top.live) taken
+      ∙ taken_behind p at e top.task.frees top.task.list y zs (no_frees p events s reached a.context.task top.task top.live) (passable top.task.frees may) taken
+
+  pub own_front : IsFront a.counter top.task.frees
+  own_front = o.front top.task top.live
 
   pub own_encounter : encounter s i ≡ encounter_of s a.context
   own_encounter =
@@ -152,8 +167,9 @@ module _ (p : Program) (s : State) (i : ℕ) (a : Actor) (o : StandsInTask p s i
       → ChangesTask s u i a.context.task → (b : Actor) (f : Frame) (fs : List Frame) → b.stack ≡ f ∷ fs
       → b.context ≡ a.context
       → (KeepsBodies p u i a.context a.stack → KeepsBodies p u i b.context b.stack)
-      → ((t : Task) → task_of u a.context.task ≡ Some t → IsAhead p (encounter_of s a.context) b.stack b.counter t.list) → Stands p u i b
-  own_stands events reached u changes b f fs stack context bodies next =
+      → ((t : Task) → task_of u a.context.task ≡ Some t → IsAhead p (encounter_of s a.context) b.stack b.counter t.list)
+      → ((t : Task) → task_of u a.context.task ≡ Some t → IsFront b.counter t.frees) → Stands p u i b
+  own_stands events reached u changes b f fs stack context bodies next front =
       let same : encounter_of u a.context ≡ encounter_of s a.context =
       encounter_kept p s u i a.context.task changes a.context top in
       subst (StandsWith p u i b) (sym stack)
@@ -164,6 +180,7 @@ module _ (p : Program) (s : State) (i : ℕ) (a : Actor) (o : StandsInTask p s i
             subst (λ (c : Context). IsAhead p (encounter_of u c) b.stack b.counter t.list) (sym context)
             (subst (λ at. IsAhead p at b.stack b.counter t.list) (sym same)
             (next t (subst (λ (c : Context). task_of u c.task ≡ Some t) context live)));
+        front = λ t live. front t (subst (λ (c : Context). task_of u c.task ≡ Some t) context live);
       })
 
   -- what is ahead of the task with its new list
@@ -175,6 +192,21 @@ module _ (p : Program) (s : State) (i : ℕ) (a : Actor) (o : StandsInTask p s i
       ∙ on_same s.tasks a.context.task.0 (relisted zs)
       ∙ ap (λ (x : Option Task). option_map (relisted zs) x) top.live in
       subst (λ (x : Task). P x.list) (some_same now live) is
+
+  -- nothing stands in front of it
+  pub relisted_front : (zs : List Item) (u : State) → u.tasks ≡ on s.tasks a.context.task.0 (relisted zs)
+      → (t : Task) → task_of u a.context.task ≡ Some t → t.frees ≡ None
+  relisted_front zs u tasks t live =
+      let now : task_of u a.context.task ≡ Some (relisted zs top.task) =
+      ap (λ (x : Slots Task). named x a.context.task.0) tasks
+      ∙ on_same s.tasks a.context.task.0 (relisted zs)
+      ∙ ap (λ (x : Option Task). option_map (relisted zs) x) top.live in
+      ap (λ (x : Task). x.frees) (some_same live now)
+
+  pub relisted_both : (zs : List Item) (u : State) → u.tasks ≡ on s.tasks a.context.task.0 (relisted zs)
+      → (t : Task) → task_of u a.context.task ≡ Some t → (t.list ≡ zs) × IsPassable t.frees
+  relisted_both zs u tasks t live =
+      (relisted_ahead zs u tasks (λ xs. xs ≡ zs) refl t live, subst IsPassable (sym (relisted_front zs u tasks t live)) tt)
 
 -- a task with another list is alike
 pub relisted_alike : (zs : List Item) (t : Task) → IsAlike t (relisted zs t)

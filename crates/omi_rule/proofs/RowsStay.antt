@@ -1,18 +1,19 @@
 -- The registers of a thread stay right while another thread makes a step: it leaves the records in the making and what the state says.
-use Rattle.std.proofs.Common.{◌≡◌, ◌≢◌, ◌+◌, ◌<◌, ◌≤◌, ℕ, zero, suc, inl, inr, Bool, true, List, [], ◌∷◌, length, map, slice_get, take, Option, Some, None, refl, sym, ap, ◌∙◌, subst, arith}
+use Rattle.std.proofs.Common.{◌≡◌, ◌≢◌, ◌+◌, ◌<◌, ◌≤◌, ℕ, zero, suc, inl, inr, Bool, true, List, [], ◌∷◌, length, map, slice_get, take, Option, Some, None, refl, sym, ap, ◌∙◌, subst, arith, eqb-true, ◌==◌}
 use Rattle.std.specs.List.{All, Contains}
 use Rattle.std.proofs.lemmas.List.Elements.{All-head, All-tail}
 use Rattle.omi_script.specs.declared.program.Program.{Program}
 use Rattle.omi_model.specs.declared.id.Rid.{Rid}
 use Rattle.omi_model.specs.declared.id.Tid.{Tid}
-use Rattle.omi_model.specs.declared.progress.Progress.{Progress}
 use Rattle.omi_model.specs.declared.progress.Progress.TheVariants as progress
 use Rattle.omi_model.specs.declared.task.Task.{Task}
 use Rattle.omi_model.specs.Columns.{tasks_of}
-use Rattle.omi_model.specs.LawStays.{IsSameTask, stage_of}
-use Rattle.omi_model.specs.State.{State, task_of}
+use Rattle.omi_model.specs.LawStays.{IsSameTask}
+use Rattle.omi_model.specs.declared.region.Region.{Region}
+use Rattle.omi_model.specs.State.{State, region_of, task_of}
 use Rattle.omi_model.specs.Teams.{AreAsksOver, got_threads}
-use Rattle.omi_model.proofs.Slots.{some_same}
+use Rattle.omi_model.proofs.Slots.{found_live, some_same}
+use Rattle.omi_model.proofs.BarrierOrder.{and_left, and_right}
 use Rattle.omi_layout.specs.declared.field.Field.{Field}
 use Rattle.omi_layout.specs.declared.field.Field.TheVariants.{RegionLeft, RegionTeam, ThreadAssign}
 use Rattle.omi_layout.specs.Field.{regions, tasks, threads}
@@ -22,6 +23,7 @@ use Rattle.omi_pc.specs.declared.actor.Actor.{Actor}
 use Rattle.omi_pc.specs.declared.counter.Counter.{Counter}
 use Rattle.omi_pc.specs.declared.counter.Counter.TheVariants as counter
 use Rattle.omi_pc.specs.declared.limits.TheConstants.{START_WORDS, TASK_WORDS, VARIABLE_WORDS}
+use Rattle.omi_pc.specs.declared.task_counter.Ancestor.{Ancestor}
 use Rattle.omi_pc.specs.declared.task_counter.FinishCounter.{FinishCounter}
 use Rattle.omi_pc.specs.declared.task_counter.FinishCounter.TheVariants as finish
 use Rattle.omi_pc.specs.declared.task_counter.LookCounter.{LookCounter}
@@ -39,22 +41,24 @@ use Rattle.omi_pc.specs.declared.frame.Frame.{Frame}
 use Rattle.omi_pc.specs.declared.frame.Wait.{Wait}
 use Rattle.omi_pc.specs.declared.frame.Wait.TheVariants as wait
 use Rattle.omi_pc.specs.declared.place.Place.{Place}
-use Rattle.omi_pc.specs.Fits.{Fits, FitsCounter, FitsTeam}
+use Rattle.omi_pc.specs.Fits.{Fits, FitsCounter, FitsJoin, FitsTeam}
 use Rattle.omi_rep.specs.Codes.{is_place}
+use Rattle.omi_rep.specs.Records.{task_word}
+use Rattle.omi_rule_words.specs.Counts.{is_at}
 use Rattle.omi_rule_words.specs.ExplicitKinds.{IsRow, slot_of}
-use Rattle.omi_rule_words.specs.Owes.{Owed, by_task, by_team, owed, owed_at}
+use Rattle.omi_rule_words.specs.Owes.{Owed, by_finish, by_task, by_team, owed, owed_at}
 use Rattle.omi_rule_words.specs.Threads.{WaitsFor}
-use Rattle.omi_rule_words.specs.Words.{IsInTheMaking, KeepsMaking}
+use Rattle.omi_rule_words.specs.Words.{HasFinished, IsInTheMaking, KeepsMaking, OwesOnLive}
 use Rattle.omi_step_words.specs.declared.plan.Planned.{Planned}
 use Rattle.omi_step_words.specs.Members.{member_of}
 use Rattle.omi_task.specs.LookSteps.{member_at}
 use Rattle.omi_task.specs.Slots.{coded_task}
 use Rattle.omi_task.specs.Starts.{start_plan}
 use Rattle.omi_rule.specs.Chains.{IsWorkerAhead, KeepsContext, Stands, StandsWith}
-use Rattle.omi_rule.specs.LeavesOthers.{LeavesOthers}
-use Rattle.omi_rule.specs.Rows.{HasAsked, HasEndedUnder, HasFilled, HasFilledTask, HasLoaded, HasPlace, HasPlaced, HasSize, HasTested, IsInHand, KeepsFinishRow, KeepsTaskRow, MayStartIn, WasMade, HasTeam, IsFilled, IsRowOf, KeepsBarrierRow, KeepsJoinRow, KeepsLookRow, KeepsRow, KeepsTeamRow, KeepsWorkerRow, Knows, KnowsActive, KnowsLevels, KnowsVariables, Meets, OfRegion, place_of}
-use Rattle.omi_rule.proofs.NamesStay.{NamesStay}
-use Rattle.omi_rule.proofs.OthersStand.{begun_undeferred, of_innermost}
+use Rattle.omi_rule.specs.LeavesOthers.{IsSameForOthers, LeavesOthers}
+use Rattle.omi_rule.specs.Rows.{HasAsked, HasEndedUnder, HasFilled, HasFilledTask, HasLoaded, HasPlace, HasPlaced, HasSize, HasTested, IsInHand, KeepsFinishRow, KeepsTaskRow, MayStartIn, WasMade, HasTeam, IsFilled, IsRowOf, KeepsBarrierRow, KeepsJoinRow, KeepsLookRow, KeepsRow, KeepsTeamRow, KeepsWorkerRow, Knows, KnowsActive, KnowsLevels, KnowsVariables, Meets, OfRegion, place_of, IsAbove, IsAncestor, IsGivenBack}
+use Rattle.omi_rule.proofs.NamesStay.{NamesStay, lives_there}
+use Rattle.omi_rule.proofs.OthersStand.{begun_undeferred, begun_unfinished, of_innermost}
 
 -- what a step of another thread leaves of a thread's words: its records in the making, its assign word where it is about to clear it,
 -- of its regions' words for the members that have left that they don't fall, the empty slots of its implicit tasks, and the place of
@@ -107,12 +111,12 @@ start_field w a (suc (suc (suc zero))) = refl
 start_field w a (suc (suc (suc (suc zero)))) = refl
 start_field w a (suc (suc (suc (suc (suc l))))) = refl
 
--- what has finished stays so
-finished_stays : (x y : Progress) → stage_of x ≤ stage_of y → x ≡ progress.Finished → y ≡ progress.Finished
-finished_stays x progress.Finished more is = refl
-finished_stays x progress.Begun more is = let done = ap stage_of is in absurd (omega (arith, more, done))
-finished_stays x progress.NotBegun more is = let done = ap stage_of is in absurd (omega (arith, more, done))
-finished_stays x progress.Deferred more is = let done = ap stage_of is in absurd (omega (arith, more, done))
+-- a name at a place has its creator and its slot
+pub at_place : (k : Tid) (q : Place) → is_at k q ≡ true → (k.0.creator ≡ q.creator) × (k.0.slot ≡ q.slot)
+at_place k q is = (
+  eqb-true k.0.creator q.creator (and_left (k.0.creator == q.creator) (k.0.slot == q.slot) is),
+  eqb-true k.0.slot q.slot (and_right (k.0.creator == q.creator) (k.0.slot == q.slot) is),
+)
 
 module _ (p : Program) (w : List ℕ) (m n : Memory) (s u : State) (i : ℕ) (leaves : LeavesOthers s u i)
     (names : NamesStay s u) (j : ℕ) (other : j ≢ i) (a : Actor) (spares : Spares m n s j a) where
@@ -121,7 +125,8 @@ module _ (p : Program) (w : List ℕ) (m n : Memory) (s u : State) (i : ℕ) (le
   waits_stay : (k : Tid) → WaitsFor s j k → WaitsFor u j k
   waits_stay k o = record {
     task = o.task;
-    live = leaves.tasks k o.task o.live (λ same. other (sym o.thread ∙ same)) (λ deferred. cc (sym o.progress, deferred));
+    live = leaves.tasks k o.task o.live (λ same. other (sym o.thread ∙ same)) (λ deferred. cc (sym o.progress, deferred))
+        (λ over. cc (sym o.progress, over));
     progress = o.progress;
     thread = o.thread;
   }
@@ -130,9 +135,12 @@ module _ (p : Program) (w : List ℕ) (m n : Memory) (s u : State) (i : ℕ) (le
   unfolding waits_stay
   meets_stays k known (waits, is) = (waits_stay k waits, is)
 
-  size_stays : (r : Rid) (size : ℕ) → HasSize s r size → HasSize u r size
-  size_stays r size (region, found, is) =
-      let (q, now, same) = leaves.regions r region found in (q, now, ap length same.team ∙ is)
+  -- the region of a task that waits has its size
+  size_stays : (k : Tid) (waits : WaitsFor s j k) (r : Rid) (size : ℕ) → waits.task.region ≡ r → HasSize s r size
+      → HasSize u r size
+  size_stays k waits r size of (region, found, is) =
+      let (q, now, same) = leaves.regions k waits.task region waits.live (ap (region_of s) of ∙ found) in
+      (q, ap (region_of u) (sym of) ∙ now, ap length same.team ∙ is)
 
   worker_stays : (c : WorkerCounter) → a.counter ≡ counter.Worker c → KeepsWorkerRow w m s j c
       → KeepsWorkerRow w n u j c
@@ -146,30 +154,37 @@ module _ (p : Program) (w : List ℕ) (m n : Memory) (s u : State) (i : ℕ) (le
   worker_stays (worker.LoadRegion k f) at o = meets_stays k _ o
   worker_stays (worker.LoadRegionLife k f r) at o = meets_stays k _ o
   worker_stays (worker.LoadSize k f r) at o = meets_stays k _ o
-  worker_stays (worker.LoadNumber k f r size) at (o, has) = (meets_stays k _ o, size_stays r size has)
-  worker_stays (worker.ImplicitBegin k f r size number) at (o, has) =
-      (meets_stays k _ o, size_stays r size has)
+  worker_stays (worker.LoadNumber k f r size) at ((waits, is), has) =
+      (meets_stays k _ (waits, is), size_stays k waits r size is.1 has)
+  worker_stays (worker.ImplicitBegin k f r size number) at ((waits, is), has) =
+      (meets_stays k _ (waits, is), size_stays k waits r size is.1 has)
   worker_stays worker.ImplicitEnd at o = tt
   worker_stays (worker.AddLeft r) at o = tt
   worker_stays worker.IdleState at o = tt
 
   -- ---- what is gathered
 
-  levels_stay : KnowsLevels s a → KnowsLevels u a
-  levels_stay (r, found, levels) =
-      let (q, now, same) = leaves.regions a.context.region r found in (q, now, same.levels ∙ levels)
+  region_stays : KeepsContext s j a.context → (r : Region) → region_of s a.context.region ≡ Some r
+      → (q : Region) × (region_of u a.context.region ≡ Some q) × IsSameForOthers i r q
+  region_stays top r found =
+      let (q, now, same) = leaves.regions a.context.task top.task r top.live (ap (region_of s) top.region_is ∙ found) in
+      (q, ap (region_of u) (sym top.region_is) ∙ now, same)
 
-  active_stays : KnowsActive s a → KnowsActive u a
-  active_stays (r, found, levels, active) =
-      let (q, now, same) = leaves.regions a.context.region r found in (q, now, same.levels ∙ levels, same.active ∙ active)
+  levels_stay : KeepsContext s j a.context → KnowsLevels s a → KnowsLevels u a
+  levels_stay top (r, found, levels) =
+      let (q, now, same) = region_stays top r found in (q, now, same.levels ∙ levels)
+
+  active_stays : KeepsContext s j a.context → KnowsActive s a → KnowsActive u a
+  active_stays top (r, found, levels, active) =
+      let (q, now, same) = region_stays top r found in (q, now, same.levels ∙ levels, same.active ∙ active)
 
   variables_stay : KeepsContext s j a.context → (k : ℕ) → KnowsVariables s a k → KnowsVariables u a k
   variables_stay top k (t, live, are) =
       let same : top.task ≡ t = some_same top.live live in
-      (t, leaves.tasks a.context.task t live (λ e. other (sym (ap (λ (x : Task). x.thread) (sym same) ∙ top.thread) ∙ e)) (begun_undeferred t (ap (λ (x : Task). x.progress) (sym same) ∙ top.begun)), are)
+      (t, leaves.tasks a.context.task t live (λ e. other (sym (ap (λ (x : Task). x.thread) (sym same) ∙ top.thread) ∙ e)) (begun_undeferred t (ap (λ (x : Task). x.progress) (sym same) ∙ top.begun)) (begun_unfinished t (ap (λ (x : Task). x.progress) (sym same) ∙ top.begun)), are)
 
   knows_stays : KeepsContext s j a.context → Knows s a → Knows u a
-  knows_stays top o = record { region = active_stays o.region; task = variables_stay top VARIABLE_WORDS o.task }
+  knows_stays top o = record { region = active_stays top o.region; task = variables_stay top VARIABLE_WORDS o.task }
 
   asked_stays : KeepsContext s j a.context → HasAsked s j a → HasAsked u j a
   asked_stays top o =
@@ -230,9 +245,9 @@ module _ (p : Program) (w : List ℕ) (m n : Memory) (s u : State) (i : ℕ) (le
       → KeepsTeamRow p w m s j a c → KeepsTeamRow p w n u j a c
   team_stays team.OverheadState top making fits o = tt
   team_stays team.LoadLevels top making fits o = tt
-  team_stays team.LoadActive top making fits o = levels_stay o
+  team_stays team.LoadActive top making fits o = levels_stay top o
   team_stays (team.LoadVariable word) top making fits (active, variables) =
-      (active_stays active, variables_stay top word variables)
+      (active_stays top active, variables_stay top word variables)
   team_stays team.Want top making fits o = knows_stays top o
   team_stays team.Ask top making fits o = asked_stays top o
   team_stays (team.LoadRegionLife slot) top making fits o = team_got_stays top o
@@ -273,20 +288,33 @@ module _ (p : Program) (w : List ℕ) (m n : Memory) (s u : State) (i : ℕ) (le
 
   -- ---- joins
 
-  join_stays : (c : JoinCounter) → KeepsJoinRow m j a c → KeepsJoinRow n j a c
-  join_stays join.LoadLeft o = tt
-  join_stays join.Join (maker, full) =
+  -- a region that this thread made and joined
+  given_stays : (r : Rid) (size : ℕ) (known : List (Tid × ℕ) → Type 0) → r.0.creator ≡ a.thread → a.thread ≡ j
+      → IsGivenBack s r size known → IsGivenBack u r size known
+  given_stays r size known made mine (region, found, joined, is, knows) =
+      let (q, now, same) = leaves.made r region found (λ e. other (sym (made ∙ mine) ∙ e)) in (
+        q,
+        now,
+        (names.stays.alike_regions r region q found now).joined joined,
+        ap length same.team ∙ is,
+        subst known (sym same.team) knows,
+      )
+
+  join_stays : (c : JoinCounter) → a.thread ≡ j → FitsJoin p a c → KeepsJoinRow m s j a c → KeepsJoinRow n u j a c
+  join_stays join.LoadLeft mine fits o = tt
+  join_stays join.Join mine fits (maker, full) =
       let more = spares.left_kept a.context.region.0.slot in (maker, omega (arith, full, more))
-  join_stays (join.LoadMember r size member) o = tt
-  join_stays (join.LoadLife r size member t) o = tt
-  join_stays (join.FreeTask r size member t) o = tt
-  join_stays (join.FreeRegion r size) o = tt
+  join_stays (join.LoadMember r size member) mine fits o = given_stays r size _ fits.0.1 mine o
+  join_stays (join.LoadLife r size member t) mine fits o = given_stays r size _ fits.0.1 mine o
+  join_stays (join.FreeTask r size member t) mine fits o = given_stays r size _ fits.0.1 mine o
+  join_stays (join.FreeRegion r size) mine fits o = given_stays r size _ fits.1 mine o
 
   -- ---- looks at the slots
 
-  row_of_stays : (row : Place) (k : ℕ) → OfRegion s a (IsRowOf row k) → OfRegion u a (IsRowOf row k)
-  row_of_stays row k (r, found, o) =
-      let (q, now, same) = leaves.regions a.context.region r found in (q, now, subst (λ (xs : List (Tid × ℕ)). (x : Tid × ℕ) × (slice_get xs (member_at k) ≡ Some x) × (place_of x.0.0 ≡ row)) (sym same.team) o)
+  row_of_stays : KeepsContext s j a.context → (row : Place) (k : ℕ) → OfRegion s a (IsRowOf row k)
+      → OfRegion u a (IsRowOf row k)
+  row_of_stays top row k (r, found, o) =
+      let (q, now, same) = region_stays top r found in (q, now, subst (λ (xs : List (Tid × ℕ)). (x : Tid × ℕ) × (slice_get xs (member_at k) ≡ Some x) × (place_of x.0.0 ≡ row)) (sym same.team) o)
 
   made_stays : (code : ℕ) → WasMade w s code → WasMade w u code
   made_stays code o =
@@ -338,25 +366,25 @@ module _ (p : Program) (w : List ℕ) (m n : Memory) (s u : State) (i : ℕ) (le
     λ q below. spares.hand_same k o.task (start_plan w a q).field (start_plan w a q).at known hand o.is.live o.is.progress (start_field w a q) ∙ filled q below,
   )
 
-  look_stays : (c : LookCounter) → a.counter ≡ counter.Look c → j < s.count
+  look_stays : (c : LookCounter) → KeepsContext s j a.context → a.counter ≡ counter.Look c → j < s.count
       → ((k : Tid) → (owed a).hand ≡ Some k → StaysInHand k) → KeepsLookRow w m s a c → KeepsLookRow w n u a c
-  look_stays (look.State v) at known now o = tt
-  look_stays (look.LoadRow v k) at known now o = tt
-  look_stays (look.LoadSlot v k row) at known now o = row_of_stays row k o
-  look_stays (look.LoadGenerating v k row code) at known now (o, made) =
-      (row_of_stays row k o, made_stays code made)
-  look_stays (look.Take v k row code) at known now (o, tested) =
-      (row_of_stays row k o, tested_stays v code tested)
-  look_stays (look.LoadFunction v k code t) at known now o =
+  look_stays (look.State v) top at known now o = tt
+  look_stays (look.LoadRow v k) top at known now o = tt
+  look_stays (look.LoadSlot v k row) top at known now o = row_of_stays top row k o
+  look_stays (look.LoadGenerating v k row code) top at known now (o, made) =
+      (row_of_stays top row k o, made_stays code made)
+  look_stays (look.Take v k row code) top at known now (o, tested) =
+      (row_of_stays top row k o, tested_stays v code tested)
+  look_stays (look.LoadFunction v k code t) top at known now o =
       in_hand_stays v t (λ x. Unit {0}) (λ x y same h. tt) (now t (ap in_the_hand at)) o
-  look_stays (look.LoadFinal v k code t f) at known now o =
+  look_stays (look.LoadFinal v k code t f) top at known now o =
       in_hand_stays v t (λ x. x.function ≡ f) (λ x y same h. same.function ∙ h) (now t (ap in_the_hand at)) o
-  look_stays (look.Fill v k code t f final word) at known now o =
+  look_stays (look.Fill v k code t f final word) top at known now o =
       placed_stays v t f final word known (ap in_the_hand at) (now t (ap in_the_hand at)) o
-  look_stays (look.Start v k code t f final) at known now o =
+  look_stays (look.Start v k code t f final) top at known now o =
       placed_stays v t f final START_WORDS known (ap in_the_hand at) (now t (ap in_the_hand at)) o
-  look_stays look.LoadChildren at known now o = tt
-  look_stays (look.Yield k) at known now o = tt
+  look_stays look.LoadChildren top at known now o = tt
+  look_stays (look.Yield k) top at known now o = tt
 
   -- ---- explicit tasks in the making
 
@@ -398,40 +426,79 @@ module _ (p : Program) (w : List ℕ) (m n : Memory) (s u : State) (i : ℕ) (le
 
   -- ---- explicit tasks that have finished
 
-  ended_stays : (k : Tid) (known : Tid → Type 0) → HasEndedUnder s a k known → HasEndedUnder u a k known
-  ended_stays k known o =
-      let (x, later, same) = names.ended k o.task o.live o.explicit o.progress in
+  ended_stays : (k : Tid) (known : Tid → Type 0) → HasFinished u k → HasEndedUnder s a k known
+      → HasEndedUnder u a k known
+  ended_stays k known now o =
+      let same = names.stays.alike k o.task now.task o.live now.live in
       record {
-        task = x;
-        live = later;
-        explicit = same.implicit ∙ o.explicit;
-        progress = finished_stays o.task.progress x.progress same.stage o.progress;
+        task = now.task;
+        live = now.live;
+        explicit = now.explicit;
+        progress = now.progress;
         region = same.region ∙ o.region;
         generating = o.generating;
         made_by = same.generating ∙ o.made_by;
         knows = o.knows;
       }
 
-  finish_stays : (c : FinishCounter) → KeepsFinishRow s a c → KeepsFinishRow u a c
-  finish_stays finish.Finish o = tt
-  finish_stays (finish.LoadGenerating v t) o = ended_stays t _ o
-  finish_stays (finish.SubtractChildren v t at) o = ended_stays t _ o
-  finish_stays (finish.SubtractReferences v t at) o = tt
-  finish_stays (finish.Free v t at) o = tt
-  finish_stays (finish.LoadImplicit v at) o = tt
-  finish_stays (finish.LoadNext v at) o = tt
-  finish_stays (finish.LoadLife v at next) o = tt
-  finish_stays (finish.SubtractGenerating v at explicit) o = tt
-  finish_stays (finish.SubtractPending v) o = tt
+  -- the task that generated one which was given back: a reference of it is owed, so a task lives at its place
+  above_stays : (at : Place) (known : Tid → Task → Type 0)
+      → ((k : Tid) (x y : Task) → IsSameTask x y → known k x → known k y) → KeepsContext s j a.context
+      → (k : Tid) (x : Task) → is_at k at ≡ true → task_of u k ≡ Some x → IsAbove s a at known → IsAbove u a at known
+  above_stays at known keeps top k x is later o =
+      let (creator, slot) = at_place k at is in
+      let here : (u.tasks o.name.0.creator o.name.0.slot).live ≡ Some x =
+      subst (λ (q : Place). (u.tasks q.creator q.slot).live ≡ Some x) (sym o.there)
+      (subst (λ c. (u.tasks c at.slot).live ≡ Some x) creator
+      (subst (λ h. (u.tasks k.0.creator h).live ≡ Some x) slot (found_live k.0.generation (u.tasks k.0.creator k.0.slot) x later))) in
+      let (v, now, same) = lives_there s u names o.name o.task o.live x here in
+      record {
+        name = o.name;
+        task = v;
+        live = now;
+        there = o.there;
+        next = λ t live. o.next t (top.live ∙ ap Some (some_same (leaves.tasks a.context.task top.task top.live (λ e. other (sym top.thread ∙ e)) (begun_undeferred top.task top.begun) (begun_unfinished top.task top.begun)) live));
+        knows = keeps o.name o.task v same o.knows;
+      }
+
+  ancestor_stays : (x : Option Ancestor) (k : Tid) (t v : Task) → IsSameTask t v → IsAncestor w x k t → IsAncestor w x k v
+  ancestor_stays None k t v same o = same.implicit ∙ o
+  ancestor_stays (Some x) k t v same (explicit, name, word) =
+      (same.implicit ∙ explicit, name, ap (task_word w) same.generating ∙ word)
+
+  finish_stays : (c : FinishCounter) → KeepsContext s j a.context → OwesOnLive u (by_finish a.context c)
+      → KeepsFinishRow w s a c → KeepsFinishRow w u a c
+  finish_stays finish.Finish top owes o = tt
+  finish_stays (finish.LoadGenerating v t) top owes o = ended_stays t _ (owes.own t refl).0 o
+  finish_stays (finish.SubtractChildren v t at) top owes o = ended_stays t _ (owes.own t refl).0 o
+  finish_stays (finish.SubtractReferences v t at) top owes o = ended_stays t _ (owes.own t refl).0 o
+  finish_stays (finish.Free v t at) top owes o = ended_stays t _ (owes.gives t refl).0 o
+  finish_stays (finish.LoadImplicit v at) top owes o =
+      let (k, is, there) = owes.returned at refl in
+      let (x, later, home) = there in
+      above_stays at _ (λ q t y same h. tt) top k x is later o
+  finish_stays (finish.LoadNext v at) top owes o =
+      let (k, is, there) = owes.returned at refl in
+      let (x, later, home) = there in
+      above_stays at _ (λ q t y same h. same.implicit ∙ h) top k x is later o
+  finish_stays (finish.LoadLife v at next) top owes o =
+      let (k, is, there) = owes.returned at refl in
+      let (x, later, home) = there in
+      above_stays at _ (λ q t y same (h, e). (same.implicit ∙ h, ap (task_word w) same.generating ∙ e)) top k x is later o
+  finish_stays (finish.SubtractGenerating v at explicit) top owes o =
+      let (k, is, there) = owes.returned at refl in
+      let (x, later, home) = there in
+      above_stays at _ (ancestor_stays explicit) top k x is later o
+  finish_stays (finish.SubtractPending v) top owes o = tt
 
   -- ---- the whole
 
-  pub row_stays : Fits p a → Stands p s j a
+  pub row_stays : Fits p a → a.thread ≡ j → Stands p s j a
       → ((top : KeepsContext s j a.context) → IsRow s j a.context.row top.task) → j < s.count
-      → ((k : Tid) → (owed a).hand ≡ Some k → StaysInHand k) → KeepsMaking s j (owed a)
+      → ((k : Tid) → (owed a).hand ≡ Some k → StaysInHand k) → OwesOnLive u (owed a) → KeepsMaking s j (owed a)
       → ((c : BarrierCounter) → a.counter ≡ counter.Barrier c → KeepsBarrierRow s a c → KeepsBarrierRow u a c)
       → KeepsRow p w m s j a a.counter → KeepsRow p w n u j a a.counter
-  row_stays fits stands rows known hands making barriers o = go a.counter refl o
+  row_stays fits mine stands rows known hands owes making barriers o = go a.counter refl o
     where
       go : (c : Counter) → a.counter ≡ c → KeepsRow p w m s j a c → KeepsRow p w n u j a c
       go (counter.Worker c) e x = worker_stays c e x
@@ -440,11 +507,15 @@ module _ (p : Program) (w : List ℕ) (m n : Memory) (s u : State) (i : ℕ) (le
           (subst (λ (y : Counter). KeepsMaking s j (owed_at a.context a.gathered.team y)) e making)
           (subst (λ (y : Counter). FitsCounter p a y) e fits.counter) x
       go (counter.Barrier c) e x = barriers c e x
-      go (counter.Join c) e x = join_stays c x
+      go (counter.Join c) e x =
+          join_stays c mine (subst (λ (y : Counter). FitsCounter p a y) e fits.counter) x
       go (counter.Task c) e x =
           let top = context_of p s j a (λ d f. absurd (cc (sym e, f))) stands in
           task_stays c top (rows top)
           (subst (λ (y : Counter). KeepsMaking s j (owed_at a.context a.gathered.team y)) e making) x
-      go (counter.Look c) e x = look_stays c e known hands x
-      go (counter.Finish c) e x = finish_stays c x
+      go (counter.Look c) e x =
+          look_stays c (context_of p s j a (λ d f. absurd (cc (sym e, f))) stands) e known hands x
+      go (counter.Finish c) e x =
+          finish_stays c (context_of p s j a (λ d f. absurd (cc (sym e, f))) stands)
+          (subst (λ (y : Counter). OwesOnLive u (owed_at a.context a.gathered.team y)) e owes) x
       go (counter.Plain c) e x = tt

@@ -29,6 +29,8 @@ use Rattle.omi_pc.specs.declared.task_counter.TaskCounter.{TaskCounter}
 use Rattle.omi_pc.specs.declared.task_counter.TaskCounter.TheVariants as task
 use Rattle.omi_pc.specs.declared.team_counter.BarrierCounter.{BarrierCounter}
 use Rattle.omi_pc.specs.declared.team_counter.BarrierCounter.TheVariants as barrier
+use Rattle.omi_pc.specs.declared.team_counter.JoinCounter.{JoinCounter}
+use Rattle.omi_pc.specs.declared.team_counter.JoinCounter.TheVariants as join
 use Rattle.omi_pc.specs.declared.team_counter.TeamCounter.{TeamCounter}
 use Rattle.omi_pc.specs.declared.team_counter.TeamCounter.TheVariants as team
 use Rattle.omi_pc.specs.Frames.{body_in, statement_of}
@@ -211,6 +213,15 @@ barrier_ahead p at fs (barrier.LoadPending b) = arrived p at fs b
 barrier_ahead p at fs (barrier.Release b) = arrived p at fs b
 barrier_ahead p at fs (barrier.LoadReleased b) = released p at fs b
 
+-- a join, and behind it the construct of the task that encountered the region
+abbrev pub join_ahead : Program → Encounter → List Frame → JoinCounter → List Item
+join_ahead p at fs join.LoadLeft = item.Join ∷ []
+join_ahead p at fs join.Join = item.Join ∷ []
+join_ahead p at fs (join.LoadMember r size member) = working at (leaving p at fs)
+join_ahead p at fs (join.LoadLife r size member t) = working at (leaving p at fs)
+join_ahead p at fs (join.FreeTask r size member t) = working at (leaving p at fs)
+join_ahead p at fs (join.FreeRegion r size) = working at (leaving p at fs)
+
 -- where a task waits and others may start, and in front of it the state of the wait
 abbrev pub waiting : Program → Encounter → List Frame → Wait → List Item
 waiting p at fs (wait.Barrier b) = arrived p at fs b
@@ -292,7 +303,7 @@ abbrev pub IsAhead : Program → Encounter → List Frame → Counter → List I
 IsAhead p at fs (counter.Worker c) list = list ≡ item.ImplicitEnd ∷ []
 IsAhead p at fs (counter.Team c) list = list ≡ team_ahead p at fs c
 IsAhead p at fs (counter.Barrier c) list = list ≡ barrier_ahead p at fs c
-IsAhead p at fs (counter.Join c) list = list ≡ item.Join ∷ []
+IsAhead p at fs (counter.Join c) list = list ≡ join_ahead p at fs c
 IsAhead p at fs (counter.Task c) list = list ≡ task_ahead p at fs c
 IsAhead p at fs (counter.Look c) list = IsLookAhead p at fs c list
 IsAhead p at fs (counter.Finish c) list = list ≡ finish_ahead p at fs c

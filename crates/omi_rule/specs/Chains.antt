@@ -1,8 +1,10 @@
 -- Where a thread stands against the state: the contexts of its tasks, from the current one down by the tasks that these were scheduled
 -- from, are what the state says of them, and their to-do lists are what is ahead in their bodies.
-use Rattle.std.specs.Prelude.{◌≡◌, ℕ, true, List, [], ◌∷◌, length, slice_get, slice_index, Some, None, if◌then◌else◌}
+use Rattle.std.specs.Prelude.{◌≡◌, ℕ, true, List, [], ◌∷◌, length, slice_get, slice_index, Option, Some, None, if◌then◌else◌}
 use Rattle.omi_script.specs.declared.program.Program.{Program}
 use Rattle.omi_model.specs.declared.encounter.Encounter.{Encounter}
+use Rattle.omi_model.specs.declared.freeable.Freeable.{Freeable}
+use Rattle.omi_model.specs.declared.freeable.Freeable.TheVariants as freeable
 use Rattle.omi_model.specs.declared.item.Item.{Item}
 use Rattle.omi_model.specs.declared.item.Item.TheVariants as item
 use Rattle.omi_model.specs.declared.progress.Progress.TheVariants as progress
@@ -21,6 +23,10 @@ use Rattle.omi_pc.specs.declared.counter.Counter.TheVariants as counter
 use Rattle.omi_pc.specs.declared.frame.Frame.{Frame}
 use Rattle.omi_pc.specs.declared.frame.Opened.{Opened}
 use Rattle.omi_pc.specs.declared.frame.Opened.TheVariants as opened
+use Rattle.omi_pc.specs.declared.task_counter.FinishCounter.{FinishCounter}
+use Rattle.omi_pc.specs.declared.task_counter.FinishCounter.TheVariants as finish
+use Rattle.omi_pc.specs.declared.team_counter.JoinCounter.{JoinCounter}
+use Rattle.omi_pc.specs.declared.team_counter.JoinCounter.TheVariants as join
 use Rattle.omi_pc.specs.declared.team_counter.WorkerCounter.{WorkerCounter}
 use Rattle.omi_pc.specs.declared.team_counter.WorkerCounter.TheVariants as worker
 use Rattle.omi_pc.specs.Moves.{context_under}
@@ -94,6 +100,45 @@ abbrev pub RunsFunctions : State → Context → List Frame → Type 0
 RunsFunctions s c [] = Unit {0}
 RunsFunctions s c (f ∷ fs) = RunsBody s c f × RunsFunctions s (context_under c f.opened) fs
 
+-- ---- what may be given back
+
+-- what stands in front of a list may be passed over: no region is to be given back first
+abbrev pub IsPassable : Option Freeable → Type 0
+IsPassable None = Unit {0}
+IsPassable (Some (freeable.Finished t)) = Unit {0}
+IsPassable (Some (freeable.Joined n number)) = ⊥
+
+abbrev pub IsJoinFront : JoinCounter → Option Freeable → Type 0
+IsJoinFront join.LoadLeft front = IsPassable front
+IsJoinFront join.Join front = IsPassable front
+IsJoinFront (join.LoadMember r size member) front = front ≡ Some (freeable.Joined r member)
+IsJoinFront (join.LoadLife r size member t) front = front ≡ Some (freeable.Joined r member)
+IsJoinFront (join.FreeTask r size member t) front = front ≡ Some (freeable.Joined r member)
+IsJoinFront (join.FreeRegion r size) front = front ≡ Some (freeable.Joined r size)
+
+abbrev pub IsFinishFront : FinishCounter → Option Freeable → Type 0
+IsFinishFront finish.Finish front = IsPassable front
+IsFinishFront (finish.LoadGenerating w t) front = front ≡ Some (freeable.Finished t)
+IsFinishFront (finish.SubtractChildren w t generating) front = front ≡ Some (freeable.Finished t)
+IsFinishFront (finish.SubtractReferences w t generating) front = front ≡ Some (freeable.Finished t)
+IsFinishFront (finish.Free w t generating) front = front ≡ Some (freeable.Finished t)
+IsFinishFront (finish.LoadImplicit w generating) front = IsPassable front
+IsFinishFront (finish.LoadNext w generating) front = IsPassable front
+IsFinishFront (finish.LoadLife w generating next) front = IsPassable front
+IsFinishFront (finish.SubtractGenerating w generating explicit) front = IsPassable front
+IsFinishFront (finish.SubtractPending w) front = IsPassable front
+
+-- what may be given back in front of the current task's list, by where its thread stands
+abbrev pub IsFront : Counter → Option Freeable → Type 0
+IsFront (counter.Worker c) front = IsPassable front
+IsFront (counter.Team c) front = IsPassable front
+IsFront (counter.Barrier c) front = IsPassable front
+IsFront (counter.Join c) front = IsJoinFront c front
+IsFront (counter.Task c) front = IsPassable front
+IsFront (counter.Look c) front = IsPassable front
+IsFront (counter.Finish c) front = IsFinishFront c front
+IsFront (counter.Plain c) front = IsPassable front
+
 -- ---- threads
 
 -- a thread with a task
@@ -102,6 +147,7 @@ pub record StandsInTask (p : Program) (s : State) (i : ℕ) (a : Actor) : Type 0
   pub bodies : KeepsBodies p s i a.context a.stack
   pub ahead : (t : Task) → task_of s a.context.task ≡ Some t
       → IsAhead p (encounter_of s a.context) a.stack a.counter t.list
+  pub front : (t : Task) → task_of s a.context.task ≡ Some t → IsFront a.counter t.frees
 
 -- what is ahead of a worker without a task
 abbrev pub offering : List Item

@@ -14,7 +14,7 @@ use Rattle.omi_model.specs.Changes.{OfCurrent, OfCurrentRegion}
 use Rattle.omi_numbers.specs.declared.variables.TheConstants.{DEFAULT_DEVICE_VAR, DYN_VAR, MAX_ACTIVE_LEVELS_VAR, NTHREADS_VAR, RUN_SCHED_VAR}
 use Rattle.omi_model.specs.State.{State}
 use Rattle.omi_layout.specs.declared.field.Field.{Field}
-use Rattle.omi_layout.specs.declared.field.Field.TheVariants.{RegionArrived, RegionReleased, RuntimeLocks, RuntimeMaxActive, TaskChildren, TaskDevice, TaskDynamic, TaskEnter, TaskNthreads, TaskSchedule, TaskSlots, TaskTool, ThreadClaim, ThreadCurrent, ThreadLife, ThreadNative, ThreadState}
+use Rattle.omi_layout.specs.declared.field.Field.TheVariants.{RegionArrived, RegionLife, RegionReleased, RuntimeLocks, RuntimeMaxActive, TaskChildren, TaskDevice, TaskDynamic, TaskEnter, TaskLife, TaskNthreads, TaskSchedule, TaskSlots, TaskTool, ThreadClaim, ThreadCurrent, ThreadLife, ThreadNative, ThreadState}
 use Rattle.omi_layout.specs.Memory.{word_address}
 use Rattle.omi_layout.specs.Named.{number}
 use Rattle.omi_rep.specs.declared.outcome.Outcome.{Outcome}
@@ -51,7 +51,7 @@ abbrev pub defers_next : ℕ → List Item → Type 0
 defers_next j (item.Defer seen f final ∷ xs) = j ≡ seen
 defers_next j xs = ⊥
 
--- Each event is committed by one operation on one word. Those that give records back are committed by no step yet
+-- Each event is committed by one operation on one word
 abbrev pub CommitsAt : List ℕ → State → ℕ → Event → Op → Type 0
 CommitsAt w s i event.Begin o = StoresAt o (of_thread w i ThreadLife)
 CommitsAt w s i event.Offer o = StoresAt o (of_thread w i ThreadClaim)
@@ -85,7 +85,8 @@ CommitsAt w s i (event.Call f) o = o ≡ op.Load (of_thread w i ThreadNative)
 CommitsAt w s i event.Skip o = o ≡ op.Load (of_thread w i ThreadNative)
 CommitsAt w s i event.Ret o = o ≡ op.Load (of_thread w i ThreadNative)
 CommitsAt w s i event.Done o = o ≡ op.Load (of_thread w i ThreadNative)
-CommitsAt w s i e o = ⊥
+CommitsAt w s i (event.FreeTask task) o = StoresAt o (of_task w task TaskLife)
+CommitsAt w s i (event.FreeRegion region) o = StoresAt o (of_region w region RegionLife)
 
 -- a load, or a compare and exchange
 abbrev pub IsLoad : Op → Type 0

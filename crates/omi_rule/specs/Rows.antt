@@ -1,8 +1,9 @@
 -- What the registers of a thread say of the state and of the words of its records in the making, by its counter. A row names the
 -- thread's own registers, its own words and the state, and never another thread.
-use Rattle.std.specs.Prelude.{◌≡◌, ℕ, zero, suc, ◌-◌, ◌^◌, ◌<◌, ◌≤◌, false, List, ◌∷◌, length, map, slice_get, slice_index, take, Some, Bool, Option, None}
+use Rattle.std.specs.Prelude.{◌≡◌, ℕ, zero, suc, ◌-◌, ◌^◌, ◌<◌, ◌≤◌, true, false, List, ◌∷◌, length, map, slice_get, slice_index, take, Some, Bool, Option, None}
 use Rattle.omi_script.specs.declared.program.Program.{Program}
 use Rattle.omi_script.specs.declared.statement.Stmt.TheVariants as stmt
+use Rattle.omi_model.specs.declared.freeable.Freeable.TheVariants as freeable
 use Rattle.omi_model.specs.declared.id.Id.{Id}
 use Rattle.omi_model.specs.declared.id.Rid.{Rid}
 use Rattle.omi_model.specs.declared.id.Tid.{Tid}
@@ -10,7 +11,7 @@ use Rattle.omi_model.specs.declared.progress.Progress.TheVariants as progress
 use Rattle.omi_model.specs.declared.region.Region.{Region}
 use Rattle.omi_model.specs.declared.task.Task.{Task}
 use Rattle.omi_model.specs.declared.task.Variables.{Variables}
-use Rattle.omi_model.specs.Barriers.{AreFinished, HaveArrived}
+use Rattle.omi_model.specs.Barriers.{HasNoExplicit, HaveArrived}
 use Rattle.omi_model.specs.Columns.{tasks_of}
 use Rattle.omi_model.specs.Fresh.{IsFresh}
 use Rattle.omi_model.specs.LawClaims.{others_below}
@@ -23,6 +24,7 @@ use Rattle.omi_layout.specs.Field.{regions, tasks, threads}
 use Rattle.omi_layout.specs.Memory.{Memory, Rec}
 use Rattle.omi_layout.specs.Named.{number}
 use Rattle.omi_pc.specs.declared.actor.Actor.{Actor}
+use Rattle.omi_pc.specs.declared.task_counter.Ancestor.{Ancestor}
 use Rattle.omi_pc.specs.declared.counter.Counter.{Counter}
 use Rattle.omi_pc.specs.declared.counter.Counter.TheVariants as counter
 use Rattle.omi_pc.specs.declared.limits.TheConstants.{REGION_WORDS, TASK_WORDS, VARIABLE_WORDS, START_WORDS}
@@ -44,7 +46,7 @@ use Rattle.omi_pc.specs.declared.team_counter.TeamCounter.TheVariants as team
 use Rattle.omi_pc.specs.declared.team_counter.WorkerCounter.{WorkerCounter}
 use Rattle.omi_pc.specs.declared.team_counter.WorkerCounter.TheVariants as worker
 use Rattle.omi_pc.specs.OpenBodies.{IsAt}
-use Rattle.omi_rep.specs.Records.{task_address}
+use Rattle.omi_rep.specs.Records.{task_address, task_word}
 use Rattle.omi_rule_words.specs.Counts.{has_slot}
 use Rattle.omi_rule_words.specs.ExplicitKinds.{IsDeferred, slot_of}
 use Rattle.omi_rule_words.specs.Threads.{WaitsFor}
@@ -58,11 +60,11 @@ use Rattle.omi_task.specs.MakingSteps.{new_task}
 use Rattle.omi_task.specs.Slots.{coded_task}
 use Rattle.omi_task.specs.Starts.{start_plan}
 
--- ---- workers
-
 -- the slot of an object
 abbrev pub place_of : Id → Place
 place_of n = record { creator = n.creator; slot = n.slot }
+
+-- ---- workers
 
 -- a thread meets the task that waits for it, and has read so much of its record
 abbrev pub Meets : State → ℕ → Tid → (Task → Type 0) → Type 0
@@ -204,17 +206,34 @@ KeepsBarrierRow s a (barrier.Arrive b) = Unit {0}
 KeepsBarrierRow s a (barrier.LoadArrived b) = Unit {0}
 KeepsBarrierRow s a (barrier.LoadPending b) = OfRegion s a HaveArrived
 KeepsBarrierRow s a (barrier.Release b) =
-    OfRegion s a HaveArrived × AreFinished s a.context.region
+    OfRegion s a HaveArrived × HasNoExplicit s a.context.region
 KeepsBarrierRow s a (barrier.LoadReleased b) = HasReleased s a a.context.number
 
 -- ---- joins
 
 -- member 0 has found that the others have left. Their word is in a record that it made, and never falls
-abbrev pub KeepsJoinRow : Memory → ℕ → Actor → JoinCounter → Type 0
-KeepsJoinRow m i a join.Join =
-    (a.context.region.0.creator ≡ i)
+abbrev pub HaveLeft : Memory → ℕ → Actor → Type 0
+HaveLeft m i a = (a.context.region.0.creator ≡ i)
     × (a.context.size - 1 ≤ m i regions a.context.region.0.slot (number RegionLeft) 0)
-KeepsJoinRow m i a c = Unit {0}
+
+-- a joined region is given back, of whose team, which has this size, this is known
+abbrev pub IsGivenBack : State → Rid → ℕ → (List (Tid × ℕ) → Type 0) → Type 0
+IsGivenBack s r size known = (region : Region) × (region_of s r ≡ Some region)
+    × (region.joined ≡ true) × (length region.team ≡ size) × known region.team
+
+-- the task of this member has this name
+abbrev pub IsMemberOf : ℕ → (Tid → Type 0) → List (Tid × ℕ) → Type 0
+IsMemberOf member known team = (m : Tid × ℕ) × (slice_get team member ≡ Some m) × known m.0
+
+abbrev pub KeepsJoinRow : Memory → State → ℕ → Actor → JoinCounter → Type 0
+KeepsJoinRow m s i a join.LoadLeft = Unit {0}
+KeepsJoinRow m s i a join.Join = HaveLeft m i a
+KeepsJoinRow m s i a (join.LoadMember r size member) = IsGivenBack s r size (λ team. Unit {0})
+KeepsJoinRow m s i a (join.LoadLife r size member t) =
+    IsGivenBack s r size (IsMemberOf member (λ k. place_of k.0 ≡ t))
+KeepsJoinRow m s i a (join.FreeTask r size member t) =
+    IsGivenBack s r size (IsMemberOf member (λ k. k ≡ t))
+KeepsJoinRow m s i a (join.FreeRegion r size) = IsGivenBack s r size (λ team. Unit {0})
 
 -- ---- explicit tasks in the making
 
@@ -308,10 +327,35 @@ pub record HasEndedUnder (s : State) (a : Actor) (k : Tid) (known : Tid → Type
   pub made_by : task.generating ≡ Some generating
   pub knows : known generating
 
-abbrev pub KeepsFinishRow : State → Actor → FinishCounter → Type 0
-KeepsFinishRow s a (finish.LoadGenerating v t) = HasEndedUnder s a t (λ g. Unit {0})
-KeepsFinishRow s a (finish.SubtractChildren v t at) = HasEndedUnder s a t (λ g. place_of g.0 ≡ at)
-KeepsFinishRow s a c = Unit {0}
+-- the task that generated one which was given back may be given back next: it lives, is the one at this place, and this is known
+pub record IsAbove (s : State) (a : Actor) (at : Place) (known : Tid → Task → Type 0) : Type 0 where
+  pub name : Tid
+  pub task : Task
+  pub live : task_of s name ≡ Some task
+  pub there : place_of name.0 ≡ at
+  pub next : (t : Task) → task_of s a.context.task ≡ Some t
+      → t.frees ≡ Some (freeable.Finished name)
+  pub knows : known name task
+
+-- what is known of it where it is explicit: its name, and the word that names its own generating task
+abbrev pub IsAncestor : List ℕ → Option Ancestor → Tid → Task → Type 0
+IsAncestor w None k g = g.implicit ≡ true
+IsAncestor w (Some x) k g = (g.implicit ≡ false) × (x.task ≡ k) × (task_word w g.generating ≡ x.generating)
+
+abbrev pub KeepsFinishRow : List ℕ → State → Actor → FinishCounter → Type 0
+KeepsFinishRow w s a finish.Finish = Unit {0}
+KeepsFinishRow w s a (finish.LoadGenerating v t) = HasEndedUnder s a t (λ g. Unit {0})
+KeepsFinishRow w s a (finish.SubtractChildren v t at) = HasEndedUnder s a t (λ g. place_of g.0 ≡ at)
+KeepsFinishRow w s a (finish.SubtractReferences v t at) =
+    HasEndedUnder s a t (λ g. place_of g.0 ≡ at)
+KeepsFinishRow w s a (finish.Free v t at) = HasEndedUnder s a t (λ g. place_of g.0 ≡ at)
+KeepsFinishRow w s a (finish.LoadImplicit v at) = IsAbove s a at (λ k g. Unit {0})
+KeepsFinishRow w s a (finish.LoadNext v at) = IsAbove s a at (λ k g. g.implicit ≡ false)
+KeepsFinishRow w s a (finish.LoadLife v at next) =
+    IsAbove s a at (λ k g. (g.implicit ≡ false) × (task_word w g.generating ≡ next))
+KeepsFinishRow w s a (finish.SubtractGenerating v at explicit) =
+    IsAbove s a at (IsAncestor w explicit)
+KeepsFinishRow w s a (finish.SubtractPending v) = Unit {0}
 
 -- ---- the whole
 
@@ -319,8 +363,8 @@ abbrev pub KeepsRow : Program → List ℕ → Memory → State → ℕ → Acto
 KeepsRow p w m s i a (counter.Worker c) = KeepsWorkerRow w m s i c
 KeepsRow p w m s i a (counter.Team c) = KeepsTeamRow p w m s i a c
 KeepsRow p w m s i a (counter.Barrier c) = KeepsBarrierRow s a c
-KeepsRow p w m s i a (counter.Join c) = KeepsJoinRow m i a c
+KeepsRow p w m s i a (counter.Join c) = KeepsJoinRow m s i a c
 KeepsRow p w m s i a (counter.Task c) = KeepsTaskRow p w m s i a c
 KeepsRow p w m s i a (counter.Look c) = KeepsLookRow w m s a c
-KeepsRow p w m s i a (counter.Finish c) = KeepsFinishRow s a c
+KeepsRow p w m s i a (counter.Finish c) = KeepsFinishRow w s a c
 KeepsRow p w m s i a (counter.Plain c) = Unit {0}

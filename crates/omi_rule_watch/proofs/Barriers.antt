@@ -1,5 +1,5 @@
--- The steps of a barrier, and of the end of an explicit task.
-use Rattle.std.proofs.Common.{◌≡◌, ◌≢◌, ◌<◌, ◌==◌, ltb-true, ℕ, zero, suc, Bool, true, false, List, [], ◌∷◌, Option, Some, None, refl, ap, ◌∙◌, arith, if◌then◌else◌}
+-- The steps of a barrier.
+use Rattle.std.proofs.Common.{◌≡◌, ◌≢◌, ◌<◌, ◌==◌, ltb-true, ℕ, zero, suc, Bool, true, false, List, [], ◌∷◌, refl, ap, ◌∙◌, arith, if◌then◌else◌}
 use Rattle.omi_word.specs.declared.op.Op.TheVariants as op
 use Rattle.omi_script.specs.declared.program.Program.{Program}
 use Rattle.omi_model.specs.declared.event.Event.{Event}
@@ -7,8 +7,8 @@ use Rattle.omi_model.specs.declared.event.Event.TheVariants as event
 use Rattle.omi_model.specs.declared.region.Region.{Region}
 use Rattle.omi_model.specs.State.{State}
 use Rattle.omi_model.proofs.Slots.{some_same}
-use Rattle.omi_layout.specs.declared.field.Field.TheVariants.{RegionArrived, RegionPending, RegionReleased, TaskGenerating}
-use Rattle.omi_layout.specs.Field.{regions, tasks}
+use Rattle.omi_layout.specs.declared.field.Field.TheVariants.{RegionArrived, RegionPending, RegionReleased}
+use Rattle.omi_layout.specs.Field.{regions}
 use Rattle.omi_layout.specs.Memory.{Memory}
 use Rattle.omi_layout.specs.Named.{number}
 use Rattle.omi_pc.specs.declared.actor.Actor.{Actor}
@@ -20,11 +20,6 @@ use Rattle.omi_pc.specs.declared.frame.Barrier.TheVariants.{Explicit, Implicit}
 use Rattle.omi_pc.specs.declared.frame.Frame.{Frame}
 use Rattle.omi_pc.specs.declared.frame.Opened.{Opened}
 use Rattle.omi_pc.specs.declared.frame.Opened.TheVariants as opened
-use Rattle.omi_pc.specs.declared.frame.Wait.{Wait}
-use Rattle.omi_pc.specs.declared.frame.Wait.TheVariants as wait
-use Rattle.omi_pc.specs.declared.task_counter.FinishCounter.{FinishCounter}
-use Rattle.omi_pc.specs.declared.task_counter.FinishCounter.TheVariants as finish
-use Rattle.omi_pc.specs.declared.task_counter.LookCounter.TheVariants as look
 use Rattle.omi_pc.specs.declared.team_counter.BarrierCounter.{BarrierCounter}
 use Rattle.omi_pc.specs.declared.team_counter.BarrierCounter.TheVariants as barrier
 use Rattle.omi_pc.specs.declared.team_counter.JoinCounter.TheVariants as join
@@ -34,14 +29,12 @@ use Rattle.omi_pc.specs.OpenBodies.{IsAtBarrier, IsAtEnd, IsMember}
 use Rattle.omi_rep.specs.declared.outcome.Outcome.TheVariants as outcome
 use Rattle.omi_step_words.specs.Moving.{to_barrier}
 use Rattle.omi_fork.specs.BarrierSteps.{past_arrive, barrier_moved, barrier_next, barrier_outcome, behind_member_end, ended_in, is_closed, looking, of_current, passed, some_missing}
-use Rattle.omi_task.specs.FinishSteps.{behind_finish, finish_moved, finish_next, finish_outcome}
 use Rattle.omi_rule.specs.Rows.{HasReleased}
 use Rattle.omi_rule.specs.Steps.{IsOn, RecordWord, found_in}
-use Rattle.omi_rule.specs.StepsKeep.{IsFinishKept}
 use Rattle.omi_rule.proofs.Assembly.{Before}
 use Rattle.omi_rule.proofs.barrier.AtBarrier.{fits_barrier, row}
-use Rattle.omi_rule.proofs.barrier.AtCounter.{context_placed, here, keeps_region, placed_counter}
-use Rattle.omi_rule_watch.specs.Given.{Has, HasAll, IsLookGiven, IsSearchGiven, region_found, task_found}
+use Rattle.omi_rule.proofs.barrier.AtCounter.{context_placed, here, keeps_region}
+use Rattle.omi_rule_watch.specs.Given.{HasAll, IsLookGiven, IsSearchGiven}
 use Rattle.omi_rule_watch.specs.Watch.{SlotLook, Watch}
 use Rattle.omi_rule_watch.proofs.Parts.{IsCalm, KeepsParts, PartsKeep, calm_at, event_parts, event_rests, look_stays, quiet_parts, quiet_rests, waits_parts}
 use Rattle.omi_rule_watch.proofs.Resting.{Rests, rests_join, rests_plain, rests_worker, rests_working}
@@ -65,7 +58,7 @@ module _ (p : Program) (w : List ℕ) (m : Memory) (events : List (ℕ × Event)
     calm = calm_at a (counter.Barrier c) h.search refl refl refl given
 
     any : (x : RecordWord) × IsOn w (barrier_next w (actors i) c) x
-    any = some_word p w m events s actors i before (counter.Barrier c) at tt
+    any = some_word p w m events s actors i before (counter.Barrier c) at
 
   module _ (b : Barrier) (at : (actors i).counter ≡ counter.Barrier (barrier.LoadArrived b))
       (given : IsSearchGiven (actors i) (counter.Barrier (barrier.LoadArrived b)) h.search)
@@ -191,75 +184,3 @@ module _ (p : Program) (w : List ℕ) (m : Memory) (events : List (ℕ × Event)
       let (x, on) = any (barrier.Release b) at given in
       (x, on, event_parts w m s i _ x (to_barrier (barrier.LoadReleased b) a) h (calm (barrier.Release b) at given) _ refl refl (λ other. absurd (other (fits_barrier p w m events s actors i before (barrier.Release b) at).1)))
   barrier_parts (barrier.LoadReleased b) at given has = load_released b at given has
-
-  -- ---- the end of an explicit task
-
-  module _ (c : FinishCounter) (at : (actors i).counter ≡ counter.Finish c) (kept : IsFinishKept c)
-      (given : IsSearchGiven (actors i) (counter.Finish c) h.search) where
-    calm_finish : IsCalm h.search
-    calm_finish = calm_at a (counter.Finish c) h.search refl refl refl given
-
-    some : (x : RecordWord) × IsOn w (finish_next w (actors i) c) x
-    some = some_word p w m events s actors i before (counter.Finish c) at kept
-
-  -- the wait goes on, with a new look
-  back_calm : (v : Option Wait)
-      → (region_found (behind_finish p v) ≡ None) × (task_found (behind_finish p v) ≡ None)
-  back_calm None = (refl, refl)
-  back_calm (Some wait.Taskyield) = (refl, refl)
-  back_calm (Some wait.Taskwait) = (refl, refl)
-  back_calm (Some (wait.Barrier b)) = (refl, refl)
-
-  back_given : (b : Actor) (l : SlotLook) → Has l 0 None → (v : Option Wait)
-      → IsLookGiven b (behind_finish p v) l
-  back_given b l has None = tt
-  back_given b l has (Some wait.Taskyield) = tt
-  back_given b l has (Some wait.Taskwait) = go p.env.debug
-    where
-      go : (d : Bool)
-          → IsLookGiven b (counter.Look (if d then look.State wait.Taskwait else look.LoadRow wait.Taskwait 0)) l
-      go true = tt
-      go false = has
-  back_given b l has (Some (wait.Barrier k)) = go p.env.debug
-    where
-      go : (d : Bool)
-          → IsLookGiven b (counter.Look (if d then look.State (wait.Barrier k) else look.LoadRow (wait.Barrier k) 0)) l
-      go true = tt
-      go false = has
-
-  pub finish_parts : (c : FinishCounter) (at : (actors i).counter ≡ counter.Finish c) → IsFinishKept c
-      → IsSearchGiven (actors i) (counter.Finish c) h.search
-      → IsLookGiven (actors i) (counter.Finish c) h.look
-      → PartsKeep w m s i (finish_next w (actors i) c)
-      (λ old. (finish_moved p w (actors i) c old, finish_outcome (actors i) c)) h
-  finish_parts finish.Finish at kept given has =
-      let (x, on) = some finish.Finish at tt given in
-      (x, on, event_parts w m s i _ x _ h (calm_finish finish.Finish at tt given) _ refl refl (record { looked = refl; seen = refl }))
-  finish_parts (finish.LoadGenerating v t) at kept given has =
-      let x = word_of t.0.creator t.0.slot TaskGenerating in (
-        x,
-        record { there = record_word p w m events s actors i before tasks t.0.creator t.0.slot TaskGenerating refl (placed_counter p w m events s actors i before (counter.Finish (finish.LoadGenerating v t)) at tt); address = refl },
-        quiet_parts w m s i (finish_next w (actors i) (finish.LoadGenerating v t)) x _ h (calm_finish (finish.LoadGenerating v t) at tt given) refl refl refl refl (look_stays w s i x (finish_next w (actors i) (finish.LoadGenerating v t)) (found_in m x) 0 h.look has (λ k. refl)),
-      )
-  finish_parts (finish.SubtractChildren v t generating) at kept given has =
-      let (x, on) = some (finish.SubtractChildren v t generating) at tt given in (
-        x,
-        on,
-        quiet_parts w m s i (finish_next w (actors i) (finish.SubtractChildren v t generating)) x _ h (calm_finish (finish.SubtractChildren v t generating) at tt given) refl refl refl refl (look_stays w s i x (finish_next w (actors i) (finish.SubtractChildren v t generating)) (found_in m x) 0 h.look has (λ k. refl)),
-      )
-  finish_parts (finish.SubtractPending v) at kept given has =
-      let (x, on) = some (finish.SubtractPending v) at tt given in
-      let (no_region, no_task) = back_calm v in (
-        x,
-        on,
-        quiet_parts w m s i (finish_next w (actors i) (finish.SubtractPending v)) x
-            (record a { counter = behind_finish p v }) h
-            (calm_finish (finish.SubtractPending v) at tt given) refl refl no_region no_task
-            (back_given (record a { counter = behind_finish p v }) _ (look_stays w s i x (finish_next w (actors i) (finish.SubtractPending v)) (found_in m x) 0 h.look has (λ k. refl)) v),
-      )
-  finish_parts (finish.SubtractReferences v t generating) at kept given has = absurd kept
-  finish_parts (finish.Free v t generating) at kept given has = absurd kept
-  finish_parts (finish.LoadImplicit v generating) at kept given has = absurd kept
-  finish_parts (finish.LoadNext v generating) at kept given has = absurd kept
-  finish_parts (finish.LoadLife v generating next) at kept given has = absurd kept
-  finish_parts (finish.SubtractGenerating v generating explicit) at kept given has = absurd kept

@@ -21,46 +21,47 @@ use Rattle.omi_pc.specs.Frames.{at_start}
 use Rattle.omi_pc.specs.Opening.{opening_actor, waiting_actor}
 use Rattle.omi_actor.specs.Steps.{next_at, resumed_at}
 use Rattle.omi_rule.specs.Steps.{IsOn, RecordWord, found_in}
-use Rattle.omi_rule.specs.StepsKeep.{IsKept}
 use Rattle.omi_rule.proofs.Assembly.{Before}
 use Rattle.omi_rule.proofs.barrier.RowsOfBarriers.{barrier_rows_stay}
 use Rattle.omi_rule_watch.specs.Given.{IsLookGiven, IsSearchGiven}
 use Rattle.omi_rule_watch.specs.Watch.{Watch, opening_watch}
 use Rattle.omi_rule_watch.specs.WatchLaws.{IsQuietKept, OpeningsGiveWatch, StepsKeepWatch, WordsAreOne}
-use Rattle.omi_rule_watch.proofs.Barriers.{barrier_parts, finish_parts}
+use Rattle.omi_rule_watch.proofs.Barriers.{barrier_parts}
+use Rattle.omi_rule_watch.proofs.Finishes.{finish_parts}
+use Rattle.omi_rule_watch.proofs.Joins.{join_parts}
 use Rattle.omi_rule_watch.proofs.Making.{making_parts, plain_parts}
 use Rattle.omi_rule_watch.proofs.Parts.{PartsKeep}
 use Rattle.omi_rule_watch.proofs.Quiets.{quiet_steps_few}
 use Rattle.omi_rule_watch.proofs.Resting.{Rests, rests_settled, rests_worker}
 use Rattle.omi_rule_watch.proofs.Teams.{team_parts}
 use Rattle.omi_rule_watch.proofs.Waits.{look_parts}
-use Rattle.omi_rule_watch.proofs.Workers.{join_parts, worker_parts}
+use Rattle.omi_rule_watch.proofs.Workers.{worker_parts}
 
 -- ---- a step
 
 module _ (p : Program) (w : List ℕ) (m : Memory) (events : List (ℕ × Event)) (s : State) (actors : ℕ → Actor)
     (i : ℕ) (before : Before p w m events s actors i) (h : Watch) where
-  parts : (c : Counter) → (actors i).counter ≡ c → IsKept c → IsSearchGiven (actors i) c h.search
+  parts : (c : Counter) → (actors i).counter ≡ c → IsSearchGiven (actors i) c h.search
       → IsLookGiven (actors i) c h.look
       → PartsKeep w m s i (next_at p w (actors i) c) (λ old. resumed_at p w (actors i) c old) h
-  parts (counter.Worker c) at kept search look = worker_parts p w m events s actors i before h c at search
-  parts (counter.Team c) at kept search look = team_parts p w m events s actors i before h c at search
-  parts (counter.Barrier c) at kept search look =
+  parts (counter.Worker c) at search look = worker_parts p w m events s actors i before h c at search
+  parts (counter.Team c) at search look = team_parts p w m events s actors i before h c at search
+  parts (counter.Barrier c) at search look =
       barrier_parts p w m events s actors i before h c at search look
-  parts (counter.Join c) at kept search look = join_parts p w m events s actors i before h c at kept search
-  parts (counter.Task c) at kept search look = making_parts p w m events s actors i before h c at search
-  parts (counter.Look c) at kept search look = look_parts p w m events s actors i before h c at search look
-  parts (counter.Finish c) at kept search look =
-      finish_parts p w m events s actors i before h c at kept search look
-  parts (counter.Plain c) at kept search look = plain_parts p w m events s actors i before h c at search
+  parts (counter.Join c) at search look = join_parts p w m events s actors i before h c at search
+  parts (counter.Task c) at search look = making_parts p w m events s actors i before h c at search
+  parts (counter.Look c) at search look = look_parts p w m events s actors i before h c at search look
+  parts (counter.Finish c) at search look =
+      finish_parts p w m events s actors i before h c at search look
+  parts (counter.Plain c) at search look = plain_parts p w m events s actors i before h c at search
 
 pub watch_kept : StepsKeepWatch
-watch_kept = λ p w m events s actors i valid suits rule known few kept h given.
+watch_kept = λ p w m events s actors i valid suits rule known few h given.
     let before : Before p w m events s actors i =
     record { valid = valid; suits = suits; rule = rule; known = known; few = few; barriers = λ e u step j there other c at row. barrier_rows_stay p w m events s actors rule i known e u step j there other c at row } in
     let (x, on, keeps) =
-    parts p w m events s actors i before h (actors i).counter refl kept given.search given.look in
-    let quiet : IsQuietKept p (resumed_at p w (actors i) (actors i).counter (found_in m x)) h.quiet = quiet_steps_few p w (actors i) (found_in m x) h.quiet (rule.threads i known).fits kept given.quiet in (
+    parts p w m events s actors i before h (actors i).counter refl given.search given.look in
+    let quiet : IsQuietKept p (resumed_at p w (actors i) (actors i).counter (found_in m x)) h.quiet = quiet_steps_few p w (actors i) (found_in m x) h.quiet (rule.threads i known).fits given.quiet in (
       x,
       on,
       record {

@@ -6,8 +6,10 @@ pub mod Standing
 pub mod OwedRecords
 pub mod Searching
 pub mod Workers
+pub mod Joins
 pub mod Teams
 pub mod Making
 pub mod Waits
 pub mod Barriers
+pub mod Finishes
 pub mod Kept

@@ -72,7 +72,7 @@ module _ (p : Program) (w : List ℕ) (m : Memory) (events : List (ℕ × Event)
 
   module _ (c : TaskCounter) (at : (actors i).counter ≡ counter.Task c) where
     any : (x : RecordWord) × IsOn w (making_next p w (actors i) c) x
-    any = some_word p w m events s actors i before (counter.Task c) at tt
+    any = some_word p w m events s actors i before (counter.Task c) at
 
   module _ (place : ℕ) (at : (actors i).counter ≡ counter.Task (task.LoadSlot place))
       (given : IsSearchGiven (actors i) (counter.Task (task.LoadSlot place)) h.search) where
@@ -193,7 +193,7 @@ module _ (p : Program) (w : List ℕ) (m : Memory) (events : List (ℕ × Event)
     here = subst Rests (sym at) (rests_plain c)
 
     word : (x : RecordWord) × IsOn w (plain_next p w (actors i) c) x
-    word = some_word p w m events s actors i before (counter.Plain c) at tt
+    word = some_word p w m events s actors i before (counter.Plain c) at
 
     commits : (b : Actor) (e : Event) → Rests b.counter
         → (x : RecordWord) × IsOn w (plain_next p w (actors i) c) x × KeepsParts w m s i (plain_next p w (actors i) c) x (b, outcome.Event e) h

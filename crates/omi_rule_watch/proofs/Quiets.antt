@@ -16,6 +16,7 @@ use Rattle.omi_pc.specs.declared.frame.Wait.TheVariants as wait
 use Rattle.omi_numbers.specs.declared.limits.TheConstants.{OWN_SLOTS}
 use Rattle.omi_pc.specs.declared.limits.TheConstants.{REGION_WORDS, START_WORDS, TASK_WORDS, VARIABLE_WORDS}
 use Rattle.omi_pc.specs.declared.place.Place.{Place}
+use Rattle.omi_pc.specs.declared.task_counter.Ancestor.{Ancestor}
 use Rattle.omi_pc.specs.declared.task_counter.FinishCounter.{FinishCounter}
 use Rattle.omi_pc.specs.declared.task_counter.FinishCounter.TheVariants as finish
 use Rattle.omi_pc.specs.declared.task_counter.LookCounter.{LookCounter}
@@ -46,11 +47,10 @@ use Rattle.omi_fork.specs.TeamSteps.{assigning_from, team_moved, team_outcome}
 use Rattle.omi_fork.specs.WorkerSteps.{worker_moved, worker_outcome}
 use Rattle.omi_plain.specs.PlainSteps.{plain_outcome}
 use Rattle.omi_task.specs.LookSteps.{behind_code, behind_look, look_at, look_moved, look_outcome, looking_on, next_look}
-use Rattle.omi_task.specs.FinishSteps.{behind_finish, finish_moved, finish_outcome}
+use Rattle.omi_task.specs.FinishSteps.{behind_finish, behind_references, finish_moved, finish_outcome}
 use Rattle.omi_task.specs.MakingSteps.{making_moved, making_outcome}
 use Rattle.omi_task.specs.Slots.{coded_task}
 use Rattle.omi_actor.specs.Steps.{resumed_at}
-use Rattle.omi_rule.specs.StepsKeep.{IsFinishKept, IsJoinKept, IsKept}
 use Rattle.omi_rule_watch.specs.Demands.{most_in_row}
 use Rattle.omi_rule_watch.specs.Given.{at_look, carried, finish_quiet, making_quiet, most_quiet, team_quiet}
 use Rattle.omi_rule_watch.specs.Watch.{quiet_after}
@@ -186,17 +186,17 @@ quiet_barrier p w a (barrier.Release b) old q few = omega arith
 quiet_barrier p w a (barrier.LoadReleased b) old q few =
     either p.threads q (is_closed a old) (looking b a) (passed p b a) _ _ (omega arith) (omega arith)
 
-quiet_join : (p : Program) (w : List ℕ) (a : Actor) (c : JoinCounter) (old q : ℕ) → IsJoinKept c
+quiet_join : (p : Program) (w : List ℕ) (a : Actor) (c : JoinCounter) (old q : ℕ)
     → q ≤ most_quiet p.threads (counter.Join c)
     → quiet_after (join_outcome w a c old) q ≤ most_quiet p.threads (join_moved p w a c old).counter
-quiet_join p w a join.LoadLeft old q kept few =
+quiet_join p w a join.LoadLeft old q few =
     either p.threads q (some_inside a old) a (to_join join.Join a) _ outcome.Quiet (omega arith)
     (omega (arith, few))
-quiet_join p w a join.Join old q kept few = omega arith
-quiet_join p w a (join.LoadMember r size member) old q kept few = absurd kept
-quiet_join p w a (join.LoadLife r size member t) old q kept few = absurd kept
-quiet_join p w a (join.FreeTask r size member t) old q kept few = absurd kept
-quiet_join p w a (join.FreeRegion r size) old q kept few = absurd kept
+quiet_join p w a join.Join old q few = omega arith
+quiet_join p w a (join.LoadMember r size member) old q few = omega (arith, few)
+quiet_join p w a (join.LoadLife r size member t) old q few = omega (arith, few)
+quiet_join p w a (join.FreeTask r size member t) old q few = omega arith
+quiet_join p w a (join.FreeRegion r size) old q few = omega arith
 
 made_to : (q : ℕ) (b : Bool) (x y : TaskCounter) → q ≤ making_quiet x → q ≤ making_quiet y
     → q ≤ making_quiet (if b then x else y)
@@ -323,7 +323,7 @@ quiet_looks p w a look.LoadChildren old q bodies fits few =
     (omega arith) (omega arith)
 quiet_looks p w a (look.Yield n) old q bodies fits few = omega arith
 
-quiet_back : (p : Program) (v : Option Wait) (q : ℕ) → q ≤ 2
+quiet_back : (p : Program) (v : Option Wait) (q : ℕ) → q ≤ 4
     → q + 1 ≤ most_quiet p.threads (behind_finish p v)
 quiet_back p None q few = omega (arith, few)
 quiet_back p (Some wait.Taskyield) q few = omega (arith, few)
@@ -340,19 +340,36 @@ quiet_back p (Some (wait.Barrier b)) q few = go p.env.debug
     go true = omega (arith, few)
     go false = omega (arith, few)
 
-quiet_finish : (p : Program) (w : List ℕ) (a : Actor) (c : FinishCounter) (old q : ℕ) → IsFinishKept c
+-- the counter behind a word that was loaded or lowered, by this word
+lowered_to : (t q : ℕ) (b : Bool) (x y : FinishCounter) → q ≤ finish_quiet t x → q ≤ finish_quiet t y
+    → q ≤ finish_quiet t (if b then x else y)
+lowered_to t q b x y one other = one_of (λ (c : FinishCounter). q ≤ finish_quiet t c) b x y one other
+
+quiet_references : (t : ℕ) (w : List ℕ) (v : Option Wait) (explicit : Option Ancestor) (old q : ℕ) → q ≤ 3
+    → q + 1 ≤ finish_quiet t (behind_references w v explicit old)
+quiet_references t w v None old q few = omega (arith, few)
+quiet_references t w v (Some x) old q few =
+    lowered_to t (q + 1) (old == 1) (finish.Free v x.task (task_place w x.generating)) (finish.SubtractPending v)
+    (omega (arith, few)) (omega (arith, few))
+
+quiet_finish : (p : Program) (w : List ℕ) (a : Actor) (c : FinishCounter) (old q : ℕ)
     → q ≤ most_quiet p.threads (counter.Finish c)
     → quiet_after (finish_outcome a c) q ≤ most_quiet p.threads (finish_moved p w a c old).counter
-quiet_finish p w a finish.Finish old q kept few = omega arith
-quiet_finish p w a (finish.LoadGenerating v t) old q kept few = omega (arith, few)
-quiet_finish p w a (finish.SubtractChildren v t generating) old q kept few = omega (arith, few)
-quiet_finish p w a (finish.SubtractPending v) old q kept few = quiet_back p v q few
-quiet_finish p w a (finish.SubtractReferences v t generating) old q kept few = absurd kept
-quiet_finish p w a (finish.Free v t generating) old q kept few = absurd kept
-quiet_finish p w a (finish.LoadImplicit v generating) old q kept few = absurd kept
-quiet_finish p w a (finish.LoadNext v generating) old q kept few = absurd kept
-quiet_finish p w a (finish.LoadLife v generating next) old q kept few = absurd kept
-quiet_finish p w a (finish.SubtractGenerating v generating explicit) old q kept few = absurd kept
+quiet_finish p w a finish.Finish old q few = omega arith
+quiet_finish p w a (finish.LoadGenerating v t) old q few = omega (arith, few)
+quiet_finish p w a (finish.SubtractChildren v t generating) old q few = omega (arith, few)
+quiet_finish p w a (finish.SubtractReferences v t generating) old q few =
+    lowered_to p.threads (q + 1) (old == 1) (finish.Free v t generating) (finish.SubtractPending v)
+    (omega (arith, few)) (omega (arith, few))
+quiet_finish p w a (finish.Free v t generating) old q few = omega arith
+quiet_finish p w a (finish.LoadImplicit v generating) old q few =
+    lowered_to p.threads (q + 1) (old == 0) (finish.LoadNext v generating)
+    (finish.SubtractGenerating v generating None) (omega (arith, few)) (omega (arith, few))
+quiet_finish p w a (finish.LoadNext v generating) old q few = omega (arith, few)
+quiet_finish p w a (finish.LoadLife v generating next) old q few = omega (arith, few)
+quiet_finish p w a (finish.SubtractGenerating v generating explicit) old q few =
+    quiet_references p.threads w v explicit old q few
+quiet_finish p w a (finish.SubtractPending v) old q few = quiet_back p v q few
 
 not_quiet : (q : ℕ) (b : Bool) (x y : Outcome) → quiet_after x q ≡ 0 → quiet_after y q ≡ 0
     → quiet_after (if b then x else y) q ≡ 0
@@ -379,16 +396,16 @@ quiet_plain p w a plain.Ended old q = refl
 -- ---- each step
 
 quiet_goes : (p : Program) (w : List ℕ) (a : Actor) (c : Counter) (old q : ℕ) → AreOpen p a.context a.stack
-    → FitsCounter p a c → IsKept c → q ≤ most_quiet p.threads c
+    → FitsCounter p a c → q ≤ most_quiet p.threads c
     → quiet_after (resumed_at p w a c old).1 q ≤ most_quiet p.threads (resumed_at p w a c old).0.counter
-quiet_goes p w a (counter.Worker c) old q bodies fits kept few = quiet_worker p w a c old q few
-quiet_goes p w a (counter.Team c) old q bodies fits kept few = quiet_team p w a c old q fits few
-quiet_goes p w a (counter.Barrier c) old q bodies fits kept few = quiet_barrier p w a c old q few
-quiet_goes p w a (counter.Join c) old q bodies fits kept few = quiet_join p w a c old q kept few
-quiet_goes p w a (counter.Task c) old q bodies fits kept few = quiet_making p w a c old q fits few
-quiet_goes p w a (counter.Look c) old q bodies fits kept few = quiet_looks p w a c old q bodies fits few
-quiet_goes p w a (counter.Finish c) old q bodies fits kept few = quiet_finish p w a c old q kept few
-quiet_goes p w a (counter.Plain c) old q bodies fits kept few =
+quiet_goes p w a (counter.Worker c) old q bodies fits few = quiet_worker p w a c old q few
+quiet_goes p w a (counter.Team c) old q bodies fits few = quiet_team p w a c old q fits few
+quiet_goes p w a (counter.Barrier c) old q bodies fits few = quiet_barrier p w a c old q few
+quiet_goes p w a (counter.Join c) old q bodies fits few = quiet_join p w a c old q few
+quiet_goes p w a (counter.Task c) old q bodies fits few = quiet_making p w a c old q fits few
+quiet_goes p w a (counter.Look c) old q bodies fits few = quiet_looks p w a c old q bodies fits few
+quiet_goes p w a (counter.Finish c) old q bodies fits few = quiet_finish p w a c old q few
+quiet_goes p w a (counter.Plain c) old q bodies fits few =
     let none = quiet_plain p w a c old q in omega (arith, none)
 
 -- ---- the bound
@@ -482,10 +499,10 @@ one_more (outcome.NotReady address word) q = omega arith
 one_more outcome.Ended q = omega arith
 
 pub quiet_steps_few : QuietStepsAreFew
-quiet_steps_few = λ p w a old quiet fits kept few. record {
+quiet_steps_few = λ p w a old quiet fits few. record {
   few =
       let most = few_at p a a.counter fits.bodies fits.counter in
       let next = one_more (resumed_at p w a a.counter old).1 quiet in
       omega (arith, most, next, few);
-  given = quiet_goes p w a a.counter old quiet fits.bodies fits.counter kept few;
+  given = quiet_goes p w a a.counter old quiet fits.bodies fits.counter few;
 }

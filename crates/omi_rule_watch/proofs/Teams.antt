@@ -68,7 +68,7 @@ module _ (p : Program) (w : List ℕ) (m : Memory) (events : List (ℕ × Event)
 
   module _ (c : TeamCounter) (at : (actors i).counter ≡ counter.Team c) where
     any : (x : RecordWord) × IsOn w (team_next p w (actors i) c) x
-    any = some_word p w m events s actors i before (counter.Team c) at tt
+    any = some_word p w m events s actors i before (counter.Team c) at
 
     -- a quiet store
     stores : IsCalm h.search → (address word : ℕ) → team_next p w (actors i) c ≡ op.Store address word

@@ -177,7 +177,7 @@ module _ (p : Program) (w : List ℕ) (m : Memory) (events : List (ℕ × Event)
     calm = calm_at a (counter.Look c) h.search refl refl refl given
 
     any : (x : RecordWord) × IsOn w (look_next w (actors i) c) x
-    any = some_word p w m events s actors i before (counter.Look c) at tt
+    any = some_word p w m events s actors i before (counter.Look c) at
 
   -- the row of a member
   module _ (v : Wait) (n : ℕ) (at : (actors i).counter ≡ counter.Look (look.LoadRow v n))

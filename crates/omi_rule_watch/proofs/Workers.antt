@@ -1,39 +1,34 @@
--- The steps of workers, and the join of a team: no search stands there, and no look.
+-- The steps of workers: no search stands there, and no look.
 use Rattle.std.proofs.Common.{◌≡◌, ◌==◌, ℕ, Bool, true, false, List, refl, sym, ap, ◌∙◌, subst, ◌&&◌, if◌then◌else◌}
 use Rattle.omi_word.specs.declared.op.Op.TheVariants as op
 use Rattle.omi_script.specs.declared.program.Program.{Program}
 use Rattle.omi_model.specs.declared.event.Event.{Event}
 use Rattle.omi_model.specs.State.{State}
-use Rattle.omi_layout.specs.declared.field.Field.TheVariants.{RegionLeft, RegionLife, RegionSize, TaskFunction, TaskLife, TaskNumber, TaskRegion, ThreadAssign}
+use Rattle.omi_layout.specs.declared.field.Field.TheVariants.{RegionLife, RegionSize, TaskFunction, TaskLife, TaskNumber, TaskRegion, ThreadAssign}
 use Rattle.omi_layout.specs.Field.{regions, tasks}
 use Rattle.omi_layout.specs.Memory.{Memory}
 use Rattle.omi_layout.specs.Named.{number}
 use Rattle.omi_pc.specs.declared.actor.Actor.{Actor}
 use Rattle.omi_pc.specs.declared.counter.Counter.TheVariants as counter
 use Rattle.omi_pc.specs.declared.place.Place.{Place}
-use Rattle.omi_pc.specs.declared.team_counter.JoinCounter.{JoinCounter}
-use Rattle.omi_pc.specs.declared.team_counter.JoinCounter.TheVariants as join
 use Rattle.omi_pc.specs.declared.team_counter.WorkerCounter.{WorkerCounter}
 use Rattle.omi_pc.specs.declared.team_counter.WorkerCounter.TheVariants as worker
-use Rattle.omi_pc.specs.Moves.{begun_worker, closed}
+use Rattle.omi_pc.specs.Moves.{begun_worker}
 use Rattle.omi_rep.specs.declared.outcome.Outcome.TheVariants as outcome
-use Rattle.omi_step_words.specs.Moving.{to_join, to_worker}
+use Rattle.omi_step_words.specs.Moving.{to_worker}
 use Rattle.omi_step_words.specs.Placed.{IsPlacedCounter, IsPlacedWorker}
-use Rattle.omi_step_words.specs.Words.{is_free, of_region, of_thread, task_place}
-use Rattle.omi_fork.specs.JoinSteps.{join_moved, join_next, join_outcome, some_inside}
+use Rattle.omi_step_words.specs.Words.{is_free, of_thread, task_place}
 use Rattle.omi_fork.specs.WorkerSteps.{idle_counter, member_context, worker_moved, worker_next, worker_outcome}
 use Rattle.omi_rule.specs.Steps.{IsOn, RecordWord, found_in}
-use Rattle.omi_rule.specs.StepsKeep.{IsJoinKept}
 use Rattle.omi_rule.proofs.Assembly.{Before}
-use Rattle.omi_rule.proofs.KeptObjects.{region_life, task_life}
-use Rattle.omi_rule.proofs.barrier.AtCounter.{context_placed}
+use Rattle.omi_rule.proofs.KeptObjects.{region_life}
 use Rattle.omi_rule.proofs.worker.WorkerEvents.{row_is}
 use Rattle.omi_model.proofs.NamesLive.{names_live}
 use Rattle.omi_rule_watch.specs.Given.{IsSearchGiven}
 use Rattle.omi_rule_watch.specs.Watch.{Watch, is_own}
 use Rattle.omi_rule_watch.proofs.Parts.{IsCalm, KeepsParts, PartsKeep, calm_at, event_rests, quiet_rests, waits_rests}
-use Rattle.omi_rule_watch.proofs.Resting.{Rests, rests_closed, rests_join, rests_worker, rests_working}
-use Rattle.omi_rule_watch.proofs.Standing.{own, record_word, some_word, thread_word, used_taken, word_of}
+use Rattle.omi_rule_watch.proofs.Resting.{Rests, rests_worker, rests_working}
+use Rattle.omi_rule_watch.proofs.Standing.{life_taken, own, record_word, some_word, thread_word, used_taken, word_of}
 
 -- a word that is not free is not found
 pub not_found : (mine free : Bool) → free ≡ false → mine && free ≡ false
@@ -59,7 +54,7 @@ module _ (p : Program) (w : List ℕ) (m : Memory) (events : List (ℕ × Event)
     here = subst Rests (sym at) (rests_worker c)
 
     any : (x : RecordWord) × IsOn w (worker_next w (actors i) c) x
-    any = some_word p w m events s actors i before (counter.Worker c) at tt
+    any = some_word p w m events s actors i before (counter.Worker c) at
 
     -- an event
     event_to : (b : Actor) (e : Event) → Rests b.counter
@@ -104,9 +99,7 @@ module _ (p : Program) (w : List ℕ) (m : Memory) (events : List (ℕ × Event)
       taken : is_free (m t.creator tasks t.slot (number TaskLife) 0) ≡ false
       taken =
           let (k, o, is) = row_is p w m events s actors i before (worker.LoadLife t) at in
-          ap is_free
-          (ap (λ (q : Place). m q.creator tasks q.slot (number TaskLife) 0) (sym is) ∙ task_life p w m events s actors before.rule k o.task o.live)
-          ∙ used_taken k.0
+          life_taken p w m events s actors i before k o.task t o.live is
   worker_parts (worker.LoadFunction t) at given = (
     word_of t.0.creator t.0.slot TaskFunction,
     record { there = record_word p w m events s actors i before tasks t.0.creator t.0.slot TaskFunction refl (placed (worker.LoadFunction t) at given); address = refl },
@@ -148,40 +141,3 @@ module _ (p : Program) (w : List ℕ) (m : Memory) (events : List (ℕ × Event)
       let (x, on) = any (worker.AddLeft r) at given in
       (x, on, quiet_rests w m s i _ x _ h (calm (worker.AddLeft r) at given) refl refl (rests_worker (idle_counter p)))
   worker_parts worker.IdleState at given = event_to worker.IdleState at given _ _ (rests_worker worker.Offer)
-
-  -- ---- joins
-
-  module _ (at : (actors i).counter ≡ counter.Join join.LoadLeft)
-      (given : IsSearchGiven (actors i) (counter.Join join.LoadLeft) h.search) where
-    abbrev left : RecordWord
-    left = word_of a.context.region.0.creator a.context.region.0.slot RegionLeft
-
-    idle : IsCalm h.search
-    idle = calm_at (actors i) (counter.Join join.LoadLeft) h.search refl refl refl given
-
-    by_left : (b : Bool)
-        → KeepsParts w m s i (op.Load (of_region w a.context.region RegionLeft)) left (if b then a else to_join join.Join a, if b then outcome.NotReady (of_region w a.context.region RegionLeft) (found_in m left) else outcome.Quiet) h
-    by_left true =
-        waits_rests w m s i _ left a h idle _ _ refl refl refl
-        (subst Rests (sym at) (rests_join join.LoadLeft))
-    by_left false = quiet_rests w m s i _ left _ h idle refl refl (rests_join join.Join)
-
-    loads_left : PartsKeep w m s i (join_next w (actors i) join.LoadLeft) (λ old. (join_moved p w (actors i) join.LoadLeft old, join_outcome w (actors i) join.LoadLeft old)) h
-    loads_left = (
-      left,
-      record { there = record_word p w m events s actors i before regions a.context.region.0.creator a.context.region.0.slot RegionLeft refl (context_placed p w m events s actors i before (counter.Join join.LoadLeft) at tt).region; address = refl },
-      by_left (some_inside a (found_in m left)),
-    )
-
-  pub join_parts : (c : JoinCounter) (at : (actors i).counter ≡ counter.Join c) → IsJoinKept c
-      → IsSearchGiven (actors i) (counter.Join c) h.search
-      → PartsKeep w m s i (join_next w (actors i) c) (λ old. (join_moved p w (actors i) c old, join_outcome w (actors i) c old)) h
-  join_parts join.LoadLeft at kept given = loads_left at given
-  join_parts join.Join at kept given =
-      let (x, on) = some_word p w m events s actors i before (counter.Join join.Join) at tt in
-      let now : Rests (actors i).counter = subst Rests (sym at) (rests_join join.Join) in
-      (x, on, event_rests w m s i _ x _ h (calm_at (actors i) (counter.Join join.Join) h.search refl refl refl given) _ (rests_working p (closed a) (λ none. rests_closed a now)))
-  join_parts (join.LoadMember r size member) at kept given = absurd kept
-  join_parts (join.LoadLife r size member t) at kept given = absurd kept
-  join_parts (join.FreeTask r size member t) at kept given = absurd kept
-  join_parts (join.FreeRegion r size) at kept given = absurd kept

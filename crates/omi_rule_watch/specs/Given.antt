@@ -82,9 +82,14 @@ barrier_quiet threads (barrier.LoadPending b) = behind_looks threads + 1
 barrier_quiet threads (barrier.Release b) = behind_looks threads + 2
 barrier_quiet threads (barrier.LoadReleased b) = behind_looks threads
 
+-- an event gives each record back, and behind it no quiet step is counted
 abbrev pub join_quiet : JoinCounter → ℕ
 join_quiet join.LoadLeft = 0
-join_quiet c = 1
+join_quiet join.Join = 1
+join_quiet (join.LoadMember r size member) = 0
+join_quiet (join.LoadLife r size member t) = 1
+join_quiet (join.FreeTask r size member t) = 2
+join_quiet (join.FreeRegion r size) = 0
 
 abbrev pub making_quiet : TaskCounter → ℕ
 making_quiet (task.LoadSlot place) = 0
@@ -110,11 +115,18 @@ look_quiet threads (look.Start v n code t f final) = at_look threads n + 11
 look_quiet threads look.LoadChildren = behind_looks threads
 look_quiet threads (look.Yield n) = behind_looks threads
 
+-- three quiet steps lead from the end of a task to the event that gives its record back, and four from there to that of a task above
 abbrev pub finish_quiet : ℕ → FinishCounter → ℕ
 finish_quiet threads finish.Finish = carried threads
 finish_quiet threads (finish.LoadGenerating v t) = 0
 finish_quiet threads (finish.SubtractChildren v t generating) = 1
-finish_quiet threads c = 2
+finish_quiet threads (finish.SubtractReferences v t generating) = 2
+finish_quiet threads (finish.LoadImplicit v generating) = 0
+finish_quiet threads (finish.LoadNext v generating) = 1
+finish_quiet threads (finish.LoadLife v generating next) = 2
+finish_quiet threads (finish.SubtractGenerating v generating explicit) = 3
+finish_quiet threads (finish.Free v t generating) = 4
+finish_quiet threads (finish.SubtractPending v) = 4
 
 abbrev pub most_quiet : ℕ → Counter → ℕ
 most_quiet threads (counter.Worker c) = worker_quiet threads c

@@ -16,7 +16,6 @@ use Rattle.omi_rep.specs.Suits.{Suits}
 use Rattle.omi_actor.specs.Steps.{next_of, resumed_at}
 use Rattle.omi_rule.specs.Rule.{Rule}
 use Rattle.omi_rule.specs.Steps.{IsOn, RecordWord, found_in}
-use Rattle.omi_rule.specs.StepsKeep.{IsKept}
 use Rattle.omi_rule_watch.specs.Demands.{MeetsDemands, most_in_row}
 use Rattle.omi_rule_watch.specs.Given.{IsGiven, most_quiet}
 use Rattle.omi_rule_watch.specs.Watch.{Watch, opening_watch, quiet_after, watched}
@@ -31,7 +30,7 @@ pub record IsQuietKept (p : Program) (after : Actor × Outcome) (quiet : ℕ) : 
 -- a step of an actor that fits the program keeps this, whatever word it finds
 abbrev pub QuietStepsAreFew : Type 0
 QuietStepsAreFew =
-    (p : Program) (w : List ℕ) (a : Actor) (old quiet : ℕ) → Fits p a → IsKept a.counter
+    (p : Program) (w : List ℕ) (a : Actor) (old quiet : ℕ) → Fits p a
     → quiet ≤ most_quiet p.threads a.counter → IsQuietKept p (resumed_at p w a a.counter old) quiet
 
 -- ---- the whole watch
@@ -57,7 +56,7 @@ StepKeepsWatch p w m s i o after h = (x : RecordWord) × IsOn w o x
 abbrev pub StepsKeepWatch : Type 0
 StepsKeepWatch = (p : Program) (w : List ℕ) (m : Memory) (events : List (ℕ × Event)) (s : State)
     (actors : ℕ → Actor) (i : ℕ) → IsValid w → Suits p w → Rule p w m events s actors
-    → i < s.count → length events + 1 < MOST_EVENTS → IsKept (actors i).counter
+    → i < s.count → length events + 1 < MOST_EVENTS
     → (h : Watch) → IsGiven p (actors i) h
     → StepKeepsWatch p w m s i (next_of p w (actors i))
     (λ old. resumed_at p w (actors i) (actors i).counter old) h

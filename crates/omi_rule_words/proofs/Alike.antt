@@ -22,6 +22,7 @@ use Rattle.omi_rule_words.specs.Threads.{WaitsFor}
 use Rattle.omi_rule_words.specs.Objects.{IsDeferredIn, KeepsLife}
 use Rattle.omi_rule_words.specs.Words.{HasFinished, IsInTheMaking, KeepsMaking, OwesOnLive}
 use Rattle.omi_rule_words.specs.TaskKinds.{IsSameTask}
+use Rattle.omi_rule_words.proofs.OwedTasks.{TasksStay, owed_on_tasks, owes_tasks_alike}
 
 -- ---- slots
 
@@ -243,20 +244,31 @@ module _ (a b : State) (regions_alike : SlotsAlike IsSameRegion a.regions b.regi
     apart = x.apart;
   }
 
-  pub objects_after : (o : Owed) → OwesOnLive a o → OwesOnLive b o
-  objects_after o x = record {
-    pending = λ n is. some_after IsSameRegion (region_of a n) (region_of b n) (region_found a b regions_alike tasks_alike n) (x.pending n is);
-    left = λ n is.
-        let (r, live, joined) = x.left n is in
-        let (q, now, same) = region_after n r live in
-        (q, now, same.joined ∙ joined);
-    raised = λ k is. some_task a b regions_alike tasks_alike k (x.raised k is);
-    referred = λ k is. some_task a b regions_alike tasks_alike k (x.referred k is);
-    lowered = λ k is.
-        let (finished, live) = x.lowered k is in
-        (finished_after k finished, subst (λ (g : Option Tid). IsSome (option_and_then (task_of b) g)) (sym (generating_same a b regions_alike tasks_alike k)) (parent (generating_of a k) live));
-    assigns = All-weaker (λ (m : Tid × ℕ). WaitsFor a m.1 m.0) (λ (m : Tid × ℕ). WaitsFor b m.1 m.0) (λ m. waits_after m.1 m.0) o.assigns x.assigns;
+  tasks_stay : TasksStay a b
+  tasks_stay = record {
+    live = λ k t is. let (u, live, same) = task_after k t is in (u, live, same.region);
+    finished = finished_after;
   }
+
+  pub objects_after : (o : Owed) → OwesOnLive a o → OwesOnLive b o
+  objects_after o x =
+      let on_tasks = owed_on_tasks a b o o tasks_stay (owes_tasks_alike o) x in
+      record {
+        pending = λ n is. some_after IsSameRegion (region_of a n) (region_of b n) (region_found a b regions_alike tasks_alike n) (x.pending n is);
+        left = λ n is.
+            let (r, live, joined) = x.left n is in
+            let (q, now, same) = region_after n r live in
+            (q, now, same.joined ∙ joined);
+        raised = λ k is. some_task a b regions_alike tasks_alike k (x.raised k is);
+        referred = on_tasks.referred;
+        own = on_tasks.own;
+        returned = on_tasks.returned;
+        gives = on_tasks.gives;
+        lowered = λ k is.
+            let (own, live) = x.lowered k is in
+            (own, subst (λ (g : Option Tid). IsSome (option_and_then (task_of b) g)) (sym (generating_same a b regions_alike tasks_alike k)) (parent (generating_of a k) live));
+        assigns = All-weaker (λ (m : Tid × ℕ). WaitsFor a m.1 m.0) (λ (m : Tid × ℕ). WaitsFor b m.1 m.0) (λ m. waits_after m.1 m.0) o.assigns x.assigns;
+      }
     where
       parent : (g : Option Tid) → IsSome (option_and_then (task_of a) g)
           → IsSome (option_and_then (task_of b) g)

@@ -138,7 +138,7 @@ assign_stores_keep =
         other = replace_at owes i p
 
         alike_own : OwesAlike p (owes i)
-        alike_own = record { pending = refl; raised = refl; lowered = refl; referred = refl; left = refl; hand = refl }
+        alike_own = record { pending = refl; raised = refl; lowered = refl; referred = refl; own = refl; returned = refl; gives = refl; left = refl; hand = refl }
 
         met : (j : ℕ) → one (other j).met ≡ one (owes j).met
         met j = each_put (λ c (x : Owed). one x.met ≡ one (owes c).met) owes i p refl j (λ _. refl)
@@ -218,7 +218,7 @@ assign_clears_keep =
         other = replace_at owes i p
 
         alike_own : OwesAlike p (owes i)
-        alike_own = record { pending = refl; raised = refl; lowered = refl; referred = refl; left = refl; hand = refl }
+        alike_own = record { pending = refl; raised = refl; lowered = refl; referred = refl; own = refl; returned = refl; gives = refl; left = refl; hand = refl }
 
         same_sum : (j : ℕ) (t : Tid)
             → sum_of_owed s other (assign_owed j t) ≡ sum_of_owed s owes (assign_owed j t)

@@ -174,7 +174,8 @@ starts_now_keep =
   where
     starts : (p : Program) (w : List ℕ) (m : Memory) (s : State) (owes : ℕ → Owed) (i : ℕ) (task : Tid) (f : ℕ) (final : Bool) (k : Tid) (t : Task)
         → KeepsWords w m s owes → IsWithin w s → AreNamesLive s → IsValid w
-        → i < s.count → OwesNew w s owes i task k t → IsFilledFor w (m i tasks task.0.slot) (deferred_task p k t f final 0) → KeepsPlace w (m i tasks task.0.slot) (scheduled i k t (deferred_task p k t f final 0))
+        → i < s.count → OwesNew w s owes i task k t → IsFilledFor w (m i tasks task.0.slot)
+        (deferred_task p k t f final 0) → KeepsPlace w (m i tasks task.0.slot) (scheduled i k t (deferred_task p k t f final 0))
         → KeepsWords w (with_word m i threads 0 (number ThreadCurrent) 0 (task_address w task))
         (started_now p s i task f final k t) (replace_at owes i nothing)
     starts p w m s owes i task f final k t keeps within names v known owes_new filled place =
@@ -283,4 +284,5 @@ module _ (p : Program) (w : List ℕ) (m : Memory) (s : State) (owes : ℕ → O
 
 pub defers_keep : DefersKeep
 defers_keep =
-    λ p w m s owes i task f final place k t row keeps within names v known owes_new is_row inside free filled. task_defers p w m s owes i task f final place k t row keeps within names v known owes_new is_row inside free filled
+    λ p w m s owes i task f final place k t row keeps within names v known owes_new is_row inside free filled.
+    task_defers p w m s owes i task f final place k t row keeps within names v known owes_new is_row inside free filled

@@ -120,7 +120,13 @@ task_fills_keep =
           made_kept w s owes j (m j) (n j) (stays j threads 0 (λ kind. absurd (omega (arith, kind)))) o
           (λ k within. subst (λ (r : Rec). KeepsRegionSlot w s owes j k r) (sym (stays j regions k (λ kind. absurd (omega (arith, kind))))) (o.regions k within))
           (λ k within. task j k (o.tasks k within) (j == i && k == slot) refl);
-      deferred = record { once = λ k t live deferred. let was = keeps.deferred.once k t live deferred in let same = slots_stay w m s i slot (number f) at word none (slot_word w k) in omega (arith, was, same); hands = keeps.deferred.hands };
+      deferred = record {
+        once = λ k t live deferred.
+            let was = keeps.deferred.once k t live deferred in
+            let same = slots_stay w m s i slot (number f) at word none (slot_word w k) in
+            omega (arith, was, same);
+        hands = keeps.deferred.hands;
+      };
     }
       where
         n : Memory

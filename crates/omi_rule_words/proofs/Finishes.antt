@@ -24,12 +24,13 @@ use Rattle.omi_layout.specs.Table.{per_thread}
 use Rattle.omi_rep.specs.Records.{task_word}
 use Rattle.omi_rep.specs.Shows.{IsWithin}
 use Rattle.omi_rule_words.specs.Owes.{Owed, nothing}
-use Rattle.omi_rule_words.specs.Counts.{children_owed, generating_of, is_finished, is_region, is_some_task, is_unfinished, one, pending_owed, start_owed, references_owed}
+use Rattle.omi_rule_words.specs.Counts.{children_owed, generating_of, is_finished, is_region, is_some_task, is_unfinished, one, pending_owed, start_owed, references_owed, gives_owed, own_reference}
 use Rattle.omi_rule_words.specs.Threads.{WaitsFor}
-use Rattle.omi_rule_words.specs.Words.{HasFinished, KeepsWords, OwesOnLive}
+use Rattle.omi_rule_words.specs.Words.{HasFinished, IsOwedIn, KeepsWords, OwesOnLive}
 use Rattle.omi_rule_words.specs.ExplicitKinds.{FinishesKeep, IsRunning}
 use Rattle.omi_rule_words.proofs.Changed.{current_stored}
-use Rattle.omi_rule_words.proofs.OtherCounts.{owed_put}
+use Rattle.omi_rule_words.proofs.OtherCounts.{is_own_id, owed_put}
+use Rattle.omi_rule_words.proofs.Starts.{other_name}
 use Rattle.omi_rule_words.proofs.TaskMoves.{GoesTo, TeamsAlike, generating_same, some_after, task_moved, tasks_recounted}
 use Rattle.omi_rule_words.proofs.ListMoves.{freeing_keeps}
 
@@ -43,7 +44,7 @@ module _ (w : List ℕ) (m : Memory) (s : State) (owes : ℕ → Owed) (i : ℕ)
   after = on_task s k g
 
   abbrev p : Owed
-  p = record nothing { pending = Some t.region; lowered = Some k }
+  p = record nothing { pending = Some t.region; lowered = Some k; own = Some k }
 
   goes : GoesTo t (g t)
   goes = record {
@@ -89,9 +90,14 @@ module _ (w : List ℕ) (m : Memory) (s : State) (owes : ℕ → Owed) (i : ℕ)
     left = λ n is. absurd (cc);
     raised = λ q is. absurd (cc);
     referred = λ q is. absurd (cc);
+    returned = λ at is. absurd (cc);
+    gives = λ q is. absurd (cc);
+    own = λ q is.
+        let same : k ≡ q = cc in
+        subst (λ (x : Tid). HasFinished after x × IsOwedIn after p x) same (over, (g t, over.live, refl));
     lowered = λ q is.
         let same : k ≡ q = cc in
-        subst (λ (x : Tid). HasFinished after x × IsSome (option_and_then (task_of after) (generating_of after x))) same (over, maker_live);
+        subst (λ (x : Tid). (p.own ≡ Some x) × IsSome (option_and_then (task_of after) (generating_of after x))) same (refl, maker_live);
     assigns = All-nil (λ (q : Tid × ℕ). WaitsFor after q.1 q.0);
   }
     where
@@ -125,7 +131,16 @@ module _ (w : List ℕ) (m : Memory) (s : State) (owes : ℕ → Owed) (i : ℕ)
       let owes_more = owed_put s owes i p known (pending_owed n) in
       let before : pending_owed n (owes i) ≡ 0 = ap (pending_owed n) owed in
       omega (arith, change, was, none, owes_more, before))
-      (λ q. sym (ap (references_owed q) owed))
+      (λ q ne.
+      let before : references_owed q (owes i) ≡ 0 = ap (references_owed q) owed in
+      let other : one (is_some_task q (Some k)) ≡ 0 = ap one (other_name q k ne) in
+      omega (arith, before, other))
+      (let before : references_owed k (owes i) ≡ 0 = ap (references_owed k) owed in
+      let was : own_reference t ≡ 1 = ap one was_unfinished in
+      let now : own_reference (g t) ≡ 0 = ap (λ x. one (not x && false)) running.explicit in
+      let own : one (is_some_task k (Some k)) ≡ 1 = ap one (is_own_id k.0) in
+      omega (arith, before, was, now, own))
+      (λ q. sym (ap (gives_owed q) owed)) known
       (λ q.
       let change =
       tasks_recounted w s k t g running.live goes maker slot_below

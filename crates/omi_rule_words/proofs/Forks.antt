@@ -37,7 +37,7 @@ use Rattle.omi_rule_words.specs.TeamKinds.{ForkIsFilled, ForksKeep, HasNoTask}
 use Rattle.omi_rule_words.proofs.Changed.{current_stored}
 use Rattle.omi_rule_words.proofs.Begun.{Begins, Grows, NewRegion, NewTask, making_same, none_found, some_found}
 use Rattle.omi_rule_words.proofs.Grown.{OwesLess, owes_less, waits_after}
-use Rattle.omi_rule_words.proofs.GrownMembers.{IsMember, members_grown}
+use Rattle.omi_rule_words.proofs.GrownMembers.{IsMember, members_grown, refers}
 use Rattle.omi_rule_words.proofs.MadeMembers.{IsBeside, IsMadeAt, all_at, apart_behind_first, behind_first, behind_second, each_task, has_member_slot, has_no_slot, made_at, none_in, once_in, one_member}
 use Rattle.omi_rule_words.proofs.OtherOwes.{OwesAlike, owes_alike}
 use Rattle.omi_rule_words.proofs.Sums.{sum_changed, sum_none_within}
@@ -107,7 +107,7 @@ module _ (p : Program) (w : List ℕ) (m : Memory) (s : State) (owes : ℕ → O
       (subst (λ (o : Owed). OwesAlike given o) (sym owed) own) j (λ _. owes_alike (owes j))
     where
       own : OwesAlike given (record nothing { region = Some region; tasks = tasks_of team })
-      own = record { pending = refl; raised = refl; lowered = refl; referred = refl; left = refl; hand = refl }
+      own = record { pending = refl; raised = refl; lowered = refl; referred = refl; own = refl; returned = refl; gives = refl; left = refl; hand = refl }
 
   less : (j : ℕ) → OwesLess (other j) (owes j)
   less j = owes_less (other j) (owes j) (alike j)
@@ -137,7 +137,8 @@ module _ (p : Program) (w : List ℕ) (m : Memory) (s : State) (owes : ℕ → O
       (subst (λ c. RegionGrows c region.0.slot (record { generations = region.0.generation + 1; live = Some (new_region k t r team f) })) (sym region_making.maker) (inr begins))
       (λ c j beside. inl (record { same = refl; fact = stays c j beside }))
     where
-      begins : Begins (NewRegion w (m i regions region.0.slot) (has_region_slot region.0.slot (owes i).region)) (s.regions i region.0.slot) (record { generations = region.0.generation + 1; live = Some (new_region k t r team f) })
+      begins : Begins (NewRegion w (m i regions region.0.slot) (has_region_slot region.0.slot (owes i).region))
+          (s.regions i region.0.slot) (record { generations = region.0.generation + 1; live = Some (new_region k t r team f) })
       begins = record {
         empty = region_making.free;
         generations = ap (λ n. n + 1) region_making.next;
@@ -228,7 +229,13 @@ module _ (p : Program) (w : List ℕ) (m : Memory) (s : State) (owes : ℕ → O
       go (inr y) = absurd (y.none j x is refl refl)
 
   member_waits : (j : ℕ) (x : Tid × ℕ) → slice_get team (suc j) ≡ Some x → WaitsFor after x.1 x.0
-  member_waits j x is = record { task = new (suc j) x.1; live = member_live (suc j) x is; progress = ap (λ b. if b then progress.Begun else progress.NotBegun) (ne_eqb (suc j) 0 (λ e. absurd (omega (arith, e)))); thread = refl }
+  member_waits j x is = record {
+    task = new (suc j) x.1;
+    live = member_live (suc j) x is;
+    progress = ap
+        (λ b. if b then progress.Begun else progress.NotBegun) (ne_eqb (suc j) 0 (λ e. absurd (omega (arith, e))));
+    thread = refl;
+  }
 
   -- a name in no member's slot was live before
   old_or_new : (q : Tid) (u : Task) → task_of after q ≡ Some u
@@ -290,7 +297,7 @@ module _ (p : Program) (w : List ℕ) (m : Memory) (s : State) (owes : ℕ → O
               go (inr y) = y.same
 
   abbrev still : (j : ℕ) (q : Tid) → WaitsFor s j q → WaitsFor after j q
-  still = waits_after w m s rs ts owes other IsMember keeps names less region_slots task_slots
+  still = waits_after w m s rs ts owes other IsMember refers keeps names less region_slots task_slots
 
   assigns : (j : ℕ) → j < s.count → All (λ q. WaitsFor after q.1 q.0) (other j).assigns
   assigns j within =

@@ -18,31 +18,53 @@ use Rattle.omi_layout.specs.declared.field.Field.TheVariants.{RegionLife, TaskLi
 use Rattle.omi_layout.specs.Field.{threads, regions, tasks}
 use Rattle.omi_layout.specs.Memory.{Rec, Memory}
 use Rattle.omi_layout.specs.Table.{per_thread}
+use Rattle.omi_pc.specs.declared.place.Place.{Place}
 use Rattle.omi_rule_words.specs.Owes.{Owed}
-use Rattle.omi_rule_words.specs.Counts.{children_owed, generating_of, has_region_slot, has_slot, is_region, is_some_region, is_some_task, is_task, is_unfinished, left_owed, of_live, one, pending_owed, sum_below, sum_of_owed, sum_of_slots, unfinished_children, unfinished_in, is_explicit, live_children, references_owed}
+use Rattle.omi_rule_words.specs.Counts.{children_owed, generating_of, has_region_slot, has_slot, is_region, is_some_region, is_some_task, is_task, is_unfinished, left_owed, of_live, one, pending_owed, sum_below, sum_of_owed, sum_of_slots, unfinished_children, unfinished_in, is_explicit, live_children, references_owed, gives_owed, is_at, is_at_some}
 use Rattle.omi_rule_words.specs.Threads.{Has, KeepsAssign, WaitsFor}
 use Rattle.omi_rule_words.specs.Objects.{IsDeferredIn, KeepsCounts, KeepsDeferred, KeepsLife, KeepsRegion, KeepsSlots}
-use Rattle.omi_rule_words.specs.Words.{HasFinished, KeepsMaking, KeepsRegionSlot, KeepsTask, KeepsTaskSlot, KeepsWords, OwesOnLive, region_in, task_in}
+use Rattle.omi_rule_words.specs.Words.{HasFinished, KeepsMaking, KeepsRegionSlot, KeepsTask, KeepsTaskSlot, KeepsWords, IsOwedIn, OwesOnLive, region_in, task_in}
 use Rattle.omi_rule_words.proofs.CountedRegions.{region_counted}
 use Rattle.omi_rule_words.proofs.Begun.{Grows, IsNew, NewRegion, NewTask, begun_life, found_stays, found_was, none_found, one_none, some_found, some_stays}
-use Rattle.omi_rule_words.proofs.OtherOwes.{OwesAlike}
+use Rattle.omi_rule_words.proofs.OtherOwes.{OwesAlike, alike_on_tasks}
+use Rattle.omi_rule_words.proofs.OwedTasks.{OwesOnTasks, OwesTasksAlike, lowered_finished, owed_on_tasks, referred_to}
 use Rattle.omi_rule_words.proofs.Sums.{slots_none_within, sum_none_within, sum_same, sum_same_within}
+
+-- a thread owes nothing on a task's references, and to give none back
+pub record OwesNoTask (p : Owed) : Type 0 where
+  pub referred : p.referred ≡ None
+  pub own : p.own ≡ None
+  pub returned : p.returned ≡ None
+  pub gives : p.gives ≡ None
 
 -- a thread owes what it owed, or less on raises
 pub record OwesLess (p o : Owed) : Type 0 where
   pub pending : (n : Rid) → p.pending ≡ Some n → o.pending ≡ Some n
   pub raised : (k : Tid) → p.raised ≡ Some k → o.raised ≡ Some k
-  pub referred : (k : Tid) → p.referred ≡ Some k → o.referred ≡ Some k
+  pub tasks : OwesTasksAlike p o ⊎ OwesNoTask p
   pub lowered : p.lowered ≡ o.lowered
+  pub own : p.own ≡ o.own
+  pub gives : p.gives ≡ o.gives
   pub left : p.left ≡ o.left
 
 pub owes_less : (p o : Owed) → OwesAlike p o → OwesLess p o
-owes_less p o alike = record { pending = λ n is. sym alike.pending ∙ is; raised = λ k is. sym alike.raised ∙ is; referred = λ k is. sym alike.referred ∙ is; lowered = alike.lowered; left = alike.left }
+owes_less p o alike =
+    record {
+      pending = λ n is. sym alike.pending ∙ is;
+      raised = λ k is. sym alike.raised ∙ is;
+      tasks = inl (alike_on_tasks p o alike);
+      lowered = alike.lowered;
+      own = alike.own;
+      gives = alike.gives;
+      left = alike.left;
+    }
 
 module _ (w : List ℕ) (m : Memory) (s : State) (rs : Slots Region) (ts : Slots Task) (owes other : ℕ → Owed)
-    (Kind : Task → Type 0) (keeps : KeepsWords w m s owes) (names : AreNamesLive s)
+    (Kind : Task → Type 0) (new_refers : (t : Task) → Kind t → is_unfinished t ≡ is_explicit t)
+    (keeps : KeepsWords w m s owes) (names : AreNamesLive s)
     (alike : (j : ℕ) → OwesLess (other j) (owes j))
-    (region_slots : (c k : ℕ) → Grows (has_region_slot k (other c).region ≡ has_region_slot k (owes c).region) (NewRegion w (m c regions k) (has_region_slot k (owes c).region)) (s.regions c k) (rs c k))
+    (region_slots : (c k : ℕ) → Grows (has_region_slot k (other c).region ≡ has_region_slot k (owes c).region)
+    (NewRegion w (m c regions k) (has_region_slot k (owes c).region)) (s.regions c k) (rs c k))
     (task_slots : (c k : ℕ) → Grows (has_slot k (other c).tasks ≡ has_slot k (owes c).tasks) (NewTask w (m c tasks k) (has_slot k (owes c).tasks) Kind) (s.tasks c k) (ts c k)) where
   abbrev after : State
   after = record s { regions = rs; tasks = ts }
@@ -113,10 +135,12 @@ module _ (w : List ℕ) (m : Memory) (s : State) (rs : Slots Region) (ts : Slots
   lowered_same : (k : Tid) (j : ℕ) → j < s.count
       → children_owed after k (other j) ≡ children_owed s k (other j)
   lowered_same k j known =
-      go (other j).lowered (λ q is. ((keeps.made j known).objects.lowered q (sym (alike j).lowered ∙ is)).0)
+      go (other j).lowered
+      (λ q is. lowered_finished s (owes j) (keeps.made j known).objects q (sym (alike j).lowered ∙ is))
     where
       go : (o : Option Tid) → ((q : Tid) → o ≡ Some q → HasFinished s q)
-          → one (is_some_task k (other j).raised) + one (is_some_task k (option_and_then (generating_of after) o)) ≡ one (is_some_task k (other j).raised) + one (is_some_task k (option_and_then (generating_of s) o))
+          → one (is_some_task k (other j).raised) + one (is_some_task k (option_and_then (generating_of after) o))
+          ≡ one (is_some_task k (other j).raised) + one (is_some_task k (option_and_then (generating_of s) o))
       go None finished = refl
       go (Some q) finished =
           ap (λ g. one (is_some_task k (other j).raised) + one (is_some_task k g))
@@ -154,7 +178,8 @@ module _ (w : List ℕ) (m : Memory) (s : State) (rs : Slots Region) (ts : Slots
           let creator : k.0.creator ≡ q.0.creator = grind (arith, nat_tests) in
           let place : k.0.slot ≡ q.0.slot = grind (arith, nat_tests) in
           absurd
-          (none_found q.0.generation (s.tasks q.0.creator q.0.slot) (subst (λ c. (s.tasks c q.0.slot).live ≡ None) creator (subst (λ j. (s.tasks k.0.creator j).live ≡ None) place empty)) (live q refl))
+          (none_found q.0.generation (s.tasks q.0.creator q.0.slot)
+          (subst (λ c. (s.tasks c q.0.slot).live ≡ None) creator (subst (λ j. (s.tasks k.0.creator j).live ≡ None) place empty)) (live q refl))
 
   region_unnamed : (n : Rid) → (s.regions n.0.creator n.0.slot).live ≡ None → (q : Rid)
       → IsSome (region_of s q) → is_region n q ≡ false
@@ -185,7 +210,8 @@ module _ (w : List ℕ) (m : Memory) (s : State) (rs : Slots Region) (ts : Slots
       go c j maker place None is = refl
       go c j maker place (Some t) is =
           one_none (f t) (is_some_task k t.generating)
-          (unnamed k empty t.generating (λ q made. let (u, live, _) = (names.tasks (task_in c j (s.tasks c j)) t (named_there c j maker place t is)).generating q made in some_found (task_of s q) u live))
+          (unnamed k empty t.generating (λ q made. let (u, live, _) =
+          (names.tasks (task_in c j (s.tasks c j)) t (named_there c j maker place t is)).generating q made in some_found (task_of s q) u live))
 
   no_tasks : (n : Rid) → (s.regions n.0.creator n.0.slot).live ≡ None → unfinished_in w s n ≡ 0
   no_tasks n empty =
@@ -204,7 +230,8 @@ module _ (w : List ℕ) (m : Memory) (s : State) (rs : Slots Region) (ts : Slots
       → (sum_of_owed s owes (pending_owed n) ≡ 0) × (sum_of_owed s owes (left_owed n) ≡ 0)
   region_unowed n empty = (
     sum_none_within s.count (λ j. pending_owed n (owes j)) (λ j known. ap one (some_region_unnamed n empty (owes j).pending (keeps.made j known).objects.pending)),
-    sum_none_within s.count (λ j. left_owed n (owes j)) (λ j known. ap one (some_region_unnamed n empty (owes j).left (λ q is. let (x, live, _) = (keeps.made j known).objects.left q is in some_found (region_of s q) x live))),
+    sum_none_within s.count (λ j. left_owed n (owes j))
+        (λ j known. ap one (some_region_unnamed n empty (owes j).left (λ q is. let (x, live, _) = (keeps.made j known).objects.left q is in some_found (region_of s q) x live))),
   )
 
   children_unowed : (k : Tid) → (s.tasks k.0.creator k.0.slot).live ≡ None
@@ -234,8 +261,48 @@ module _ (w : List ℕ) (m : Memory) (s : State) (rs : Slots Region) (ts : Slots
 
   references_unowed : (k : Tid) → (s.tasks k.0.creator k.0.slot).live ≡ None
       → sum_of_owed s owes (references_owed k) ≡ 0
-  references_unowed k empty = sum_none_within s.count (λ j. references_owed k (owes j))
-      (λ j known. ap one (unnamed k empty (owes j).referred (keeps.made j known).objects.referred))
+  references_unowed k empty = sum_none_within s.count (λ j. references_owed k (owes j)) each
+    where
+      there : (o : Owed) (q : Tid) → IsOwedIn s o q → IsSome (task_of s q)
+      there o q (t, live, _) = some_found (task_of s q) t live
+
+      -- a live task's place is another one
+      unplaced : (q : Tid) (at : Place) → is_at q at ≡ true → IsSome (task_of s q) → is_at k at ≡ false
+      unplaced q at is live = go (is_at k at) refl
+        where
+          go : (b : Bool) → is_at k at ≡ b → b ≡ false
+          go false e = refl
+          go true e =
+              let creator : k.0.creator ≡ q.0.creator = grind (arith, nat_tests) in
+              let place : k.0.slot ≡ q.0.slot = grind (arith, nat_tests) in
+              absurd
+              (none_found q.0.generation (s.tasks q.0.creator q.0.slot) (subst (λ c. (s.tasks c q.0.slot).live ≡ None) creator (subst (λ j. (s.tasks k.0.creator j).live ≡ None) place empty)) live)
+
+      returned : (o : Owed) (at : Option Place) → ((p : Place) → at ≡ Some p → (q : Tid) × (is_at q p ≡ true) × IsOwedIn s o q)
+          → is_at_some k at ≡ false
+      returned o None owed = refl
+      returned o (Some p) owed = let (q, is, t) = owed p refl in unplaced q p is (there o q t)
+
+      each : (j : ℕ) → j < s.count → references_owed k (owes j) ≡ 0
+      each j known =
+          let o = (keeps.made j known).objects in
+          let a : one (is_some_task k (owes j).referred) ≡ 0 =
+          ap one (unnamed k empty (owes j).referred (λ q is. there (owes j) q (o.referred q is))) in
+          let b : one (is_some_task k (owes j).own) ≡ 0 =
+          ap one (unnamed k empty (owes j).own (λ q is. there (owes j) q (o.own q is).1)) in
+          let c : one (is_at_some k (owes j).returned) ≡ 0 =
+          ap one (returned (owes j) (owes j).returned o.returned) in
+          omega (arith, a, b, c)
+
+  gives_same : (k : Tid) → sum_of_owed s other (gives_owed k) ≡ sum_of_owed s owes (gives_owed k)
+  gives_same k = owed_same (gives_owed k) (λ j. ap (λ q. one (is_some_task k q)) (alike j).gives)
+
+  gives_unowed : (k : Tid) → (s.tasks k.0.creator k.0.slot).live ≡ None
+      → sum_of_owed s owes (gives_owed k) ≡ 0
+  gives_unowed k empty =
+      sum_none_within s.count (λ j. gives_owed k (owes j))
+      (λ j known. ap one
+      (unnamed k empty (owes j).gives (λ q is. let (t, live, _) = ((keeps.made j known).objects.gives q is).1 in some_found (task_of s q) t live)))
 
   module _
       (references_counted : (k : Tid) → live_children w after k + sum_of_owed s other (references_owed k) ≡ live_children w s k + sum_of_owed s owes (references_owed k))
@@ -250,6 +317,7 @@ module _ (w : List ℕ) (m : Memory) (s : State) (rs : Slots Region) (ts : Slots
     counts_kept : (k : Tid) (r : Rec) (t : Task) → KeepsCounts w s owes k r t → KeepsCounts w after other k r t
     counts_kept k r t o = record {
       references = let was = o.references in let change = references_counted k in omega (arith, was, change);
+      given = gives_same k ∙ o.given;
       children =
           let was = o.children in
           let change = children_counted k in
@@ -278,17 +346,35 @@ module _ (w : List ℕ) (m : Memory) (s : State) (rs : Slots Region) (ts : Slots
 
     objects_kept : (j : ℕ) → All (λ q. WaitsFor after q.1 q.0) (other j).assigns → OwesOnLive s (owes j)
         → OwesOnLive after (other j)
-    objects_kept j assigns x = record {
-      pending = λ n is. some_region_after n (x.pending n ((alike j).pending n is));
-      left = λ n is. let (r, live, open_) = x.left n (sym (alike j).left ∙ is) in (r, region_after n r live, open_);
-      raised = λ k is. some_task_after k (x.raised k ((alike j).raised k is));
-      referred = λ k is. some_task_after k (x.referred k ((alike j).referred k is));
-      lowered = λ k is.
-          let (finished, live) = x.lowered k (sym (alike j).lowered ∙ is) in
-          (finished_after k finished, subst (λ (g : Option Tid). IsSome (option_and_then (task_of after) g)) (sym (generating_after k finished)) (parent (generating_of s k) live));
-      assigns = assigns;
-    }
+    objects_kept j assigns x =
+        let on_tasks = tasks_kept (alike j).tasks in
+        record {
+          pending = λ n is. some_region_after n (x.pending n ((alike j).pending n is));
+          left = λ n is. let (r, live, open_) = x.left n (sym (alike j).left ∙ is) in (r, region_after n r live, open_);
+          raised = λ k is. some_task_after k (x.raised k ((alike j).raised k is));
+          referred = on_tasks.referred;
+          own = on_tasks.own;
+          returned = on_tasks.returned;
+          gives = on_tasks.gives;
+          lowered = λ k is.
+              let before : (owes j).lowered ≡ Some k = sym (alike j).lowered ∙ is in
+              let (own, live) = x.lowered k before in
+              let finished = lowered_finished s (owes j) x k before in
+              ((alike j).own ∙ own, subst (λ (g : Option Tid). IsSome (option_and_then (task_of after) g)) (sym (generating_after k finished)) (parent (generating_of s k) live));
+          assigns = assigns;
+        }
       where
+        tasks_kept : OwesTasksAlike (other j) (owes j) ⊎ OwesNoTask (other j) → OwesOnTasks after (other j)
+        tasks_kept (inl same) =
+            owed_on_tasks s after (owes j) (other j)
+            (record { live = λ k t is. (t, task_after k t is, refl); finished = finished_after }) same x
+        tasks_kept (inr none) = record {
+          referred = λ k is. let nobody = none.referred in absurd (cc);
+          own = λ k is. let nobody = none.own in absurd (cc);
+          returned = λ at is. let nobody = none.returned in absurd (cc);
+          gives = λ k is. let nobody = none.gives in absurd (cc);
+        }
+
         parent : (g : Option Tid) → IsSome (option_and_then (task_of s) g)
             → IsSome (option_and_then (task_of after) g)
         parent None is = is
@@ -327,6 +413,10 @@ module _ (w : List ℕ) (m : Memory) (s : State) (rs : Slots Region) (ts : Slots
             let change = references_counted k in
             let nobody = references_unowed k empty in
             omega (arith, word, none, change, nobody);
+        given =
+            gives_same k
+            ∙ (gives_unowed k empty
+            ∙ sym (referred_to (is_explicit t) _ (let word = new.references in let own = ap one (new_refers t new.kind) in omega (arith, word, own))));
         children =
             let word = new.children in
             let none : unfinished_children w s k ≡ 0 = no_children k empty is_unfinished in
@@ -355,10 +445,12 @@ module _ (w : List ℕ) (m : Memory) (s : State) (rs : Slots Region) (ts : Slots
           live = λ x is.
               let there : (s.regions c k).live ≡ Some x =
               sym (ap (λ (y : Slot Region). y.live) stays.same) ∙ is in
-              subst (λ (y : Slot Region). KeepsRegion w after other (region_in c k y) (m c regions k) x) (sym stays.same) (region_kept (region_in c k (s.regions c k)) (m c regions k) x (o.live x there));
+              subst (λ (y : Slot Region). KeepsRegion w after other (region_in c k y) (m c regions k) x)
+              (sym stays.same) (region_kept (region_in c k (s.regions c k)) (m c regions k) x (o.live x there));
         }
         go (inr begins) = record {
-          life = begun_life (m c regions k) RegionLife (s.regions c k) (rs c k) (NewRegion w (m c regions k) (has_region_slot k (owes c).region)) (has_region_slot k (owes c).region) (has_region_slot k (other c).region) begins begins.new.taken_is o.life;
+          life = begun_life (m c regions k) RegionLife (s.regions c k) (rs c k)
+              (NewRegion w (m c regions k) (has_region_slot k (owes c).region)) (has_region_slot k (owes c).region) (has_region_slot k (other c).region) begins begins.new.taken_is o.life;
           live =
               λ x is. region_begun (region_in c k (rs c k)) (m c regions k) (has_region_slot k (owes c).region) x begins.empty
               (subst (λ (y : Region). NewRegion w (m c regions k) (has_region_slot k (owes c).region) y) (some_same begins.live is) begins.new);

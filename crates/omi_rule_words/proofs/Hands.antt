@@ -34,7 +34,12 @@ module _ (w : List ℕ) (s : State) (owes : ℕ → Owed) (hands : ℕ → Optio
   region_rehanded n r x o = region_counted w s s owes other n r x refl refl o
 
   task_rehanded : (k : Tid) (r : Rec) (t : Task) → KeepsTask w s owes k r t → KeepsTask w s other k r t
-  task_rehanded k r t o = record { environment = o.environment; place = o.place; counts = record { children = o.counts.children; references = o.counts.references }; slots = o.slots }
+  task_rehanded k r t o = record {
+    environment = o.environment;
+    place = o.place;
+    counts = record { children = o.counts.children; references = o.counts.references; given = o.counts.given };
+    slots = o.slots;
+  }
 
   pub made_rehanded : (i : ℕ) (made : MadeRecords) → KeepsMade w s owes i made → KeepsMade w s other i made
   made_rehanded i made o = record {
@@ -43,5 +48,15 @@ module _ (w : List ℕ) (s : State) (owes : ℕ → Owed) (hands : ℕ → Optio
     regions = λ k within. let slot = o.regions k within in record { life = slot.life; live = λ x is. region_rehanded _ _ x (slot.live x is) };
     tasks = λ k within. let slot = o.tasks k within in record { life = slot.life; live = λ t is. task_rehanded _ _ t (slot.live t is) };
     making = record { region = o.making.region; tasks = o.making.tasks; apart = o.making.apart };
-    objects = record { pending = o.objects.pending; left = o.objects.left; raised = o.objects.raised; lowered = o.objects.lowered; referred = o.objects.referred; assigns = o.objects.assigns };
+    objects = record {
+      pending = o.objects.pending;
+      left = o.objects.left;
+      raised = o.objects.raised;
+      lowered = o.objects.lowered;
+      referred = o.objects.referred;
+      own = o.objects.own;
+      returned = o.objects.returned;
+      gives = o.objects.gives;
+      assigns = o.objects.assigns;
+    };
   }

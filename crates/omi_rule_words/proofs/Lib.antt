@@ -7,6 +7,7 @@ pub mod MadeSlots
 pub mod Fills
 pub mod Moves
 pub mod CountedRegions
+pub mod OwedTasks
 pub mod OtherOwes
 pub mod RegionTakes
 pub mod TaskTakes
@@ -38,6 +39,7 @@ pub mod SlotStores
 pub mod TaskMoves
 pub mod Starts
 pub mod Finishes
+pub mod LiveTasks
 pub mod ChildrenFinished
 pub mod MadeTasks
 pub mod Defers
@@ -46,3 +48,11 @@ pub mod TaskEnds
 pub mod Departs
 pub mod Joins
 pub mod ListedNames
+pub mod ReferenceCounts
+pub mod TasksGone
+pub mod GoneSlots
+pub mod GoneTasks
+pub mod TaskFrees
+pub mod MemberFrees
+pub mod RegionFrees
+pub mod Undeferred

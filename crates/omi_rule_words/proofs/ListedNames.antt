@@ -28,7 +28,7 @@ names_stay_live s i list o = record {
       let x = o.regions n r (sym (moved.regions n) ∙ is) in
       record {
         enclosing = λ q outer. lives q (x.enclosing q outer);
-        encountering = λ unjoined q made. still q (x.encountering unjoined q made);
+        encountering = λ q made. still q (x.encountering q made);
         team = λ unjoined j m at. member n j m (x.team unjoined j m at);
         members = λ j m at t live. let (u, items, was, same) = moved.tasks m.0 t live in member n j m (x.members j m at u was);
       };

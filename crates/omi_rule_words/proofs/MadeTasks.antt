@@ -1,5 +1,5 @@
 -- An explicit task begins, whose record stands filled, as the raises for it are settled: its region and its generating task count it from then on.
-use Rattle.std.proofs.Common.{◌≡◌, ◌≢◌, ◌&&◌, ◌||◌, ◌+◌, ◌<◌, ℕ, true, false, not, inl, inr, List, [], ◌∷◌, Option, Some, None, refl, sym, ap, subst, ◌∙◌, arith, eq-eqb, ne_eqb}
+use Rattle.std.proofs.Common.{◌≡◌, ◌≢◌, ◌&&◌, ◌||◌, ◌+◌, ◌<◌, ℕ, true, false, not, inl, inr, List, [], ◌∷◌, Option, Some, None, refl, sym, ap, ap₂, subst, ◌∙◌, arith, eq-eqb, ne_eqb}
 use Rattle.std.specs.Prelude.{◌⊎◌, All}
 use Rattle.std.proofs.lemmas.List.Elements.{All-head, All-nil, All-weaker}
 use Rattle.omi_model.specs.declared.id.Rid.{Rid}
@@ -23,8 +23,9 @@ use Rattle.omi_rule_words.specs.Objects.{HasPlace, KeepsDeferred, KeepsEnvironme
 use Rattle.omi_rule_words.specs.Words.{IsInTheMaking, KeepsMaking, KeepsWords}
 use Rattle.omi_rule_words.specs.ExplicitKinds.{OwesNew}
 use Rattle.omi_rule_words.proofs.Begun.{Begins, Grows, NewRegion, NewTask, making_same}
-use Rattle.omi_rule_words.proofs.Grown.{OwesLess, grown, waits_after}
+use Rattle.omi_rule_words.proofs.Grown.{OwesLess, grown, owes_less, waits_after}
 use Rattle.omi_rule_words.proofs.OtherCounts.{owed_put, owed_put_same}
+use Rattle.omi_rule_words.proofs.OtherOwes.{owes_alike}
 use Rattle.omi_rule_words.proofs.Sums.{sum_changed, sum_same}
 
 -- an explicit task that goes on, in the region and with the generating task of its raises
@@ -65,6 +66,15 @@ module _ (w : List ℕ) (m : Memory) (s : State) (owes : ℕ → Owed) (i : ℕ)
   owed : owes i ≡ before
   owed = owes_new.owed
 
+  -- it refers to itself
+  own_counted : is_unfinished new ≡ true
+  own_counted = ap₂ (λ a b. not a && not b) is_made.explicit is_made.goes
+
+  refers : (u : Task) → u ≡ new → is_unfinished u ≡ is_explicit u
+  refers u same =
+      subst (λ (x : Task). is_unfinished x ≡ is_explicit x) (sym same)
+      (own_counted ∙ sym (ap not is_made.explicit))
+
   making : IsInTheMaking i (s.tasks i) task.0
   making =
       All-head (λ (q : Tid). IsInTheMaking i (s.tasks i) q.0) task []
@@ -80,10 +90,18 @@ module _ (w : List ℕ) (m : Memory) (s : State) (owes : ℕ → Owed) (i : ℕ)
   less j =
       each_put (λ c (x : Owed). OwesLess x (owes c)) owes i given
       (subst (λ (o : Owed). OwesLess given o) (sym owed) own) j
-      (λ _. record { pending = λ n is. is; raised = λ q is. is; referred = λ q is. is; lowered = refl; left = refl })
+      (λ _. owes_less (owes j) (owes j) (owes_alike (owes j)))
     where
       own : OwesLess given before
-      own = record { pending = λ n is. absurd (cc); raised = λ q is. absurd (cc); referred = λ q is. absurd (cc); lowered = refl; left = refl }
+      own = record {
+        pending = λ n is. absurd (cc);
+        raised = λ q is. absurd (cc);
+        tasks = inr (record { referred = refl; own = refl; returned = refl; gives = refl });
+        lowered = refl;
+        own = refl;
+        gives = refl;
+        left = refl;
+      }
 
   -- ---- slots
 
@@ -95,7 +113,11 @@ module _ (w : List ℕ) (m : Memory) (s : State) (owes : ℕ → Owed) (i : ℕ)
   region_slots : (c j : ℕ) → RegionGrows c j
   region_slots c j =
       inl
-      (record { same = refl; fact = each_put (λ d (o : Owed). has_region_slot j o.region ≡ has_region_slot j (owes d).region) owes i given (sym (ap (λ (o : Owed). has_region_slot j o.region) owed)) c (λ _. refl) })
+      (record {
+        same = refl;
+        fact = each_put (λ d (o : Owed). has_region_slot j o.region ≡ has_region_slot j
+            (owes d).region) owes i given (sym (ap (λ (o : Owed). has_region_slot j o.region) owed)) c (λ _. refl);
+      })
 
   abbrev NewAt : ℕ → ℕ → Task → Type 0
   NewAt c j = NewTask w (m c tasks j) (has_slot j (owes c).tasks) (λ u. u ≡ new)
@@ -114,7 +136,7 @@ module _ (w : List ℕ) (m : Memory) (s : State) (owes : ℕ → Owed) (i : ℕ)
       environment = filled.environment;
       place = filled.place;
       children = filled.children;
-      references = filled.references ∙ ap (λ b. one (not b)) (sym is_made.explicit);
+      references = filled.references ∙ sym (ap one own_counted);
       slots = λ implicit. let explicit = is_made.explicit in absurd (cc);
       kind = refl;
     };
@@ -201,7 +223,7 @@ module _ (w : List ℕ) (m : Memory) (s : State) (owes : ℕ → Owed) (i : ℕ)
       ap (λ b. one (not b && is_some_task q new.generating)) is_made.explicit
       ∙ ap (λ o. one (is_some_task q o)) is_made.generating in
       let change = owed_put s owes i given known (references_owed q) in
-      let was : references_owed q (owes i) ≡ one (is_some_task q (Some k)) = ap (references_owed q) owed in
+      let was : references_owed q (owes i) ≡ one (is_some_task q (Some k)) + 0 = ap (references_owed q) owed in
       omega (arith, more, here, change, was)
 
   -- ---- what is kept of each thread
@@ -223,7 +245,7 @@ module _ (w : List ℕ) (m : Memory) (s : State) (owes : ℕ → Owed) (i : ℕ)
       }
 
   still : (j : ℕ) (q : Tid) → WaitsFor s j q → WaitsFor after j q
-  still = waits_after w m s s.regions ts owes other (λ u. u ≡ new) keeps names less region_slots task_slots
+  still = waits_after w m s s.regions ts owes other (λ u. u ≡ new) refers keeps names less region_slots task_slots
 
   -- under a name stands the new task, or what stood there
   pub new_or_old : (q : Tid) (u : Task) → task_of after q ≡ Some u
@@ -272,4 +294,4 @@ module _ (w : List ℕ) (m : Memory) (s : State) (owes : ℕ → Owed) (i : ℕ)
   pub made_kept : KeepsDeferred w (λ c. m c tasks) after other → KeepsWords w m after other
   made_kept deferred =
       grown w m s s.regions ts owes other
-      (λ u. u ≡ new) keeps names less region_slots task_slots references_counted pending_counted children_counted making_kept assigns assigned deferred
+      (λ u. u ≡ new) refers keeps names less region_slots task_slots references_counted pending_counted children_counted making_kept assigns assigned deferred

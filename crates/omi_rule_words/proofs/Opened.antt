@@ -23,12 +23,13 @@ use Rattle.omi_pc.specs.Opening.{opening_actor}
 use Rattle.omi_rep.specs.Suits.{Suits}
 use Rattle.omi_rep.proofs.OpenedCodes.{region_opened, runtime_opened, task_opened, thread_opened}
 use Rattle.omi_rule_words.specs.Owes.{Owed, all_owed, nothing}
-use Rattle.omi_rule_words.specs.Counts.{of_live, one, has_slot, has_region_slot, is_region, is_some_task, is_unfinished, pending_owed, left_owed, children_owed, is_explicit, references_owed}
+use Rattle.omi_rule_words.specs.Counts.{of_live, one, has_slot, has_region_slot, is_region, is_some_task, is_unfinished, pending_owed, left_owed, children_owed, is_explicit, references_owed, gives_owed}
 use Rattle.omi_rule_words.specs.Threads.{KeepsAssign, WaitsFor}
 use Rattle.omi_rule_words.specs.Objects.{KeepsLife, KeepsRegion, KeepsCounts, KeepsDeferred}
 use Rattle.omi_rule_words.specs.Words.{KeepsTask, KeepsRegionSlot, KeepsTaskSlot, KeepsMaking, OwesOnLive, KeepsMade, KeepsWords, IsInTheMaking, region_in, task_in}
 use Rattle.omi_rule_words.specs.Opens.{OpeningKeepsWords}
 use Rattle.omi_rule_words.proofs.Idle.{opening_owes}
+use Rattle.omi_rule_words.proofs.OwedTasks.{nothing_on_live}
 use Rattle.omi_rule_words.proofs.Sums.{owed_none, slots_none}
 
 -- the one task counts nothing
@@ -119,6 +120,7 @@ module _ (p : Program) (w words : List ℕ) (v : IsValid w) (suits : Suits p w)
         let owed = owed_none s owes (references_owed k) none refl in
         let is : r (number TaskReferences) 0 ≡ 0 = o.words TaskReferences 0 in
         omega (arith, children, owed, is);
+    given = owed_none s owes (gives_owed k) none refl;
     children =
         let unfinished =
         slots_none w s (λ c j t. one (is_unfinished t && is_some_task k t.generating))
@@ -174,14 +176,7 @@ module _ (p : Program) (w words : List ℕ) (v : IsValid w) (suits : Suits p w)
   })
 
   objects_kept : (i : ℕ) → OwesOnLive s (owes i)
-  objects_kept i = subst (λ (o : Owed). OwesOnLive s o) (sym (none i)) (record {
-    pending = λ n is. absurd (cc);
-    left = λ n is. absurd (cc);
-    raised = λ k is. absurd (cc);
-    referred = λ k is. absurd (cc);
-    lowered = λ k is. absurd (cc);
-    assigns = All-from_recursion (λ (m : Tid × ℕ). WaitsFor s m.1 m.0) [] tt;
-  })
+  objects_kept i = subst (λ (o : Owed). OwesOnLive s o) (sym (none i)) (nothing_on_live s)
 
   made_kept : (i : ℕ) → i < s.count → KeepsMade w s owes i (m i)
   made_kept i within =

@@ -20,7 +20,7 @@ use Rattle.omi_layout.specs.Table.{per_thread}
 use Rattle.omi_layout.proofs.Puts.{each_put, put_other, put_same}
 use Rattle.omi_rep.specs.Codes.{region_told, task_told}
 use Rattle.omi_rule_words.specs.Owes.{Owed}
-use Rattle.omi_rule_words.specs.Counts.{children_owed, has_region_slot, has_slot, is_id, left_owed, pending_owed, start_owed, sum_of_owed, unfinished_in, references_owed}
+use Rattle.omi_rule_words.specs.Counts.{children_owed, has_region_slot, has_slot, is_id, left_owed, pending_owed, start_owed, sum_of_owed, unfinished_in, references_owed, gives_owed, is_explicit, one}
 use Rattle.omi_rule_words.specs.Threads.{Has, KeepsAssign, KeepsRuntime, KeepsThread}
 use Rattle.omi_rule_words.specs.Objects.{IsDeferredIn, KeepsCounts, KeepsLife, KeepsRegion}
 use Rattle.omi_rule_words.specs.Words.{AreApart, IsInTheMaking, KeepsMade, KeepsTask, KeepsWords, OwesOnLive, region_in, task_in}
@@ -84,6 +84,7 @@ makes_alike o = record { region = refl; tasks = refl; left = refl; assigns = ref
 pub record OwesAlikeOn (s : State) (k : Tid) (p o : Owed) : Type 0 where
   pub children : children_owed s k p ≡ children_owed s k o
   pub references : references_owed k p ≡ references_owed k o
+  pub gives : gives_owed k p ≡ gives_owed k o
 
 -- one thread owes otherwise
 pub owed_put : (s : State) (owes : ℕ → Owed) (i : ℕ) (p : Owed) → i < s.count → (f : Owed → ℕ)
@@ -142,6 +143,8 @@ module _ (w : List ℕ) (m n : Memory) (s : State) (owes : ℕ → Owed) (i : �
         let was = o.references in
         let owed = owed_put_same s owes i p (references_owed k) same.references in
         omega (arith, was, references, owed);
+    given = owed_put_same s owes i p (gives_owed k) same.gives
+        ∙ (o.given ∙ ap (λ x. one (is_explicit t && x == 0)) (sym references));
   }
 
   -- the record of a task that counts otherwise

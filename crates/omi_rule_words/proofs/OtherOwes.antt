@@ -9,11 +9,12 @@ use Rattle.omi_model.specs.declared.task.Task.{Task}
 use Rattle.omi_model.specs.State.{State}
 use Rattle.omi_layout.specs.Memory.{Rec}
 use Rattle.omi_rule_words.specs.Owes.{Owed}
-use Rattle.omi_rule_words.specs.Counts.{sum_of_owed, pending_owed, left_owed, children_owed, start_owed, assign_owed, assigns_in, one, is_some_region, is_some_task, generating_of, references_owed}
+use Rattle.omi_rule_words.specs.Counts.{sum_of_owed, pending_owed, left_owed, children_owed, start_owed, assign_owed, assigns_in, one, is_some_region, is_some_task, generating_of, gives_owed, references_owed}
 use Rattle.omi_rule_words.specs.Objects.{KeepsCounts, KeepsDeferred, KeepsRegion}
 use Rattle.omi_rule_words.specs.Threads.{KeepsAssign, WaitsFor}
 use Rattle.omi_rule_words.specs.Words.{KeepsTask, OwesOnLive}
 use Rattle.omi_rule_words.proofs.CountedRegions.{region_counted}
+use Rattle.omi_rule_words.proofs.OwedTasks.{OwesTasksAlike, owed_on_tasks, references_alike, tasks_stay}
 use Rattle.omi_rule_words.proofs.Sums.{sum_same}
 
 -- two threads owe the same, but for records in the making, assign words and tasks that were met
@@ -22,11 +23,19 @@ pub record OwesAlike (p o : Owed) : Type 0 where
   pub raised : p.raised ≡ o.raised
   pub lowered : p.lowered ≡ o.lowered
   pub referred : p.referred ≡ o.referred
+  pub own : p.own ≡ o.own
+  pub returned : p.returned ≡ o.returned
+  pub gives : p.gives ≡ o.gives
   pub left : p.left ≡ o.left
   pub hand : p.hand ≡ o.hand
 
 pub owes_alike : (o : Owed) → OwesAlike o o
-owes_alike o = record { pending = refl; raised = refl; lowered = refl; referred = refl; left = refl; hand = refl }
+owes_alike o =
+    record { pending = refl; raised = refl; lowered = refl; referred = refl; own = refl; returned = refl; gives = refl; left = refl; hand = refl }
+
+pub alike_on_tasks : (p o : Owed) → OwesAlike p o → OwesTasksAlike p o
+alike_on_tasks p o alike =
+    record { pending = alike.pending; referred = alike.referred; own = alike.own; returned = alike.returned; gives = alike.gives }
 
 module _ (w : List ℕ) (s : State) (owes other : ℕ → Owed)
     (alike : (j : ℕ) → OwesAlike (other j) (owes j)) where
@@ -50,8 +59,11 @@ module _ (w : List ℕ) (s : State) (owes other : ℕ → Owed)
         omega (arith, was, owed);
     references =
         let was = o.references in
-        let owed = same (references_owed k) (λ j. ap (λ q. one (is_some_task k q)) (alike j).referred) in
+        let owed =
+        same (references_owed k)
+        (λ j. references_alike k (other j) (owes j) (alike j).referred (alike j).own (alike j).returned) in
         omega (arith, was, owed);
+    given = same (gives_owed k) (λ j. ap (λ q. one (is_some_task k q)) (alike j).gives) ∙ o.given;
   }
 
   pub task_owed : (k : Tid) (r : Rec) (t : Task) → KeepsTask w s owes k r t → KeepsTask w s other k r t
@@ -69,14 +81,19 @@ module _ (w : List ℕ) (s : State) (owes other : ℕ → Owed)
 -- and what a thread owes on lives
 pub objects_owed : (s : State) (o p : Owed) → OwesAlike p o → All (λ m. WaitsFor s m.1 m.0) p.assigns
     → OwesOnLive s o → OwesOnLive s p
-objects_owed s o p alike assigns x = record {
-  pending = λ n is. x.pending n (sym alike.pending ∙ is);
-  left = λ n is. x.left n (sym alike.left ∙ is);
-  raised = λ k is. x.raised k (sym alike.raised ∙ is);
-  lowered = λ k is. x.lowered k (sym alike.lowered ∙ is);
-  referred = λ k is. x.referred k (sym alike.referred ∙ is);
-  assigns = assigns;
-}
+objects_owed s o p alike assigns x =
+    let on_tasks = owed_on_tasks s s o p (tasks_stay s) (alike_on_tasks p o alike) x in
+    record {
+      pending = λ n is. x.pending n (sym alike.pending ∙ is);
+      left = λ n is. x.left n (sym alike.left ∙ is);
+      raised = λ k is. x.raised k (sym alike.raised ∙ is);
+      lowered = λ k is. let (own, live) = x.lowered k (sym alike.lowered ∙ is) in (alike.own ∙ own, live);
+      referred = on_tasks.referred;
+      own = on_tasks.own;
+      returned = on_tasks.returned;
+      gives = on_tasks.gives;
+      assigns = assigns;
+    }
 
 -- threads that owe the same assign words, and have met the same tasks
 pub assign_owed_same : (w : List ℕ) (s : State) (owes other : ℕ → Owed)

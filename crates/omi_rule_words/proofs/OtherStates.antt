@@ -1,5 +1,5 @@
 -- A state whose regions and tasks go on as what they are, with other words in their records: what has to be shown of these words so that all is kept.
-use Rattle.std.proofs.Common.{◌≡◌, ◌==◌, ◌+◌, ◌<◌, ◌&&◌, ℕ, inl, inr, ◌-◌, List, Option, Some, None, refl, sym, ap, subst, ◌∙◌, arith, if◌then◌else◌}
+use Rattle.std.proofs.Common.{◌≡◌, ◌==◌, ◌+◌, ◌<◌, ◌&&◌, ℕ, inl, inr, ◌-◌, List, Option, Some, None, refl, sym, ap, ap₂, subst, ◌∙◌, arith, if◌then◌else◌}
 use Rattle.std.specs.Prelude.{◌⊎◌, not}
 use Rattle.std.specs.Option.{option_and_then}
 use Rattle.omi_rep.specs.Records.{slot_word}
@@ -15,7 +15,7 @@ use Rattle.omi_layout.specs.Memory.{Rec, Memory}
 use Rattle.omi_layout.specs.Named.{number}
 use Rattle.omi_layout.specs.Table.{per_thread}
 use Rattle.omi_rule_words.specs.Owes.{Owed}
-use Rattle.omi_rule_words.specs.Counts.{assign_owed, children_owed, generating_of, has_region_slot, has_slot, is_region, is_some_task, is_unfinished, left_owed, of_live, one, pending_owed, start_owed, sum_below, sum_of_owed, sum_of_slots, unfinished_children, unfinished_in, is_explicit, live_children, references_owed}
+use Rattle.omi_rule_words.specs.Counts.{assign_owed, children_owed, generating_of, has_region_slot, has_slot, is_region, is_some_task, is_unfinished, left_owed, of_live, one, pending_owed, start_owed, sum_below, sum_of_owed, sum_of_slots, unfinished_children, unfinished_in, is_explicit, live_children, references_owed, gives_owed, is_finished, own_reference}
 use Rattle.omi_rule_words.specs.Threads.{Has, IsAssignedOnce, KeepsAssign, KeepsRuntime, KeepsThread, WaitsFor}
 use Rattle.omi_rule_words.specs.Objects.{IsDeferredIn, KeepsCounts, KeepsDeferred, KeepsEnvironment, KeepsPlace, KeepsRegion, KeepsSlots, slots_with}
 use Rattle.omi_rule_words.specs.Words.{KeepsMade, KeepsTask, KeepsWords, region_in, task_in}
@@ -97,6 +97,7 @@ module _ (w : List ℕ) (s u : State) (owes : ℕ → Owed) (count : u.count ≡
         let owed : sum_of_owed u owes (references_owed k) ≡ sum_of_owed s owes (references_owed k) =
         owed_counted (references_owed k) (references_owed k) (λ o. refl) in
         omega (arith, was, same, owed);
+    given = owed_counted (gives_owed k) (gives_owed k) (λ o. refl) ∙ o.given;
     children =
         let was = o.children in
         let same : unfinished_children w u k ≡ unfinished_children w s k
@@ -108,7 +109,8 @@ module _ (w : List ℕ) (s u : State) (owes : ℕ → Owed) (count : u.count ≡
   }
     where
       of_lowered : (raised lowered : Option Tid)
-          → one (is_some_task k raised) + one (is_some_task k (option_and_then (generating_of u) lowered)) ≡ one (is_some_task k raised) + one (is_some_task k (option_and_then (generating_of s) lowered))
+          → one (is_some_task k raised) + one (is_some_task k (option_and_then (generating_of u) lowered))
+          ≡ one (is_some_task k raised) + one (is_some_task k (option_and_then (generating_of s) lowered))
       of_lowered raised None = refl
       of_lowered raised (Some q) =
           ap (λ g. one (is_some_task k raised) + one (is_some_task k g))
@@ -190,7 +192,8 @@ module _ (w : List ℕ) (s u : State) (owes : ℕ → Owed) (count : u.count ≡
               thread = threads_are i known;
               assign = assign_kept i (m i threads 0) (n i threads 0) (same_assign i) o.assign;
               regions = λ k within. record {
-                life = life_alike IsSameRegion (m i regions k) (n i regions k) RegionLife (s.regions i k) (u.regions i k) (has_region_slot k (owes i).region) (regions_alike i k) (region_lives i k) (o.regions k within).life;
+                life = life_alike IsSameRegion (m i regions k) (n i regions k) RegionLife (s.regions i k)
+                    (u.regions i k) (has_region_slot k (owes i).region) (regions_alike i k) (region_lives i k) (o.regions k within).life;
                 live = λ x is.
                     subst (λ (q : Rid). KeepsRegion w u owes q (n i regions k) x) (ap (λ g. record { 0 = record { creator = i; slot = k; generation = g - 1 } }) (sym (regions_alike i k).generations))
                     (region_kept (region_in i k (s.regions i k)) (n i regions k) x (regions_are i k known within x is));
@@ -207,12 +210,18 @@ module _ (w : List ℕ) (s u : State) (owes : ℕ → Owed) (count : u.count ≡
 
 -- a task of the same kind counts the same
 pub counts_as : (w : List ℕ) (s : State) (owes : ℕ → Owed) (k : Tid) (r : Rec) (t u : Task) → u.implicit ≡ t.implicit
-    → KeepsCounts w s owes k r t → KeepsCounts w s owes k r u
-counts_as w s owes k r t u same o = record {
+    → own_reference u ≡ own_reference t → KeepsCounts w s owes k r t → KeepsCounts w s owes k r u
+counts_as w s owes k r t u same own o = record {
   children = o.children;
   references = o.references
-      ∙ ap (λ b. one (not b) + (live_children w s k + sum_of_owed s owes (references_owed k))) (sym same);
+      ∙ ap (λ x. x + (live_children w s k + sum_of_owed s owes (references_owed k))) (sym own);
+  given = o.given ∙ ap (λ b. one (not b && r (number TaskReferences) 0 == 0)) (sym same);
 }
+
+-- a task that goes on as what it is refers to itself as it did
+pub own_same : (t u : Task) → IsSameTask t u → own_reference u ≡ own_reference t
+own_same t u same =
+    ap₂ (λ i p. one (not i && not (is_finished p))) same.implicit same.progress
 
 -- a task that is another, and whose record has other words than its counts and slots
 pub task_rewritten : (w : List ℕ) (s : State) (owes : ℕ → Owed) (k : Tid) (r q : Rec) (t u : Task)
@@ -222,10 +231,13 @@ pub task_rewritten : (w : List ℕ) (s : State) (owes : ℕ → Owed) (k : Tid) 
 task_rewritten w s owes k r q t u same children references slots environment place o = record {
   environment = environment o.environment;
   place = λ has. place (o.place (λ explicit deferred. has (same.implicit ∙ explicit) (same.progress ∙ deferred)));
-  counts = record {
-    children = children ∙ o.counts.children;
-    references = references ∙ (counts_as w s owes k r t u same.implicit o.counts).references;
-  };
+  counts =
+      let was = counts_as w s owes k r t u same.implicit (own_same t u same) o.counts in
+      record {
+        children = children ∙ was.children;
+        references = references ∙ was.references;
+        given = was.given ∙ ap (λ x. one (is_explicit u && x == 0)) (sym references);
+      };
   slots = λ implicit at within. slot at (o.slots (sym same.implicit ∙ implicit) at within);
 }
   where

@@ -13,13 +13,14 @@ use Rattle.omi_layout.specs.Field.{regions, tasks}
 use Rattle.omi_layout.specs.Memory.{Memory, Rec, replace_at}
 use Rattle.omi_layout.specs.Named.{number}
 use Rattle.omi_layout.proofs.Puts.{record_stays, word_read, word_stays}
-use Rattle.omi_rule_words.specs.Owes.{Owed}
+use Rattle.omi_rule_words.specs.Owes.{Owed, nothing}
 use Rattle.omi_rule_words.specs.Counts.{is_some_region, one, pending_owed, sum_of_owed}
 use Rattle.omi_rule_words.specs.Objects.{KeepsRegion}
 use Rattle.omi_rule_words.specs.Words.{KeepsWords, OwesOnLive, region_in, task_in}
 use Rattle.omi_rule_words.specs.BarrierKinds.{one_more, with_region_word, word_of_region}
 use Rattle.omi_rule_words.specs.CountKinds.{PendingAddsKeep, PendingSubtractsKeep, one_less}
 use Rattle.omi_rule_words.proofs.OtherCounts.{MakesAlike, OwesAlikeOn, counts_same, is_other_id, is_own_id, name_of_slot, other_counts, owed_put, owed_put_same, region_counted, task_counted}
+use Rattle.omi_rule_words.proofs.OwedTasks.{nothing_on_live}
 use Rattle.omi_rule_words.proofs.Sums.{part_below}
 
 module _ (w : List ℕ) (m : Memory) (s : State) (owes : ℕ → Owed) (i : ℕ) (p : Owed) (n : Rid) (word : ℕ)
@@ -125,7 +126,7 @@ pending_adds_keep =
         let (region, is) = live_of (region_of s n) live in
         pending_stored w m s owes i p n (one_more (word_of_region m n RegionPending)) keeps known
         (record { region = refl; tasks = refl; left = refl; assigns = refl; met = refl; hand = refl })
-        region is (λ k. record { children = refl; references = refl })
+        region is (λ k. record { children = refl; references = refl; gives = refl })
         (λ q apart.
         let unowed : pending_owed q (owes i) ≡ 0 = ap (λ (o : Option Rid). one (is_some_region q o)) none in
         ap one (is_other_id q.0 n.0 apart) ∙ sym unowed)
@@ -138,7 +139,10 @@ pending_adds_keep =
           left = x.left;
           raised = x.raised;
           lowered = x.lowered;
-          referred = x.referred;
+          referred = λ k is. let (t, live, region) = x.referred k is in absurd (cc);
+          own = λ k is. let (t, live, region) = (x.own k is).1 in absurd (cc);
+          returned = λ at is. let (k, there, owed) = x.returned at is in let (t, live, region) = owed in absurd (cc);
+          gives = λ k is. let (t, live, region) = (x.gives k is).1 in absurd (cc);
           assigns = x.assigns;
         })
       where
@@ -149,28 +153,19 @@ pub pending_subtracts_keep : PendingSubtractsKeep
 pending_subtracts_keep = λ w m s owes i n keeps known owed small. kept w m s owes i n keeps known owed small
   where
     kept : (w : List ℕ) (m : Memory) (s : State) (owes : ℕ → Owed) (i : ℕ) (n : Rid) → KeepsWords w m s owes
-        → i < s.count → (owes i).pending ≡ Some n → word_of_region m n RegionPending < 2 ^ 64
+        → i < s.count → owes i ≡ record nothing { pending = Some n } → word_of_region m n RegionPending < 2 ^ 64
         → KeepsWords w (with_region_word m n RegionPending (one_less (word_of_region m n RegionPending))) s
-        (replace_at owes i (record (owes i) { pending = None }))
+        (replace_at owes i nothing)
     kept w m s owes i n keeps known owed small =
-        let (region, is) = live_of (region_of s n) ((keeps.made i known).objects.pending n owed) in
-        pending_stored w m s owes i p n (one_less (word_of_region m n RegionPending)) keeps known
-        (record { region = refl; tasks = refl; left = refl; assigns = refl; met = refl; hand = refl })
-        region is (λ k. record { children = refl; references = refl })
-        (λ q apart. sym (ap (λ (o : Option Rid). one (is_some_region q o)) owed ∙ ap one (is_other_id q.0 n.0 apart)))
+        let (region, is) =
+        live_of (region_of s n) ((keeps.made i known).objects.pending n (ap (λ (o : Owed). o.pending) owed)) in
+        pending_stored w m s owes i nothing n (one_less (word_of_region m n RegionPending)) keeps known
+        (subst (λ (o : Owed). MakesAlike nothing o) (sym owed) (record { region = refl; tasks = refl; left = refl; assigns = refl; met = refl; hand = refl }))
+        region is
+        (λ k. subst (λ (o : Owed). OwesAlikeOn s k nothing o) (sym owed) (record { children = refl; references = refl; gives = refl }))
+        (λ q apart. sym (ap (pending_owed q) owed ∙ ap one (is_other_id q.0 n.0 apart)))
         (λ least.
-        let before : pending_owed n (owes i) ≡ 1 =
-        ap (λ (o : Option Rid). one (is_some_region n o)) owed ∙ ap one (is_own_id n.0) in
-        let now : pending_owed n p ≡ 0 = refl in
+        let before : pending_owed n (owes i) ≡ 1 = ap (pending_owed n) owed ∙ ap one (is_own_id n.0) in
+        let now : pending_owed n nothing ≡ 0 = refl in
         omega (arith, least, before, now, small))
-        (λ x. record {
-          pending = λ q same. absurd (cc);
-          left = x.left;
-          raised = x.raised;
-          lowered = x.lowered;
-          referred = x.referred;
-          assigns = x.assigns;
-        })
-      where
-        p : Owed
-        p = record (owes i) { pending = None }
+        (λ _. nothing_on_live s)

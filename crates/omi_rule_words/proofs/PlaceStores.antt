@@ -1,5 +1,5 @@
 -- Stores into the place of a deferred task, of which nothing is said until the task starts.
-use Rattle.std.proofs.Common.{◌≡◌, ◌<◌, ℕ, true, false, List, Some, refl, sym, ap, subst, ◌∙◌, arith}
+use Rattle.std.proofs.Common.{◌≡◌, ◌==◌, ◌&&◌, ◌<◌, ℕ, true, false, List, Some, refl, sym, ap, subst, ◌∙◌, arith}
 use Rattle.omi_model.specs.declared.id.Tid.{Tid}
 use Rattle.omi_model.specs.declared.progress.Progress.TheVariants as progress
 use Rattle.omi_model.specs.declared.task.Task.{Task}
@@ -14,6 +14,7 @@ use Rattle.omi_layout.specs.Table.{per_thread}
 use Rattle.omi_layout.proofs.Puts.{record_stays, word_stays}
 use Rattle.omi_rep.specs.Codes.{is_place}
 use Rattle.omi_rule_words.specs.Owes.{Owed}
+use Rattle.omi_rule_words.specs.Counts.{is_explicit, one}
 use Rattle.omi_rule_words.specs.Threads.{KeepsRuntime, KeepsThread}
 use Rattle.omi_rule_words.specs.Objects.{KeepsRegion}
 use Rattle.omi_rule_words.specs.Words.{KeepsTask, KeepsWords, region_in, task_in}
@@ -56,6 +57,7 @@ module _ (w : List ℕ) (m : Memory) (s : State) (owes : ℕ → Owed) (k : Tid)
         counts = record {
           children = other_word TaskChildren refl k.0.creator k.0.slot 0 ∙ o.counts.children;
           references = other_word TaskReferences refl k.0.creator k.0.slot 0 ∙ o.counts.references;
+          given = o.counts.given ∙ ap (λ y. one (is_explicit x && y == 0)) (sym (other_word TaskReferences refl k.0.creator k.0.slot 0));
         };
         slots = λ implicit. let explicit : x.implicit ≡ false = sym (ap (λ (y : Task). y.implicit) same) ∙ is.explicit in absurd (cc);
       }
@@ -66,7 +68,8 @@ module _ (w : List ℕ) (m : Memory) (s : State) (owes : ℕ → Owed) (k : Tid)
       each_place
       (λ c j. c < s.count → j < per_thread w tasks → (x : Task) → (s.tasks c j).live ≡ Some x → KeepsTask w s owes (task_in c j (s.tasks c j)) (after c tasks j) x)
       k.0.creator k.0.slot here
-      (λ c j apart known within x there. subst (λ (r : Rec). KeepsTask w s owes (task_in c j (s.tasks c j)) r x) (sym (record_stays m k.0.creator tasks k.0.slot (number f) at word c tasks j (λ creator _ place. apart creator place)))
+      (λ c j apart known within x there. subst (λ (r : Rec). KeepsTask w s owes (task_in c j (s.tasks c j)) r x)
+      (sym (record_stays m k.0.creator tasks k.0.slot (number f) at word c tasks j (λ creator _ place. apart creator place)))
       (((keeps.made c known).tasks j within).live x there))
 
   place_stored : KeepsWords w after s owes
@@ -79,7 +82,8 @@ module _ (w : List ℕ) (m : Memory) (s : State) (owes : ℕ → Owed) (k : Tid)
       (λ i j p. other_word TaskSlots refl i j p)
       (subst (λ (r : Rec). KeepsRuntime w r s) (sym (stays 0 runtime 0 (λ kind. absurd (omega (arith, kind))))) keeps.runtime_record)
       (λ i known. subst (λ (r : Rec). KeepsThread w i r (s.threads i)) (sym (stays i threads 0 (λ kind. absurd (omega (arith, kind))))) (keeps.made i known).thread)
-      (λ i j known within x there. subst (λ (r : Rec). KeepsRegion w s owes (region_in i j (s.regions i j)) r x) (sym (stays i regions j (λ kind. absurd (omega (arith, kind))))) (((keeps.made i known).regions j within).live x there))
+      (λ i j known within x there. subst (λ (r : Rec). KeepsRegion w s owes (region_in i j (s.regions i j)) r x)
+      (sym (stays i regions j (λ kind. absurd (omega (arith, kind))))) (((keeps.made i known).regions j within).live x there))
       task_kept
 
 pub place_stores_keep : PlaceStoresKeep

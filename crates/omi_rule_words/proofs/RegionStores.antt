@@ -66,9 +66,11 @@ module _ (w : List ℕ) (m : Memory) (s : State) (owes : ℕ → Owed) (name : R
       (λ i j p. ap (λ (x : Rec). x (number TaskSlots) p) (stays i tasks j (λ kind. absurd (omega (arith, kind)))))
       (subst (λ (x : Rec). KeepsRuntime w x (on_region s name g)) (sym (stays 0 runtime 0 (λ kind. absurd (omega (arith, kind))))) keeps.runtime_record)
       (λ i known. subst (λ (x : Rec). KeepsThread w i x (s.threads i)) (sym (stays i threads 0 (λ kind. absurd (omega (arith, kind))))) (keeps.made i known).thread)
-      (λ i j known within. each_slot s.regions name.0 (λ c slot (y : Slot Region). c < s.count → slot < per_thread w regions → (v : Region) → y.live ≡ Some v → KeepsRegion w s owes (region_in c slot (s.regions c slot)) (n c regions slot) v)
+      (λ i j known within. each_slot s.regions name.0 (λ c slot (y : Slot Region). c < s.count
+      → slot < per_thread w regions → (v : Region) → y.live ≡ Some v → KeepsRegion w s owes (region_in c slot (s.regions c slot)) (n c regions slot) v)
       (changed name.0.generation g (s.regions creator place)) here beside i j known within)
-      (λ i j known within t there. subst (λ (x : Rec). KeepsTask w s owes (task_in i j (s.tasks i j)) x t) (sym (stays i tasks j (λ kind. absurd (omega (arith, kind))))) (((keeps.made i known).tasks j within).live t there))
+      (λ i j known within t there. subst (λ (x : Rec). KeepsTask w s owes (task_in i j (s.tasks i j)) x t)
+      (sym (stays i tasks j (λ kind. absurd (omega (arith, kind))))) (((keeps.made i known).tasks j within).live t there))
     where
       beside : (c slot : ℕ) → (c ≡ creator → slot ≡ place → ⊥) → c < s.count → slot < per_thread w regions
           → (v : Region) → (s.regions c slot).live ≡ Some v

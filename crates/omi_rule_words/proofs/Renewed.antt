@@ -27,10 +27,11 @@ use Rattle.omi_layout.specs.Table.{per_thread}
 use Rattle.omi_rep.specs.Codes.{region_code, region_told}
 use Rattle.omi_rep.specs.Records.{slot_word}
 use Rattle.omi_rule_words.specs.Owes.{Owed}
-use Rattle.omi_rule_words.specs.Counts.{children_owed, ended_members, generating_of, has_region_slot, has_slot, is_finished, is_region, is_some_region, is_some_task, is_unfinished, left_owed, of_live, one, pending_owed, start_owed, sum_below, sum_of_owed, sum_of_slots, unfinished_children, unfinished_in, is_explicit, live_children, references_owed}
+use Rattle.omi_rule_words.specs.Counts.{children_owed, ended_members, generating_of, has_region_slot, has_slot, is_finished, is_region, is_some_region, is_some_task, is_unfinished, left_owed, of_live, one, pending_owed, start_owed, sum_below, sum_of_owed, sum_of_slots, unfinished_children, unfinished_in, is_explicit, live_children, references_owed, gives_owed}
 use Rattle.omi_rule_words.specs.Threads.{Has, KeepsAssign, KeepsRuntime, KeepsThread, WaitsFor}
 use Rattle.omi_rule_words.specs.Objects.{IsDeferredIn, KeepsCounts, KeepsDeferred, KeepsEnvironment, KeepsLife, KeepsPlace, KeepsRegion, KeepsSlots, slots_with}
 use Rattle.omi_rule_words.specs.Words.{AreApart, HasFinished, IsInTheMaking, KeepsMaking, KeepsRegionSlot, KeepsTask, KeepsTaskSlot, KeepsWords, OwesOnLive, region_in, task_in}
+use Rattle.omi_rule_words.proofs.OwedTasks.{OwesTasksAlike, owed_on_tasks, references_alike}
 use Rattle.omi_rule_words.proofs.StoredCodes.{region_apart}
 use Rattle.omi_rule_words.proofs.Sums.{sum_same}
 
@@ -227,11 +228,19 @@ pub record OwesSame (p o : Owed) : Type 0 where
   pub pending : p.pending ≡ o.pending
   pub raised : p.raised ≡ o.raised
   pub referred : p.referred ≡ o.referred
+  pub own : p.own ≡ o.own
+  pub returned : p.returned ≡ o.returned
+  pub gives : p.gives ≡ o.gives
   pub lowered : p.lowered ≡ o.lowered
   pub hand : p.hand ≡ o.hand
 
 pub owes_same : (o : Owed) → OwesSame o o
-owes_same o = record { region = refl; tasks = refl; pending = refl; raised = refl; lowered = refl; referred = refl; hand = refl }
+owes_same o =
+    record { region = refl; tasks = refl; pending = refl; raised = refl; lowered = refl; referred = refl; own = refl; returned = refl; gives = refl; hand = refl }
+
+same_on_tasks : (p o : Owed) → OwesSame p o → OwesTasksAlike p o
+same_on_tasks p o alike =
+    record { pending = alike.pending; referred = alike.referred; own = alike.own; returned = alike.returned; gives = alike.gives }
 
 module _ (w : List ℕ) (m n : Memory) (s : State) (rs : Slots Region) (ts : Slots Task) (owes other : ℕ → Owed)
     (keeps : KeepsWords w m s owes)
@@ -307,7 +316,8 @@ module _ (w : List ℕ) (m n : Memory) (s : State) (rs : Slots Region) (ts : Slo
         → RegionRenews x y
         → KeepsRegion w s owes (region_in c k (s.regions c k)) (m c regions k) x → KeepsRegion w after other (region_in c k (s.regions c k)) (n c regions k) y
     region_kept c k x y was now r o = record {
-      codes = λ f at word told. words c k (number f) at (region_apart w (region_told y) f at word told).1 ∙ o.codes f at word (subst (λ (z : Region). region_code w (region_told z) f at ≡ Some word) r.is told);
+      codes = λ f at word told. words c k (number f) at (region_apart w (region_told y) f at word told).1
+          ∙ o.codes f at word (subst (λ (z : Region). region_code w (region_told z) f at ≡ Some word) r.is told);
       pending =
           let word = stays RegionPending 0 (λ e. absurd (omega (arith, e))) in
           let was = o.pending in
@@ -362,20 +372,25 @@ module _ (w : List ℕ) (m n : Memory) (s : State) (rs : Slots Region) (ts : Slo
         let same : live_children w after k ≡ live_children w s k
         = tasks_counted (λ c j x. one (is_explicit x && is_some_task k x.generating))
         (λ c j x y a. ap₂ (λ p q. one (not p && is_some_task k q)) (ap (λ (z : Task). z.implicit) a.is) (ap (λ (z : Task). z.generating) a.is)) in
-        let owed = owed_same (references_owed k) (references_owed k) (λ j. ap (λ o. one (is_some_task k o)) (alike j).referred) in
+        let owed =
+        owed_same (references_owed k) (references_owed k)
+        (λ j. references_alike k (other j) (owes j) (alike j).referred (alike j).own (alike j).returned) in
         omega (arith, was, same, owed);
+    given = owed_same (gives_owed k) (gives_owed k) (λ j. ap (λ o. one (is_some_task k o)) (alike j).gives) ∙ o.given;
     children =
         let was = o.children in
         let same : unfinished_children w after k ≡ unfinished_children w s k
         = tasks_counted (λ c j x. one (is_unfinished x && is_some_task k x.generating))
         (λ c j x y a. ap₂ (λ p q. one (p && is_some_task k q)) (unfinished_same x y a) (ap (λ (z : Task). z.generating) a.is)) in
-        let owed = owed_same (children_owed after k) (children_owed s k) (λ j. ap₂ (λ a b. one (is_some_task k a) + one (is_some_task k (option_and_then (generating_of after) b))) (alike j).raised (alike j).lowered
+        let owed = owed_same (children_owed after k) (children_owed s k)
+        (λ j. ap₂ (λ a b. one (is_some_task k a) + one (is_some_task k (option_and_then (generating_of after) b))) (alike j).raised (alike j).lowered
         ∙ of_lowered (owes j).raised (owes j).lowered) in
         omega (arith, was, same, owed);
   }
     where
       of_lowered : (raised lowered : Option Tid)
-          → one (is_some_task k raised) + one (is_some_task k (option_and_then (generating_of after) lowered)) ≡ one (is_some_task k raised) + one (is_some_task k (option_and_then (generating_of s) lowered))
+          → one (is_some_task k raised) + one (is_some_task k (option_and_then (generating_of after) lowered))
+          ≡ one (is_some_task k raised) + one (is_some_task k (option_and_then (generating_of s) lowered))
       of_lowered raised None = refl
       of_lowered raised (Some q) =
           ap (λ g. one (is_some_task k raised) + one (is_some_task k g)) (generating_same q)
@@ -408,7 +423,7 @@ module _ (w : List ℕ) (m n : Memory) (s : State) (rs : Slots Region) (ts : Slo
     environment = subst (λ (x : Task). KeepsEnvironment w r x) (sym related.is) o.environment;
     place = λ has. subst (λ (x : Task). KeepsPlace w r x) (sym related.is)
         (o.place (λ explicit deferred. has (ap (λ (x : Task). x.implicit) related.is ∙ explicit) (deferred_after t u related deferred)));
-    counts = counts_as w after other k r t u (ap (λ (x : Task). x.implicit) related.is) (counts_kept k r t o.counts);
+    counts = counts_as w after other k r t u (ap (λ (x : Task). x.implicit) related.is) (ap one (unfinished_same t u related)) (counts_kept k r t o.counts);
     slots = λ implicit. slots_kept r t u related (o.slots (sym (ap (λ (z : Task). z.implicit) related.is) ∙ implicit));
   }
 
@@ -439,16 +454,24 @@ module _ (w : List ℕ) (m n : Memory) (s : State) (rs : Slots Region) (ts : Slo
   objects_kept : (j : ℕ)
       → ((r : Rid) → (other j).left ≡ Some r → (x : Region) × (region_of after r ≡ Some x) × (x.joined ≡ false))
       → All (λ q. WaitsFor after q.1 q.0) (other j).assigns → OwesOnLive s (owes j) → OwesOnLive after (other j)
-  objects_kept j left assigns x = record {
-    pending = λ r is. some_region_after r (x.pending r (sym (alike j).pending ∙ is));
-    left = left;
-    raised = λ k is. some_task_after k (x.raised k (sym (alike j).raised ∙ is));
-    referred = λ k is. some_task_after k (x.referred k (sym (alike j).referred ∙ is));
-    lowered = λ k is.
-        let (finished, live) = x.lowered k (sym (alike j).lowered ∙ is) in
-        (finished_after k finished, subst (λ (g : Option Tid). IsSome (option_and_then (task_of after) g)) (sym (generating_same k)) (parent (generating_of s k) live));
-    assigns = assigns;
-  }
+  objects_kept j left assigns x =
+      let on_tasks =
+      owed_on_tasks s after (owes j) (other j)
+      (record { live = λ k t is. (let (u, live, related) = task_after k t is in (u, live, ap (λ (y : Task). y.region) related.is)); finished = finished_after })
+      (same_on_tasks (other j) (owes j) (alike j)) x in
+      record {
+        pending = λ r is. some_region_after r (x.pending r (sym (alike j).pending ∙ is));
+        left = left;
+        raised = λ k is. some_task_after k (x.raised k (sym (alike j).raised ∙ is));
+        referred = on_tasks.referred;
+        own = on_tasks.own;
+        returned = on_tasks.returned;
+        gives = on_tasks.gives;
+        lowered = λ k is.
+            let (own, live) = x.lowered k (sym (alike j).lowered ∙ is) in
+            ((alike j).own ∙ own, subst (λ (g : Option Tid). IsSome (option_and_then (task_of after) g)) (sym (generating_same k)) (parent (generating_of s k) live));
+        assigns = assigns;
+      }
     where
       parent : (g : Option Tid) → IsSome (option_and_then (task_of s) g)
           → IsSome (option_and_then (task_of after) g)

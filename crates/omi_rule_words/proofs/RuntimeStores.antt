@@ -32,8 +32,10 @@ runtime_stores_keep =
         (λ i j p. ap (λ (r : Rec). r (number TaskSlots) p) (stays i tasks j (λ kind. absurd (omega (arith, kind)))))
         (subst (λ (r : Rec). KeepsRuntime w r (with_runtime s max_active locks)) (sym (record_read m 0 runtime 0 (number f) at word)) is)
         (λ i known. subst (λ (r : Rec). KeepsThread w i r (s.threads i)) (sym (stays i threads 0 (λ kind. absurd (omega (arith, kind))))) (keeps.made i known).thread)
-        (λ i j known within x there. subst (λ (r : Rec). KeepsRegion w s owes (region_in i j (s.regions i j)) r x) (sym (stays i regions j (λ kind. absurd (omega (arith, kind))))) (((keeps.made i known).regions j within).live x there))
-        (λ i j known within t there. subst (λ (r : Rec). KeepsTask w s owes (task_in i j (s.tasks i j)) r t) (sym (stays i tasks j (λ kind. absurd (omega (arith, kind))))) (((keeps.made i known).tasks j within).live t there))
+        (λ i j known within x there. subst (λ (r : Rec). KeepsRegion w s owes (region_in i j (s.regions i j)) r x)
+        (sym (stays i regions j (λ kind. absurd (omega (arith, kind))))) (((keeps.made i known).regions j within).live x there))
+        (λ i j known within t there. subst (λ (r : Rec). KeepsTask w s owes (task_in i j (s.tasks i j)) r t)
+        (sym (stays i tasks j (λ kind. absurd (omega (arith, kind))))) (((keeps.made i known).tasks j within).live t there))
       where
         n : Memory
         n = with_word m 0 runtime 0 (number f) at word

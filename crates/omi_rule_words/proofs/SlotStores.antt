@@ -1,5 +1,5 @@
 -- A word of a row's slots is stored, and the hand of one thread changes: a deferred task goes from a slot to a hand, or from a hand to a slot.
-use Rattle.std.proofs.Common.{◌≡◌, ◌≢◌, ◌==◌, ◌+◌, ◌<◌, ℕ, true, inl, inr, List, Option, Some, refl, sym, ap, subst, ◌∙◌, arith, ne_eqb}
+use Rattle.std.proofs.Common.{◌≡◌, ◌≢◌, ◌==◌, ◌&&◌, ◌+◌, ◌<◌, ℕ, true, inl, inr, List, Option, Some, refl, sym, ap, subst, ◌∙◌, arith, ne_eqb}
 use Rattle.std.specs.Prelude.{◌⊎◌}
 use Rattle.std.proofs.lemmas.Bool.{cases_eq}
 use Rattle.omi_rep.specs.Codes.{task_told}
@@ -19,7 +19,7 @@ use Rattle.omi_layout.specs.Valid.{IsValid}
 use Rattle.omi_layout.proofs.Puts.{each_put, record_stays, word_read, word_stays}
 use Rattle.omi_rep.specs.Shows.{IsWithin}
 use Rattle.omi_rule_words.specs.Owes.{Owed, nothing}
-use Rattle.omi_rule_words.specs.Counts.{has_slot, is_task, one, start_owed}
+use Rattle.omi_rule_words.specs.Counts.{has_slot, is_explicit, is_task, one, start_owed}
 use Rattle.omi_rule_words.specs.Threads.{Has, KeepsRuntime}
 use Rattle.omi_rule_words.specs.Objects.{IsDeferredIn}
 use Rattle.omi_rule_words.specs.Words.{KeepsMade, KeepsRegionSlot, KeepsTask, KeepsTaskSlot, KeepsWords, task_in}
@@ -68,6 +68,9 @@ module _ (w : List ℕ) (m : Memory) (s : State) (owes : ℕ → Owed) (i : ℕ)
     counts = record {
       children = other_word (number TaskChildren) (λ is. omega (arith, is)) row.0.creator row.0.slot 0 ∙ o.counts.children;
       references = other_word (number TaskReferences) (λ is. omega (arith, is)) row.0.creator row.0.slot 0 ∙ o.counts.references;
+      given = o.counts.given
+          ∙ ap (λ y. one (is_explicit u && y == 0))
+          (sym (other_word (number TaskReferences) (λ is. omega (arith, is)) row.0.creator row.0.slot 0));
     };
     slots = λ _ at below. slot at (cases_eq at place) (o.slots implicit at below);
   }
@@ -116,7 +119,8 @@ module _ (w : List ℕ) (m : Memory) (s : State) (owes : ℕ → Owed) (i : ℕ)
             subst (λ (y : Task). KeepsTask w s owes name (after row.0.creator tasks row.0.slot) y) same
             (row_kept (subst (λ (y : Task). KeepsTask w s owes name (m row.0.creator tasks row.0.slot) y) (sym same) (o.live x is)));
       })
-      (λ c j apart o. subst (λ (r : Rec). KeepsTaskSlot w s owes c j r) (sym (record_stays m row.0.creator tasks row.0.slot (number TaskSlots) place word c tasks j (λ creator _ slot. apart creator slot))) o)
+      (λ c j apart o. subst (λ (r : Rec). KeepsTaskSlot w s owes c j r)
+      (sym (record_stays m row.0.creator tasks row.0.slot (number TaskSlots) place word c tasks j (λ creator _ slot. apart creator slot))) o)
 
   made_stored : (j : ℕ) → KeepsMade w s owes j (m j) → KeepsMade w s owes j (after j)
   made_stored j o =
@@ -131,7 +135,8 @@ module _ (w : List ℕ) (m : Memory) (s : State) (owes : ℕ → Owed) (i : ℕ)
       → KeepsWords w after s (replace_at owes i p)
   slot_stored balance held = record {
     runtime_record = subst (λ (r : Rec). KeepsRuntime w r s) (sym (stays 0 runtime 0 (λ kind. absurd (omega (arith, kind))))) keeps.runtime_record;
-    made = λ j below. subst (λ (o : ℕ → Owed). KeepsMade w s o j (after j)) (one_hand owes i hand) (made_rehanded w s owes (replace_at (λ c. (owes c).hand) i hand) j (after j) (made_stored j (keeps.made j below)));
+    made = λ j below. subst (λ (o : ℕ → Owed). KeepsMade w s o j (after j)) (one_hand owes i hand)
+        (made_rehanded w s owes (replace_at (λ c. (owes c).hand) i hand) j (after j) (made_stored j (keeps.made j below)));
     deferred = record {
       once = λ q t is deferred.
           let was = keeps.deferred.once q t is deferred in
@@ -171,4 +176,5 @@ slot_takes_keep =
         (has_record w s q t within is) in
         let unheld : start_owed q (owes i) ≡ 0 = ap (start_owed q) owed in
         omega (arith, gone, was, unheld))
-        (λ q is. let same : k ≡ q = some_same refl is in subst (λ (x : Tid). (t : Task) × (task_of s x ≡ Some t) × (t.progress ≡ progress.Deferred)) same (deferred.task, deferred.live, deferred.progress)))
+        (λ q is. let same : k ≡ q = some_same refl is in subst (λ (x : Tid). (t : Task) ×
+        (task_of s x ≡ Some t) × (t.progress ≡ progress.Deferred)) same (deferred.task, deferred.live, deferred.progress)))

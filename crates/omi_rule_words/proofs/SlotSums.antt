@@ -53,7 +53,8 @@ module _ (w : List ℕ) (s : State) (row : Tid) (u : Task) (place : ℕ)
   slots_changed m word code =
       let here : one (slot_of after row place == code) ≡ one (word == code) =
       ap (λ x. one (x == code)) (word_read m row.0.creator tasks row.0.slot (number TaskSlots) place word) in
-      let first = sum_changed OWN_SLOTS place (λ p. one (m row.0.creator tasks row.0.slot (number TaskSlots) p == code)) (λ p. one (after row.0.creator tasks row.0.slot (number TaskSlots) p == code)) inside
+      let first = sum_changed OWN_SLOTS place (λ p. one (m row.0.creator tasks row.0.slot (number TaskSlots) p == code))
+      (λ p. one (after row.0.creator tasks row.0.slot (number TaskSlots) p == code)) inside
       (λ p ne. ap (λ x. one (x == code)) (word_stays m row.0.creator tasks row.0.slot (number TaskSlots) place word row.0.creator tasks row.0.slot (number TaskSlots) p (λ _ _ _ _ same. ne same))) in
       let before = in_row (m row.0.creator tasks row.0.slot) code in
       let now = in_row (after row.0.creator tasks row.0.slot) code in

@@ -1,7 +1,6 @@
 -- A deferred task in the hand starts.
-use Rattle.std.proofs.Common.{◌≡◌, ◌≢◌, ◌&&◌, ◌+◌, ◌<◌, ◌≤◌, Bool, ℕ, not, false, true, List, Some, refl, sym, ap, subst, ◌∙◌, arith}
+use Rattle.std.proofs.Common.{◌≡◌, ◌≢◌, ◌&&◌, ◌+◌, ◌<◌, ◌≤◌, Bool, ℕ, not, false, true, List, Some, refl, sym, ap, ap₂, subst, ◌∙◌, arith}
 use Rattle.std.proofs.lemmas.Bool.Decides.{nat_tests}
-use Rattle.std.proofs.lemmas.List.Elements.{All-nil}
 use Rattle.omi_numbers.specs.Addresses.{exit_below}
 use Rattle.omi_model.specs.declared.id.Id.{Id}
 use Rattle.omi_model.specs.declared.id.Tid.{Tid}
@@ -21,13 +20,13 @@ use Rattle.omi_layout.specs.Named.{number}
 use Rattle.omi_layout.specs.Table.{per_thread}
 use Rattle.omi_rep.specs.Records.{task_address, slot_word}
 use Rattle.omi_rule_words.specs.Owes.{Owed, nothing}
-use Rattle.omi_rule_words.specs.Counts.{children_owed, is_finished, is_region, is_some_task, is_unfinished, one, pending_owed, start_owed, sum_of_owed, unfinished_children, unfinished_in, references_owed}
-use Rattle.omi_rule_words.specs.Threads.{WaitsFor}
+use Rattle.omi_rule_words.specs.Counts.{children_owed, is_finished, is_region, is_some_task, is_unfinished, one, pending_owed, start_owed, sum_of_owed, unfinished_children, unfinished_in, references_owed, gives_owed}
 use Rattle.omi_rule_words.specs.Objects.{IsDeferredIn, KeepsEnvironment, slots_with}
 use Rattle.omi_rule_words.specs.Words.{KeepsTask, KeepsWords}
 use Rattle.omi_rule_words.specs.ExplicitKinds.{IsReady, StartsAloneKeep, StartsKeep}
 use Rattle.omi_rule_words.proofs.Changed.{current_stored}
 use Rattle.omi_rule_words.proofs.OtherCounts.{is_own_id, owed_put_same}
+use Rattle.omi_rule_words.proofs.OwedTasks.{nothing_on_live}
 use Rattle.omi_rule_words.proofs.StoredCodes.{environment_placed}
 use Rattle.omi_rule_words.proofs.SlotSums.{slot_counted}
 use Rattle.omi_rule_words.proofs.Sums.{part_below, parts_below}
@@ -121,7 +120,9 @@ module _ (w : List ℕ) (m : Memory) (s : State) (owes : ℕ → Owed) (i : ℕ)
       (ap (λ b. one (b && is_region n new.region)) unfinished_same) in
       let owed_same = owed_put_same s owes i nothing (pending_owed n) (sym (ap (pending_owed n) owed)) in
       omega (arith, same, owed_same))
-      (λ q. sym (ap (references_owed q) owed))
+      (λ q _. sym (ap (references_owed q) owed))
+      (ap₂ (λ a b. one a + b) unfinished_same (sym (ap (references_owed task) owed)))
+      (λ q. sym (ap (gives_owed q) owed)) known
       (λ q.
       let same : unfinished_children w after q ≡ unfinished_children w s q =
       tasks_counted w s task new g live goes (λ _ _ x. one (is_unfinished x && is_some_task q x.generating))
@@ -131,7 +132,7 @@ module _ (w : List ℕ) (m : Memory) (s : State) (owes : ℕ → Owed) (i : ℕ)
       omega (arith, same, owed_same))
       unslotted environment
       (λ _. ready.2)
-      (record { pending = λ q is. absurd (cc); left = λ q is. absurd (cc); raised = λ q is. absurd (cc); referred = λ q is. absurd (cc); lowered = λ q is. absurd (cc); assigns = All-nil (λ (q : Tid × ℕ). WaitsFor after q.1 q.0) })
+      (nothing_on_live after)
       refl
       (λ q ne. sym (ap (start_owed q) owed ∙ ap one (other_name q task ne)))
       unheld)

@@ -3,7 +3,6 @@ use Rattle.std.proofs.Common.{◌≡◌, ◌≢◌, ◌==◌, ◌+◌, ◌<◌, 
 use Rattle.std.specs.Prelude.{◌⊎◌, All, IsSome, ◌&&◌, not}
 use Rattle.std.specs.Option.{option_and_then, option_map}
 use Rattle.std.proofs.lemmas.List.Elements.{All-weaker}
-use Rattle.omi_rule_words.proofs.OtherStates.{counts_as}
 use Rattle.omi_rep.specs.Records.{slot_word}
 use Rattle.omi_model.specs.declared.id.Id.{Id}
 use Rattle.omi_model.specs.declared.id.Rid.{Rid}
@@ -17,20 +16,21 @@ use Rattle.omi_model.specs.Put.{changed, named}
 use Rattle.omi_model.specs.State.{State, task_of}
 use Rattle.omi_model.proofs.Slots.{each_slot, found_live, on_empty, on_generations, on_other, on_same, same_or_not, some_same}
 use Rattle.omi_numbers.specs.declared.limits.TheConstants.{OWN_SLOTS}
-use Rattle.omi_layout.specs.declared.field.Field.TheVariants.{RegionLife, TaskLife, TaskSlots}
+use Rattle.omi_layout.specs.declared.field.Field.TheVariants.{RegionLife, TaskChildren, TaskLife, TaskReferences, TaskSlots}
 use Rattle.omi_layout.specs.Field.{regions, tasks, threads}
 use Rattle.omi_layout.specs.Memory.{Memory, Rec, replace_at}
 use Rattle.omi_layout.specs.Named.{number}
 use Rattle.omi_layout.specs.Table.{per_thread}
 use Rattle.omi_layout.proofs.Puts.{each_put}
 use Rattle.omi_rule_words.specs.Owes.{Owed}
-use Rattle.omi_rule_words.specs.Counts.{assign_owed, assigns_in, children_owed, generating_of, has_slot, has_region_slot, is_some_region, is_some_task, left_owed, of_live, one, pending_owed, start_owed, sum_below, sum_of_owed, sum_of_slots, unfinished_children, unfinished_in, is_explicit, live_children, references_owed}
+use Rattle.omi_rule_words.specs.Counts.{assign_owed, assigns_in, children_owed, generating_of, has_slot, has_region_slot, is_some_region, is_some_task, left_owed, of_live, one, pending_owed, start_owed, sum_below, sum_of_owed, sum_of_slots, unfinished_children, unfinished_in, is_explicit, live_children, references_owed, gives_owed, own_reference}
 use Rattle.omi_rule_words.specs.Threads.{Has, KeepsAssign, WaitsFor}
 use Rattle.omi_rule_words.specs.Objects.{IsDeferredIn, KeepsCounts, KeepsEnvironment, KeepsLife, KeepsPlace, KeepsRegion, KeepsSlots, slots_with}
 use Rattle.omi_rule_words.specs.Words.{AreApart, HasFinished, IsInTheMaking, KeepsMaking, KeepsTask, KeepsTaskSlot, KeepsWords, OwesOnLive, task_in}
 use Rattle.omi_rule_words.proofs.CountedRegions.{region_counted}
 use Rattle.omi_rule_words.proofs.EachPlace.{each_place}
-use Rattle.omi_rule_words.proofs.OtherCounts.{owed_put_same}
+use Rattle.omi_rule_words.proofs.OtherCounts.{owed_put, owed_put_same}
+use Rattle.omi_rule_words.proofs.OwedTasks.{TasksStay, owed_on_tasks, owes_tasks_alike}
 use Rattle.omi_rule_words.proofs.Shown.{found_generations}
 use Rattle.omi_rule_words.proofs.Sums.{sum_changed, sum_same}
 use Rattle.omi_rule_words.proofs.TaskWords.{task_name}
@@ -149,6 +149,17 @@ module _ (w : List ℕ) (s : State) (k : Tid) (t : Task) (g : Task → Task) (li
     progress = x.progress;
   }
 
+  -- tasks live on in their regions
+  pub tasks_live : TasksStay s after
+  tasks_live = record {
+    live =
+        each_name
+        (λ q o p. (x : Task) → o ≡ Some x → (y : Task) × (p ≡ Some y) × (y.region ≡ x.region))
+        (λ x is. (g t, refl, goes.region ∙ ap (λ (y : Task). y.region) (some_same refl is)))
+        (λ q o _ x is. (x, is, refl));
+    finished = finished_after;
+  }
+
   -- ---- what is counted
 
   abbrev counted_at : (ℕ → ℕ → Task → ℕ) → State → ℕ → ℕ → ℕ
@@ -191,7 +202,8 @@ module _ (w : List ℕ) (s : State) (k : Tid) (t : Task) (g : Task → Task) (li
   children_owed_same q o = go o.lowered
     where
       go : (lowered : Option Tid)
-          → one (is_some_task q o.raised) + one (is_some_task q (option_and_then (generating_of after) lowered)) ≡ one (is_some_task q o.raised) + one (is_some_task q (option_and_then (generating_of s) lowered))
+          → one (is_some_task q o.raised) + one (is_some_task q (option_and_then (generating_of after) lowered))
+          ≡ one (is_some_task q o.raised) + one (is_some_task q (option_and_then (generating_of s) lowered))
       go None = refl
       go (Some h) = ap (λ x. one (is_some_task q o.raised) + one (is_some_task q x)) (generating_same h)
 
@@ -200,7 +212,9 @@ module _ (w : List ℕ) (s : State) (k : Tid) (t : Task) (g : Task → Task) (li
   module _ (m : Memory) (owes : ℕ → Owed) (i : ℕ) (p : Owed) (keeps : KeepsWords w m s owes)
       (alike_own : TeamsAlike p (owes i))
       (pending_counted : (n : Rid) → unfinished_in w after n + sum_of_owed s (replace_at owes i p) (pending_owed n) ≡ unfinished_in w s n + sum_of_owed s owes (pending_owed n))
-      (references_same : (q : Tid) → references_owed q p ≡ references_owed q (owes i))
+      (references_same : (q : Tid) → (q.0 ≡ k.0 → ⊥) → references_owed q p ≡ references_owed q (owes i))
+      (references_counted : own_reference (g t) + references_owed k p ≡ own_reference t + references_owed k (owes i))
+      (gives_same : (q : Tid) → gives_owed q p ≡ gives_owed q (owes i)) (below : i < s.count)
       (children_counted : (q : Tid) → unfinished_children w after q + sum_of_owed s (replace_at owes i p) (children_owed s q) ≡ unfinished_children w s q + sum_of_owed s owes (children_owed s q))
       (unslotted : (c j : ℕ) → c < s.count → j < per_thread w tasks → (row : Task) → (s.tasks c j).live ≡ Some row → row.implicit ≡ true → (place : ℕ) → place < OWN_SLOTS
       → IsDeferredIn s row place k → m c tasks j (number TaskSlots) place ≡ slot_word w k → ⊥) where
@@ -218,22 +232,46 @@ module _ (w : List ℕ) (s : State) (k : Tid) (t : Task) (g : Task → Task) (li
         region_counted w s after owes other n r x (pending_counted n)
         (owed_put_same s owes i p (left_owed n) (ap (λ q. one (is_some_region n q)) alike_own.left)) o
 
-    counts_kept : (q : Tid) (r : Rec) (x : Task) → KeepsCounts w s owes q r x → KeepsCounts w after other q r x
-    counts_kept q r x o = record {
+    live_children_same : (q : Tid) → live_children w after q ≡ live_children w s q
+    live_children_same q =
+        tasks_counted (λ _ _ y. one (is_explicit y && is_some_task q y.generating))
+        (ap₂ (λ a b. one (not a && is_some_task q b)) goes.implicit goes.generating)
+
+    children_kept : (q : Tid) (r : Rec) (x : Task) → KeepsCounts w s owes q r x
+        → Has r TaskChildren 0 (unfinished_children w after q + sum_of_owed s other (children_owed after q))
+    children_kept q r x o =
+        let was = o.children in
+        let change = children_counted q in
+        let owed : sum_of_owed s other (children_owed after q) ≡ sum_of_owed s other (children_owed s q)
+        = sum_same s.count (λ j. children_owed after q (other j)) (λ j. children_owed s q (other j))
+        (λ j. children_owed_same q (other j)) in
+        omega (arith, was, change, owed)
+
+    counts_kept : (q : Tid) → (q.0 ≡ k.0 → ⊥) → (r : Rec) (x : Task) → KeepsCounts w s owes q r x
+        → KeepsCounts w after other q r x
+    counts_kept q ne r x o = record {
       references =
           let was = o.references in
-          let same : live_children w after q ≡ live_children w s q
-          = tasks_counted (λ _ _ y. one (is_explicit y && is_some_task q y.generating))
-          (ap₂ (λ a b. one (not a && is_some_task q b)) goes.implicit goes.generating) in
-          let owed = owed_put_same s owes i p (references_owed q) (references_same q) in
+          let same = live_children_same q in
+          let owed = owed_put_same s owes i p (references_owed q) (references_same q ne) in
           omega (arith, was, same, owed);
-      children =
-          let was = o.children in
-          let change = children_counted q in
-          let owed : sum_of_owed s other (children_owed after q) ≡ sum_of_owed s other (children_owed s q)
-          = sum_same s.count (λ j. children_owed after q (other j)) (λ j. children_owed s q (other j))
-          (λ j. children_owed_same q (other j)) in
-          omega (arith, was, change, owed);
+      children = children_kept q r x o;
+      given = owed_put_same s owes i p (gives_owed q) (gives_same q) ∙ o.given;
+    }
+
+    -- and of the task itself
+    own_counts : (r : Rec) → KeepsCounts w s owes k r t → KeepsCounts w after other k r (g t)
+    own_counts r o = record {
+      references =
+          let was = o.references in
+          let same = live_children_same k in
+          let change = owed_put s owes i p below (references_owed k) in
+          let counted = references_counted in
+          omega (arith, was, same, change, counted);
+      children = children_kept k r t o;
+      given =
+          owed_put_same s owes i p (gives_owed k) (gives_same k)
+          ∙ (o.given ∙ ap (λ b. one (not b && r (number TaskReferences) 0 == 0)) (sym goes.implicit));
     }
 
     slots_kept : (c j : ℕ) → c < s.count → j < per_thread w tasks → (x : Task) → (s.tasks c j).live ≡ Some x
@@ -265,7 +303,7 @@ module _ (w : List ℕ) (s : State) (k : Tid) (t : Task) (g : Task → Task) (li
     task_kept c j maker within x is q ne o = record {
       environment = o.environment;
       place = o.place;
-      counts = counts_kept q (m c tasks j) x o.counts;
+      counts = counts_kept q ne (m c tasks j) x o.counts;
       slots = λ implicit. slots_kept c j maker within x is implicit (o.slots implicit);
     }
 
@@ -278,7 +316,7 @@ module _ (w : List ℕ) (s : State) (k : Tid) (t : Task) (g : Task → Task) (li
       own_kept o = record {
         environment = environment o;
         place = λ _. place o;
-        counts = counts_as w after other k (m k.0.creator tasks k.0.slot) t (g t) goes.implicit (counts_kept k (m k.0.creator tasks k.0.slot) t o.counts);
+        counts = own_counts (m k.0.creator tasks k.0.slot) o.counts;
         slots = λ implicit. let explicit = goes.implicit ∙ goes.explicit in absurd (cc);
       }
 
@@ -337,16 +375,21 @@ module _ (w : List ℕ) (s : State) (k : Tid) (t : Task) (g : Task → Task) (li
       }
 
       objects_kept : (o : Owed) → OwesOnLive s o → OwesOnLive after o
-      objects_kept o x = record {
-        pending = x.pending;
-        left = x.left;
-        raised = λ q is. some_after q (x.raised q is);
-        referred = λ q is. some_after q (x.referred q is);
-        lowered = λ q is.
-            let (finished, made) = x.lowered q is in
-            (finished_after q finished, subst (λ (h : Option Tid). IsSome (option_and_then (task_of after) h)) (sym (generating_same q)) (parent (generating_of s q) made));
-        assigns = All-weaker (λ (q : Tid × ℕ). WaitsFor s q.1 q.0) (λ (q : Tid × ℕ). WaitsFor after q.1 q.0) (λ q. waits_after q.1 q.0) o.assigns x.assigns;
-      }
+      objects_kept o x =
+          let on_tasks = owed_on_tasks s after o o tasks_live (owes_tasks_alike o) x in
+          record {
+            pending = x.pending;
+            left = x.left;
+            raised = λ q is. some_after q (x.raised q is);
+            referred = on_tasks.referred;
+            own = on_tasks.own;
+            returned = on_tasks.returned;
+            gives = on_tasks.gives;
+            lowered = λ q is.
+                let (own, made) = x.lowered q is in
+                (own, subst (λ (h : Option Tid). IsSome (option_and_then (task_of after) h)) (sym (generating_same q)) (parent (generating_of s q) made));
+            assigns = All-weaker (λ (q : Tid × ℕ). WaitsFor s q.1 q.0) (λ (q : Tid × ℕ). WaitsFor after q.1 q.0) (λ q. waits_after q.1 q.0) o.assigns x.assigns;
+          }
         where
           parent : (h : Option Tid) → IsSome (option_and_then (task_of s) h)
               → IsSome (option_and_then (task_of after) h)

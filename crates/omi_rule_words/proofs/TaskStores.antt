@@ -57,8 +57,10 @@ task_stores_keep =
         (λ i j p. word_stays m k.0.creator tasks k.0.slot (number f) at word i tasks j (number TaskSlots) p (λ _ _ _ is _. field.slots (sym is)))
         (subst (λ (r : Rec). KeepsRuntime w r (on_task s k g)) (sym (stays 0 runtime 0 (λ kind. absurd (omega (arith, kind))))) keeps.runtime_record)
         (λ i known. subst (λ (r : Rec). KeepsThread w i r (s.threads i)) (sym (stays i threads 0 (λ kind. absurd (omega (arith, kind))))) (keeps.made i known).thread)
-        (λ i j known within x is. subst (λ (r : Rec). KeepsRegion w s owes (region_in i j (s.regions i j)) r x) (sym (stays i regions j (λ kind. absurd (omega (arith, kind))))) (((keeps.made i known).regions j within).live x is))
-        (λ i j known within. each_slot s.tasks k.0 (λ c slot (y : Slot Task). c < s.count → slot < per_thread w tasks → (v : Task) → y.live ≡ Some v → KeepsTask w s owes (task_in c slot (s.tasks c slot)) (n c tasks slot) v)
+        (λ i j known within x is. subst (λ (r : Rec). KeepsRegion w s owes (region_in i j (s.regions i j)) r x)
+        (sym (stays i regions j (λ kind. absurd (omega (arith, kind))))) (((keeps.made i known).regions j within).live x is))
+        (λ i j known within. each_slot s.tasks k.0 (λ c slot (y : Slot Task). c < s.count
+        → slot < per_thread w tasks → (v : Task) → y.live ≡ Some v → KeepsTask w s owes (task_in c slot (s.tasks c slot)) (n c tasks slot) v)
         (changed k.0.generation g (s.tasks k.0.creator k.0.slot)) here beside i j known within)
       where
         n : Memory

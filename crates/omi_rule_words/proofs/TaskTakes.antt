@@ -68,7 +68,7 @@ module _ (w : List ℕ) (m : Memory) (s : State) (owes : ℕ → Owed) (i : ℕ)
   alike : (j : ℕ) → OwesAlike (other j) (owes j)
   alike j =
       each_put (λ k (x : Owed). OwesAlike x (owes k)) owes i p
-      (record { pending = refl; raised = refl; lowered = refl; referred = refl; left = refl; hand = refl }) j
+      (record { pending = refl; raised = refl; lowered = refl; referred = refl; own = refl; returned = refl; gives = refl; left = refl; hand = refl }) j
       (λ _. owes_alike (owes j))
 
   assigns : (j : ℕ) → (other j).assigns ≡ (owes j).assigns

@@ -1,5 +1,5 @@
 -- A word of a task for what is counted of its children: what has to be shown where it is stored and its thread owes otherwise.
-use Rattle.std.proofs.Common.{◌≡◌, ◌≢◌, ◌+◌, ◌<◌, ◌≤◌, inl, inr, ℕ, List, Some, sym, ap, subst, ◌∙◌, arith}
+use Rattle.std.proofs.Common.{◌≡◌, ◌≢◌, ◌+◌, ◌<◌, ◌≤◌, ◌==◌, ◌&&◌, inl, inr, ℕ, List, Some, sym, ap, subst, ◌∙◌, arith}
 use Rattle.std.specs.Prelude.{◌⊎◌}
 use Rattle.std.proofs.lemmas.Bool.{cases_eq}
 use Rattle.omi_model.specs.declared.id.Id.{Id}
@@ -7,6 +7,7 @@ use Rattle.omi_model.specs.declared.id.Rid.{Rid}
 use Rattle.omi_model.specs.declared.id.Tid.{Tid}
 use Rattle.omi_model.specs.declared.task.Task.{Task}
 use Rattle.omi_model.specs.State.{State, task_of}
+use Rattle.omi_model.proofs.Slots.{found_live, some_same}
 use Rattle.omi_layout.specs.declared.field.Field.{Field}
 use Rattle.omi_layout.specs.declared.field.Field.TheVariants.{RegionLife, RegionPending, TaskChildren, TaskLife, TaskSlots, TaskReferences}
 use Rattle.omi_layout.specs.Field.{regions, tasks}
@@ -14,7 +15,7 @@ use Rattle.omi_layout.specs.Memory.{Memory, Rec, replace_at}
 use Rattle.omi_layout.specs.Named.{number}
 use Rattle.omi_layout.proofs.Puts.{record_stays, word_read, word_stays}
 use Rattle.omi_rule_words.specs.Owes.{Owed}
-use Rattle.omi_rule_words.specs.Counts.{children_owed, pending_owed, sum_of_owed, references_owed}
+use Rattle.omi_rule_words.specs.Counts.{children_owed, pending_owed, sum_of_owed, references_owed, gives_owed, is_explicit, one}
 use Rattle.omi_rule_words.specs.Objects.{KeepsCounts}
 use Rattle.omi_rule_words.specs.Words.{KeepsTask, KeepsWords, OwesOnLive, region_in, task_in}
 use Rattle.omi_rule_words.specs.CountKinds.{with_task_word, word_of_task}
@@ -71,7 +72,7 @@ module _ (w : List ℕ) (m : Memory) (s : State) (owes : ℕ → Owed) (i : ℕ)
         (counts_same w m after s owes i p keeps alike (task_in c j (s.tasks c j)) (m c tasks j) (after c tasks j) x (ap (λ (r : Rec). r (number TaskChildren) 0) same)
         (ap (λ (r : Rec). r (number TaskReferences) 0) same) (beside (task_in c j (s.tasks c j)) ne)) o
 
-    task_stored : ((x : Task) → KeepsCounts w s owes k (m k.0.creator tasks k.0.slot) x → KeepsCounts w s other k (after k.0.creator tasks k.0.slot) x)
+    task_stored : (KeepsCounts w s owes k (m k.0.creator tasks k.0.slot) t → KeepsCounts w s other k (after k.0.creator tasks k.0.slot) t)
         → KeepsWords w after s other
     task_stored counts =
         other_counts w m after s owes i p keeps alike (λ c kind j _ ne. stays c kind j ne)
@@ -100,8 +101,13 @@ module _ (w : List ℕ) (m : Memory) (s : State) (owes : ℕ → Owed) (i : ℕ)
         own x there o =
             subst (λ (q : Tid). KeepsTask w s other q (after k.0.creator tasks k.0.slot) x)
             (sym (task_name s k t live))
-            (task_counted w m after s owes i p keeps alike k (m k.0.creator tasks k.0.slot) (after k.0.creator tasks k.0.slot) x (λ g at ne nr. others_stay g at (not_count g ne nr count is_count) k.0.creator k.0.slot) (counts x)
+            (task_counted w m after s owes i p keeps alike k (m k.0.creator tasks k.0.slot)
+            (after k.0.creator tasks k.0.slot) x (λ g at ne nr. others_stay g at (not_count g ne nr count is_count) k.0.creator k.0.slot)
+            (subst (λ (y : Task). KeepsCounts w s owes k (m k.0.creator tasks k.0.slot) y → KeepsCounts w s other k (after k.0.creator tasks k.0.slot) y) same counts)
             (subst (λ (q : Tid). KeepsTask w s owes q (m k.0.creator tasks k.0.slot) x) (task_name s k t live) o))
+          where
+            same : t ≡ x
+            same = some_same (found_live k.0.generation (s.tasks k.0.creator k.0.slot) t live) there
 
         in_record : (c j : ℕ) (x : Task) → (s.tasks c j).live ≡ Some x
             → KeepsTask w s owes (task_in c j (s.tasks c j)) (m c tasks j) x
@@ -121,10 +127,11 @@ module _ (w : List ℕ) (m : Memory) (s : State) (owes : ℕ → Owed) (i : ℕ)
 
   -- the word for unfinished explicit children, to which as much is added as is owed more
   pub children_stored : (word : ℕ) → references_owed k p ≡ references_owed k (owes i)
+      → gives_owed k p ≡ gives_owed k (owes i)
       →
       (children_owed s k (owes i) ≤ word_of_task m k TaskChildren → word + children_owed s k (owes i) ≡ word_of_task m k TaskChildren + children_owed s k p)
       → KeepsWords w (with_task_word m k TaskChildren word) s other
-  children_stored word same here = task_stored TaskChildren Children word (λ x o. record {
+  children_stored word same gives here = task_stored TaskChildren Children word (λ o. record {
     children =
         let was = o.children in
         let stored = word_read m k.0.creator tasks k.0.slot (number TaskChildren) 0 word in
@@ -138,14 +145,20 @@ module _ (w : List ℕ) (m : Memory) (s : State) (owes : ℕ → Owed) (i : ℕ)
         let kept = others_stay TaskChildren Children word TaskReferences 0 (λ is. omega (arith, is)) k.0.creator k.0.slot in
         let owed = owed_put_same s owes i p (references_owed k) same in
         omega (arith, was, kept, owed);
+    given =
+        owed_put_same s owes i p (gives_owed k) gives
+        ∙ (o.given
+        ∙ ap (λ x. one (is_explicit t && x == 0))
+        (sym (others_stay TaskChildren Children word TaskReferences 0 (λ is. omega (arith, is)) k.0.creator k.0.slot)));
   })
 
-  -- and the word for references
+  -- and the word for references, where the task is to be given back afterwards if it is explicit and this word is 0
   pub references_stored : (word : ℕ) → children_owed s k p ≡ children_owed s k (owes i)
+      → (KeepsCounts w s owes k (m k.0.creator tasks k.0.slot) t → sum_of_owed s other (gives_owed k) ≡ one (is_explicit t && word == 0))
       →
       (references_owed k (owes i) ≤ word_of_task m k TaskReferences → word + references_owed k (owes i) ≡ word_of_task m k TaskReferences + references_owed k p)
       → KeepsWords w (with_task_word m k TaskReferences word) s other
-  references_stored word same here = task_stored TaskReferences References word (λ x o. record {
+  references_stored word same given here = task_stored TaskReferences References word (λ o. record {
     children =
         let was = o.children in
         let kept = others_stay TaskReferences References word TaskChildren 0 (λ is. omega (arith, is)) k.0.creator k.0.slot in
@@ -159,4 +172,8 @@ module _ (w : List ℕ) (m : Memory) (s : State) (owes : ℕ → Owed) (i : ℕ)
         part_below s.count i (λ j. references_owed k (owes j)) known in
         let now = here (omega (arith, was, least)) in
         omega (arith, was, stored, change, now);
+    given =
+        given o
+        ∙ ap (λ x. one (is_explicit t && x == 0))
+        (sym (word_read m k.0.creator tasks k.0.slot (number TaskReferences) 0 word));
   })

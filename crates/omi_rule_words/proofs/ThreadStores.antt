@@ -33,8 +33,10 @@ thread_stores_keep = λ w m s owes i h f word keeps other is. kept w m s owes i 
         (λ j k place. ap (λ (r : Rec). r (number TaskSlots) place) (stays j tasks k (λ kind. absurd (omega (arith, kind)))))
         (subst (λ (r : Rec). KeepsRuntime w r (with_thread s i h)) (sym (stays 0 runtime 0 (λ kind. absurd (omega (arith, kind))))) keeps.runtime_record)
         (λ j known. go j known (j == i) refl)
-        (λ j k known within x there. subst (λ (r : Rec). KeepsRegion w s owes (region_in j k (s.regions j k)) r x) (sym (stays j regions k (λ kind. absurd (omega (arith, kind))))) (((keeps.made j known).regions k within).live x there))
-        (λ j k known within t there. subst (λ (r : Rec). KeepsTask w s owes (task_in j k (s.tasks j k)) r t) (sym (stays j tasks k (λ kind. absurd (omega (arith, kind))))) (((keeps.made j known).tasks k within).live t there))
+        (λ j k known within x there. subst (λ (r : Rec). KeepsRegion w s owes (region_in j k (s.regions j k)) r x)
+        (sym (stays j regions k (λ kind. absurd (omega (arith, kind))))) (((keeps.made j known).regions k within).live x there))
+        (λ j k known within t there. subst (λ (r : Rec). KeepsTask w s owes (task_in j k (s.tasks j k)) r t)
+        (sym (stays j tasks k (λ kind. absurd (omega (arith, kind))))) (((keeps.made j known).tasks k within).live t there))
       where
         n : Memory
         n = with_word m i threads 0 (number f) 0 word

@@ -3,13 +3,15 @@ use Rattle.std.specs.Prelude.{◌≡◌, ℕ, ◌+◌, ◌-◌, ◌%◌, ◌^◌
 use Rattle.omi_model.specs.declared.limits.TheConstants.{MOST_EVENTS}
 use Rattle.omi_model.specs.declared.id.Rid.{Rid}
 use Rattle.omi_model.specs.declared.id.Tid.{Tid}
+use Rattle.omi_model.specs.declared.progress.Progress.TheVariants.{Finished}
+use Rattle.omi_model.specs.declared.task.Task.{Task}
 use Rattle.omi_model.specs.State.{State, region_of, task_of}
 use Rattle.omi_layout.specs.declared.field.Field.{Field}
 use Rattle.omi_layout.specs.declared.field.Field.TheVariants.{RegionPending, TaskChildren, TaskReferences}
 use Rattle.omi_layout.specs.Field.{tasks}
 use Rattle.omi_layout.specs.Memory.{Memory, replace_at, with_word}
 use Rattle.omi_layout.specs.Named.{number}
-use Rattle.omi_rule_words.specs.Owes.{Owed}
+use Rattle.omi_rule_words.specs.Owes.{Owed, nothing}
 use Rattle.omi_rule_words.specs.Counts.{generating_of}
 use Rattle.omi_rule_words.specs.Words.{KeepsWords}
 use Rattle.omi_rule_words.specs.BarrierKinds.{one_more, word_of_region, with_region_word}
@@ -44,10 +46,11 @@ ChildrenAddsKeep = (w : List ℕ) (m : Memory) (s : State) (owes : ℕ → Owed)
     → KeepsWords w (with_task_word m k TaskChildren (one_more (word_of_task m k TaskChildren))) s
     (replace_at owes i (record (owes i) { raised = Some k }))
 
--- 1 is added to a task's word for references
+-- 1 is added to the word for references of a task that has not finished
 abbrev pub ReferencesAddKeep : Type 0
-ReferencesAddKeep = (w : List ℕ) (m : Memory) (s : State) (owes : ℕ → Owed) (i : ℕ) (k : Tid)
-    → KeepsWords w m s owes → i < s.count → (owes i).referred ≡ None → IsSome (task_of s k)
+ReferencesAddKeep = (w : List ℕ) (m : Memory) (s : State) (owes : ℕ → Owed) (i : ℕ) (k : Tid) (t : Task)
+    → KeepsWords w m s owes → i < s.count → (owes i).referred ≡ None → task_of s k ≡ Some t
+    → (t.progress ≡ Finished → ⊥) → (owes i).pending ≡ Some t.region
     → word_of_task m k TaskReferences < MOST_EVENTS
     → KeepsWords w (with_task_word m k TaskReferences (one_more (word_of_task m k TaskReferences))) s
     (replace_at owes i (record (owes i) { referred = Some k }))
@@ -65,8 +68,8 @@ ChildrenSubtractsKeep = (w : List ℕ) (m : Memory) (s : State) (owes : ℕ → 
 -- 1 is subtracted from a region's word for unfinished explicit tasks
 abbrev pub PendingSubtractsKeep : Type 0
 PendingSubtractsKeep = (w : List ℕ) (m : Memory) (s : State) (owes : ℕ → Owed) (i : ℕ) (n : Rid)
-    → KeepsWords w m s owes → i < s.count → (owes i).pending ≡ Some n
+    → KeepsWords w m s owes → i < s.count → owes i ≡ record nothing { pending = Some n }
     → word_of_region m n RegionPending < 2 ^ 64
     → KeepsWords w
     (with_region_word m n RegionPending (one_less (word_of_region m n RegionPending))) s
-    (replace_at owes i (record (owes i) { pending = None }))
+    (replace_at owes i nothing)

@@ -9,6 +9,7 @@ use Rattle.omi_model.specs.declared.progress.Progress.TheVariants.{Deferred, Not
 use Rattle.omi_model.specs.declared.region.Region.{Region}
 use Rattle.omi_model.specs.declared.task.Task.{Task}
 use Rattle.omi_model.specs.State.{State, task_of}
+use Rattle.omi_pc.specs.declared.place.Place.{Place}
 use Rattle.omi_layout.specs.Field.{tasks}
 use Rattle.omi_layout.specs.Table.{per_thread}
 use Rattle.omi_rule_words.specs.Owes.{Owed}
@@ -60,6 +61,13 @@ is_some_task k t = option_map_or (is_task k) t false
 abbrev pub is_some_region : Rid → Option Rid → Bool
 is_some_region n r = option_map_or (is_region n) r false
 
+-- the name is one of an object at a place, and so of a place that there may be
+abbrev pub is_at : Tid → Place → Bool
+is_at k p = k.0.creator == p.creator && k.0.slot == p.slot
+
+abbrev pub is_at_some : Tid → Option Place → Bool
+is_at_some k p = option_map_or (is_at k) p false
+
 -- one of these tasks has this slot of the thread that made it, and so of a region that there may be
 abbrev pub has_slot : ℕ → List Tid → Bool
 has_slot slot [] = false
@@ -83,9 +91,9 @@ is_explicit t = not t.implicit
 abbrev pub is_unfinished : Task → Bool
 is_unfinished t = is_explicit t && not (is_finished t.progress)
 
--- an explicit task refers to its own record, as long as records are not given back
+-- an explicit task refers to its own record until it has finished
 abbrev pub own_reference : Task → ℕ
-own_reference t = one (is_explicit t)
+own_reference t = one (is_unfinished t)
 
 -- the unfinished explicit tasks of a region
 abbrev pub unfinished_in : List ℕ → State → Rid → ℕ
@@ -132,9 +140,15 @@ children_owed s k o =
     one (is_some_task k o.raised)
     + one (is_some_task k (option_and_then (generating_of s) o.lowered))
 
--- on the word of a task for references
+-- on the word of a task for references: what was raised for a task in the making, and what is to be lowered for itself and for one
+-- that was given back
 abbrev pub references_owed : Tid → Owed → ℕ
 references_owed k o = one (is_some_task k o.referred)
+    + (one (is_some_task k o.own) + one (is_at_some k o.returned))
+
+-- to give a task back
+abbrev pub gives_owed : Tid → Owed → ℕ
+gives_owed k o = one (is_some_task k o.gives)
 
 -- to store a task into the assign word of a thread
 abbrev pub assigns_in : ℕ → Tid → List (Tid × ℕ) → ℕ

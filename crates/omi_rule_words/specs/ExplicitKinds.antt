@@ -137,7 +137,8 @@ FinishesKeep = (w : List ℕ) (m : Memory) (s : State) (owes : ℕ → Owed) (i 
     → KeepsWords w m s owes → IsWithin w s → AreNamesLive s → i < s.count → owes i ≡ nothing
     → IsRunning s k t → t.generating ≡ Some g
     → KeepsWords w (with_word m i threads 0 (number ThreadCurrent) 0 (task_word w t.scheduling))
-    (finished s i k t) (replace_at owes i (record nothing { pending = Some t.region; lowered = Some k }))
+    (finished s i k t)
+    (replace_at owes i (record nothing { pending = Some t.region; lowered = Some k; own = Some k }))
 
 -- ---- children
 

@@ -13,3 +13,4 @@ pub mod BarrierKinds
 pub mod TeamKinds
 pub mod CountKinds
 pub mod ExplicitKinds
+pub mod FreeKinds

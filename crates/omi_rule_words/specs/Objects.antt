@@ -1,5 +1,5 @@
 -- What the words of live regions and tasks are between any two steps, seen or not: the codes of the state, but for what threads owe.
-use Rattle.std.specs.Prelude.{◌≡◌, ◌⊎◌, ℕ, ◌+◌, ◌*◌, ◌<◌, ◌==◌, Bool, true, false, List, Some, None, if◌then◌else◌}
+use Rattle.std.specs.Prelude.{◌≡◌, ◌⊎◌, ℕ, ◌+◌, ◌*◌, ◌<◌, ◌==◌, ◌&&◌, Bool, true, false, List, Some, None, if◌then◌else◌}
 use Rattle.omi_model.specs.declared.id.Rid.{Rid}
 use Rattle.omi_model.specs.declared.id.Tid.{Tid}
 use Rattle.omi_model.specs.declared.progress.Progress.TheVariants as progress
@@ -15,7 +15,7 @@ use Rattle.omi_layout.specs.Named.{number}
 use Rattle.omi_rep.specs.Codes.{HasCodes, is_place, region_code, region_told, task_code, task_told}
 use Rattle.omi_rep.specs.Records.{slot_word}
 use Rattle.omi_rule_words.specs.Owes.{Owed}
-use Rattle.omi_rule_words.specs.Counts.{sum_below, sum_of_owed, sum_of_slots, one, unfinished_in, unfinished_children, live_children, own_reference, ended_members, pending_owed, left_owed, children_owed, references_owed, start_owed}
+use Rattle.omi_rule_words.specs.Counts.{sum_below, sum_of_owed, sum_of_slots, one, unfinished_in, unfinished_children, live_children, is_explicit, own_reference, ended_members, pending_owed, left_owed, children_owed, references_owed, gives_owed, start_owed}
 use Rattle.omi_rule_words.specs.Threads.{Has}
 
 -- ---- life words
@@ -52,12 +52,15 @@ KeepsPlace w r t = (f : Field) (at word : ℕ) → is_place f ≡ true
 abbrev pub HasPlace : Task → Type 0
 HasPlace t = t.implicit ≡ false → t.progress ≡ progress.Deferred → ⊥
 
--- what is counted of a live task's children: those that have not finished, and, with the task itself where it is explicit, those that live
+-- What is counted of a live task's children: those that have not finished, and, with the task itself where it is explicit and has not
+-- finished, those that live. An explicit task without a reference is given back by exactly one thread, and no other task is
 pub record KeepsCounts (w : List ℕ) (s : State) (owes : ℕ → Owed) (k : Tid) (r : Rec) (t : Task) : Type 0 where
   pub children : Has r TaskChildren 0
       (unfinished_children w s k + sum_of_owed s owes (children_owed s k))
   pub references : Has r TaskReferences 0
       (own_reference t + (live_children w s k + sum_of_owed s owes (references_owed k)))
+  pub given : sum_of_owed s owes (gives_owed k)
+      ≡ one (is_explicit t && r (number TaskReferences) 0 == 0)
 
 -- ---- slots for deferred tasks
 

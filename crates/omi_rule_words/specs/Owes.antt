@@ -7,6 +7,7 @@ use Rattle.omi_pc.specs.declared.actor.Actor.{Actor}
 use Rattle.omi_pc.specs.declared.context.Context.{Context}
 use Rattle.omi_pc.specs.declared.counter.Counter.{Counter}
 use Rattle.omi_pc.specs.declared.counter.Counter.TheVariants as counter
+use Rattle.omi_pc.specs.declared.place.Place.{Place}
 use Rattle.omi_pc.specs.declared.task_counter.FinishCounter.{FinishCounter}
 use Rattle.omi_pc.specs.declared.task_counter.FinishCounter.TheVariants as finish
 use Rattle.omi_pc.specs.declared.task_counter.LookCounter.{LookCounter}
@@ -31,6 +32,11 @@ pub record Owed : Type 0 where
   pub lowered : Option Tid
   -- the task whose word for references was raised for one in the making
   pub referred : Option Tid
+  -- the finished task that still refers to its own record, the place of the task that generated one which was given back, and the
+  -- task that is to be given back, as its last reference was lowered
+  pub own : Option Tid
+  pub returned : Option Place
+  pub gives : Option Tid
   -- the region that a member has left, where the word for those that left is to be raised
   pub left : Option Rid
   -- the tasks that are to be stored into the assign words of these threads
@@ -49,6 +55,9 @@ nothing =
       raised = None;
       lowered = None;
       referred = None;
+      own = None;
+      returned = None;
+      gives = None;
       left = None;
       assigns = [];
       met = false;
@@ -112,13 +121,28 @@ by_look (look.Fill w n code t f final word) = record nothing { hand = Some t }
 by_look (look.Start w n code t f final) = record nothing { hand = Some t }
 by_look _ = nothing
 
--- after a task has finished
+-- after a task has finished: what is owed on its region, and besides
+abbrev pub in_region : Context → Owed
+in_region c = record nothing { pending = Some c.region }
+
+abbrev pub with_lowerings : Context → Tid → Owed
+with_lowerings c t = record (in_region c) { lowered = Some t; own = Some t }
+
+-- a task was given back that the one at this place generated
+abbrev pub with_returned : Context → Place → Owed
+with_returned c generating = record (in_region c) { returned = Some generating }
+
 abbrev pub by_finish : Context → FinishCounter → Owed
 by_finish c finish.Finish = nothing
-by_finish c (finish.LoadGenerating w t) = record nothing { pending = Some c.region; lowered = Some t }
-by_finish c (finish.SubtractChildren w t generating) =
-    record nothing { pending = Some c.region; lowered = Some t }
-by_finish c at = record nothing { pending = Some c.region }
+by_finish c (finish.LoadGenerating w t) = with_lowerings c t
+by_finish c (finish.SubtractChildren w t generating) = with_lowerings c t
+by_finish c (finish.SubtractReferences w t generating) = record (in_region c) { own = Some t }
+by_finish c (finish.Free w t generating) = record (in_region c) { gives = Some t }
+by_finish c (finish.LoadImplicit w generating) = with_returned c generating
+by_finish c (finish.LoadNext w generating) = with_returned c generating
+by_finish c (finish.LoadLife w generating next) = with_returned c generating
+by_finish c (finish.SubtractGenerating w generating explicit) = with_returned c generating
+by_finish c (finish.SubtractPending w) = in_region c
 
 -- ---- the whole
 

@@ -13,8 +13,9 @@ use Rattle.omi_layout.specs.declared.field.Field.TheVariants.{RegionLife, TaskLi
 use Rattle.omi_layout.specs.Field.{runtime, threads, regions, tasks}
 use Rattle.omi_layout.specs.Memory.{Rec, MadeRecords, Memory}
 use Rattle.omi_layout.specs.Table.{per_thread}
+use Rattle.omi_pc.specs.declared.place.Place.{Place}
 use Rattle.omi_rule_words.specs.Owes.{Owed}
-use Rattle.omi_rule_words.specs.Counts.{has_slot, has_region_slot, generating_of}
+use Rattle.omi_rule_words.specs.Counts.{has_slot, has_region_slot, is_at, generating_of}
 use Rattle.omi_rule_words.specs.Threads.{KeepsRuntime, KeepsThread, WaitsFor, KeepsAssign}
 use Rattle.omi_rule_words.specs.Objects.{KeepsLife, KeepsRegion, HasPlace, KeepsEnvironment, KeepsPlace, KeepsCounts, KeepsSlots, KeepsDeferred}
 
@@ -45,15 +46,23 @@ pub record HasFinished (s : State) (k : Tid) : Type 0 where
   pub explicit : task.implicit ≡ false
   pub progress : task.progress ≡ progress.Finished
 
--- it lives, so no step of another thread gives its record to another object
+-- a live task is of the region on whose word for unfinished explicit tasks a thread owes
+abbrev pub IsOwedIn : State → Owed → Tid → Type 0
+IsOwedIn s o k = (t : Task) × (task_of s k ≡ Some t) × (o.pending ≡ Some t.region)
+
+-- It lives, so no step of another thread gives its record to another object. What is owed on the references of a task comes before
+-- what is owed on its region
 pub record OwesOnLive (s : State) (o : Owed) : Type 0 where
   pub pending : (n : Rid) → o.pending ≡ Some n → IsSome (region_of s n)
   pub left : (n : Rid) → o.left ≡ Some n
       → (r : Region) × (region_of s n ≡ Some r) × (r.joined ≡ false)
   pub raised : (k : Tid) → o.raised ≡ Some k → IsSome (task_of s k)
-  pub referred : (k : Tid) → o.referred ≡ Some k → IsSome (task_of s k)
   pub lowered : (k : Tid) → o.lowered ≡ Some k
-      → HasFinished s k × IsSome (option_and_then (task_of s) (generating_of s k))
+      → (o.own ≡ Some k) × IsSome (option_and_then (task_of s) (generating_of s k))
+  pub referred : (k : Tid) → o.referred ≡ Some k → IsOwedIn s o k
+  pub own : (k : Tid) → o.own ≡ Some k → HasFinished s k × IsOwedIn s o k
+  pub returned : (p : Place) → o.returned ≡ Some p → (k : Tid) × (is_at k p ≡ true) × IsOwedIn s o k
+  pub gives : (k : Tid) → o.gives ≡ Some k → HasFinished s k × IsOwedIn s o k
   pub assigns : All (λ m. WaitsFor s m.1 m.0) o.assigns
 
 -- ---- the records that a thread makes

@@ -4,6 +4,7 @@ ghost use Rattle.omi_rule_words.specs.Opens.{OpeningKeepsWords};
 ghost use Rattle.omi_rule_words.specs.BarrierKinds.{ArrivesKeep, ReleasesKeep};
 ghost use Rattle.omi_rule_words.specs.CountKinds.{ChildrenAddsKeep, ChildrenSubtractsKeep, PendingAddsKeep, PendingSubtractsKeep, ReferencesAddKeep};
 ghost use Rattle.omi_rule_words.specs.ExplicitKinds.{AllChildrenFinished, DefersKeep, FinishesKeep, PlaceStoresKeep, SlotTakesKeep, StartsAloneKeep, StartsKeep, StartsNowKeep};
+ghost use Rattle.omi_rule_words.specs.FreeKinds.{AllTasksGone, GivenHaveNoChild, MemberFreesKeep, OwnSubtractsKeep, RegionFreesKeep, ReturnedSubtractsKeep, TaskFreesKeep};
 ghost use Rattle.omi_rule_words.specs.Kinds.{AssignClearsKeep, AssignStoresKeep, ListMovesKeep, MovesKeep, RegionFillsKeep, RegionTakesKeep, TaskFillsKeep, TaskTakesKeep, ThreadChangesKeep, ThreadStoresKeep};
 ghost use Rattle.omi_rule_words.specs.Shown.{KeptWordsShow};
 ghost use Rattle.omi_rule_words.specs.TaskKinds.{RuntimeStoresKeep, TaskStoresKeep};
@@ -55,10 +56,28 @@ pub fn adds_keep_words()
     ensures references { ReferencesAddKeep }
 {}
 
-/// The subtractions of 1 for an explicit task that has finished keep the rule on words: the thread owes one less on the word.
+/// The subtractions of 1 for an explicit task that has finished keep the rule on words: the thread owes one less on the word. Where
+/// a task's last reference is lowered, the thread is to give it back.
 pub fn subtracts_keep_words()
     ensures children { ChildrenSubtractsKeep }
+    ensures own { OwnSubtractsKeep }
+    ensures returned { ReturnedSubtractsKeep }
     ensures pending { PendingSubtractsKeep }
+{}
+
+/// The stores that give records back keep the rule on words: of an explicit task without a reference, of the tasks of the members
+/// of a joined region, and of the region.
+pub fn frees_keep_words()
+    ensures task { TaskFreesKeep }
+    ensures member { MemberFreesKeep }
+    ensures region { RegionFreesKeep }
+{}
+
+/// What is gone: the explicit tasks of a region whose word for them is 0, and the explicit children of a task that a thread is to
+/// give back, whatever threads owe.
+pub fn tasks_are_gone()
+    ensures region { AllTasksGone }
+    ensures children { GivenHaveNoChild }
 {}
 
 /// The store of a task into the assign word of the thread for which it waits, and the thread's store that clears this word, keep
@@ -139,7 +158,8 @@ pub fn starts_keep_words()
 {}
 
 /// The store by which an explicit task finishes keeps the rule on words: from then on its thread owes the subtractions from the
-/// words for unfinished children of the task that made it and for unfinished tasks of its region.
+/// words for unfinished children of the task that made it, for references of the task itself and for unfinished tasks of its
+/// region.
 pub fn finishes_keep_words()
     ensures { FinishesKeep }
 {}

@@ -11,15 +11,13 @@ use Rattle.omi_rep.specs.declared.outcome.Outcome.TheVariants as outcome
 use Rattle.omi_actor.specs.Steps.{next_of}
 use Rattle.omi_run_lists.specs.Events.{team_in}
 use Rattle.omi_rule.specs.Steps.{LeadsOn}
-use Rattle.omi_rule.specs.StepsKeep.{IsKept}
 use Rattle.omi_core.specs.declared.entry.Entry.{Entry}
 use Rattle.omi_core.specs.Found.{actor_after, entry_at}
-use Rattle.omi_core.specs.Kept.{KeepsCore, KeepsRun}
+use Rattle.omi_core.specs.Kept.{KeepsRun}
 use Rattle.omi_core.specs.Runs.{Run, actors_in, spare_in, events_in}
 use Rattle.omi_core.specs.RunSteps.{event_of, made_of, seats_of}
 use Rattle.omi_core.specs.Steps.{steps_of}
 use Rattle.omi_core.proofs.History.{made_length}
-use Rattle.omi_core.proofs.KeptCounters.{step_kept}
 use Rattle.omi_core.proofs.Stepping.{entries_behind, inside, keeps_behind, other_room, same_entries, rule_after}
 use Rattle.omi_seat.specs.declared.limits.TheConstants.{MOST_BUDGET}
 use Rattle.omi_seat.specs.Claims.{claims_from}
@@ -39,23 +37,23 @@ roomy a = record {
   made = record { items = a.made.items; spare = 1 };
 }
 
-keeps_roomy : (a : Run) → KeepsCore a → KeepsCore (roomy a)
+keeps_roomy : (a : Run) → KeepsRun a → KeepsRun (roomy a)
 keeps_roomy a k = other_room a k (roomy a).events (roomy a).made refl refl
 
 -- the number of a thread is a byte
-few_made : (a : Run) (k : KeepsCore a) → ((i : ℕ) → length (steps_of i k.run.entries) ≤ MOST_BUDGET)
+few_made : (a : Run) (k : KeepsRun a) → ((i : ℕ) → length (steps_of i k.entries) ≤ MOST_BUDGET)
     → length a.made.items ≤ 256 * MOST_BUDGET
 few_made a k few =
-    let steps = k.run.made_by.steps in
+    let steps = k.made_by.steps in
     let each =
-    are_of a.program a.table steps.first [] _ _ k.run.entries a.words k.run.state steps.watches steps.steps in
-    let all = few_in_all a.program.threads MOST_BUDGET k.run.entries each few in
-    let count : length a.made.items ≡ length k.run.entries =
-    ap length k.run.made_by.made ∙ made_length k.run.entries in
+    are_of a.program a.table steps.first [] _ _ k.entries a.words k.state steps.watches steps.steps in
+    let all = few_in_all a.program.threads MOST_BUDGET k.entries each few in
+    let count : length a.made.items ≡ length k.entries =
+    ap length k.made_by.made ∙ made_length k.entries in
     let most = (Rules-from_accepted a.program).threads.1 in
     omega (arith, all, count, most)
 
-some_room : (a : Run) (k : KeepsCore a) → ((i : ℕ) → length (steps_of i k.run.entries) ≤ MOST_BUDGET)
+some_room : (a : Run) (k : KeepsRun a) → ((i : ℕ) → length (steps_of i k.entries) ≤ MOST_BUDGET)
     → 1 ≤ spare_in (roomy a)
 some_room a k few =
     let made = few_made a k few in
@@ -83,55 +81,42 @@ run_behind a i =
       made = record { items = a.made.items ++ made_of i e ∷ []; spare = 0 };
     }
 
-module _ (a : Run) (k : KeepsCore a) (few : (i : ℕ) → length (steps_of i k.run.entries) ≤ MOST_BUDGET) (i : ℕ)
+module _ (a : Run) (k : KeepsRun a) (few : (i : ℕ) → length (steps_of i k.entries) ≤ MOST_BUDGET) (i : ℕ)
     (thread : i < a.program.threads) where
   room : 1 ≤ spare_in (roomy a)
   room = some_room a k few
 
-  whole : KeepsCore (roomy a)
+  whole : KeepsRun (roomy a)
   whole = keeps_roomy a k
 
-  kept : IsKept (actors_in a.actors i).counter
-  kept = k.goes_on i thread
-
-  next_run : KeepsRun (run_behind a i)
+  pub next_run : KeepsRun (run_behind a i)
   next_run =
-      keeps_behind (roomy a) whole.run i thread room kept (entry_of a i) refl refl refl
+      keeps_behind (roomy a) whole i thread room (entry_of a i) refl refl refl
       (run_behind a i).events (run_behind a i).made refl refl
 
-  next_entries : next_run.entries ≡ k.run.entries ++ (i, entry_of a i) ∷ []
+  pub next_entries : next_run.entries ≡ k.entries ++ (i, entry_of a i) ∷ []
   unfolding next_run whole keeps_roomy
   next_entries =
-      entries_behind (roomy a) whole.run i thread room kept (entry_of a i) refl refl refl
+      entries_behind (roomy a) whole i thread room (entry_of a i) refl refl refl
       (run_behind a i).events (run_behind a i).made refl refl
       ∙ ap (λ es. es ++ (i, entry_of a i) ∷ []) (same_entries a k (roomy a).events (roomy a).made refl refl)
 
-  pub next_core : KeepsCore (run_behind a i)
-  next_core = record {
-    run = next_run;
-    goes_on = step_kept a (run_behind a i) i (entry_of a i).old thread k.run.actors k.goes_on refl refl;
-  }
-
-  pub next_core_entries : next_core.run.entries ≡ k.run.entries ++ (i, entry_of a i) ∷ []
-  unfolding next_core
-  next_core_entries = next_entries
-
   pub on_word : IsWordOf a.words (address_of (entry_of a i).op)
-  on_word = inside (roomy a) whole.run i thread room kept
+  on_word = inside (roomy a) whole i thread room
 
   -- the claims of the thread before it
   abbrev claims : ℕ
   claims = claims_by i 0 (events_in a.events.items)
 
   -- a team that it forks has at most one member more than the thread has claims
-  pub few_members : seats_of (entry_of a i).outcome ≤ claims_from 0 (steps_of i k.run.entries) + 1
+  pub few_members : seats_of (entry_of a i).outcome ≤ claims_from 0 (steps_of i k.entries) + 1
   few_members =
       subst (λ n. seats_of (entry_of a i).outcome ≤ n + 1)
-      (ap (λ es. claims_by i 0 (events_in es)) k.run.made_by.events ∙ by_steps i 0 0 k.run.entries)
-      (go (entry_of a i).outcome (rule_after (roomy a) whole.run i thread room kept).leads)
+      (ap (λ es. claims_by i 0 (events_in es)) k.made_by.events ∙ by_steps i 0 0 k.entries)
+      (go (entry_of a i).outcome (rule_after (roomy a) whole i thread room).leads)
     where
       go : (o : Outcome)
-          → LeadsOn a.program a.table (events_in a.events.items) whole.run.state i o (rule_after (roomy a) whole.run i thread room kept).next
+          → LeadsOn a.program a.table (events_in a.events.items) whole.state i o (rule_after (roomy a) whole i thread room).next
           → seats_of o ≤ claims + 1
       go outcome.Quiet leads = omega arith
       go (outcome.NotReady address word) leads = omega arith
@@ -139,9 +124,9 @@ module _ (a : Run) (k : KeepsCore a) (few : (i : ℕ) → length (steps_of i k.r
       go (outcome.Event e) leads = by e leads
         where
           by : (e : Event)
-              → Step a.program whole.run.state i e (rule_after (roomy a) whole.run i thread room kept).next
+              → Step a.program whole.state i e (rule_after (roomy a) whole i thread room).next
               → length (team_in e) ≤ claims + 1
           by (event.Fork region team) step =
               few_in_team a.program
-              (events_in a.events.items) whole.run.state whole.run.rule.reached i region team step.legal
+              (events_in a.events.items) whole.state whole.rule.reached i region team step.legal
           by e step = omega arith

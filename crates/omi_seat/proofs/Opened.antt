@@ -7,10 +7,9 @@ use Rattle.omi_pc.specs.declared.actor.Actor.{Actor}
 use Rattle.omi_pc.specs.Opening.{opening_actor, waiting_actor}
 use Rattle.omi_rep.specs.Suits.{Suits}
 use Rattle.omi_core.specs.declared.entry.Entry.{Entry}
-use Rattle.omi_core.specs.Kept.{KeepsCore}
+use Rattle.omi_core.specs.Kept.{KeepsRun}
 use Rattle.omi_core.specs.Runs.{AreOpeningActors, Run}
 use Rattle.omi_core.specs.Steps.{made_of_steps, steps_of}
-use Rattle.omi_core.proofs.KeptCounters.{opening_kept}
 use Rattle.omi_core.proofs.Opened.{opened_run}
 use Rattle.omi_seat.specs.declared.limits.TheConstants.{MOST_BUDGET}
 use Rattle.omi_seat.specs.Behind.{HasRun}
@@ -55,16 +54,13 @@ module _ (p : Program) (l : Layout) (words others : List ℕ) (suits : Suits p l
     made = record { items = []; spare = 0 };
   }
 
-  first_kept : KeepsCore first_run
-  first_kept = record {
-    run = opened_run first_run l.valid suits opens (are_opening p) refl refl;
-    goes_on = opening_kept p (actors_from p 0 p.threads) (are_opening p);
-  }
+  first_kept : KeepsRun first_run
+  first_kept = opened_run first_run l.valid suits opens (are_opening p) refl refl
 
-  no_entry : first_kept.run.entries ≡ []
-  no_entry = none_made first_kept.run.entries first_kept.run.made_by.made
+  no_entry : first_kept.entries ≡ []
+  no_entry = none_made first_kept.entries first_kept.made_by.made
 
-  no_step : (i : ℕ) → steps_of i first_kept.run.entries ≡ []
+  no_step : (i : ℕ) → steps_of i first_kept.entries ≡ []
   no_step i = ap (steps_of i) no_entry
 
   pub opened : HasRun p l (words ++ others) others
@@ -77,12 +73,12 @@ module _ (p : Program) (l : Layout) (words others : List ℕ) (suits : Suits p l
     few = λ i. subst (λ (es : List Entry). length es ≤ MOST_BUDGET) (sym (no_step i)) (omega arith);
   }
 
-  pub none_yet : opened.keeps.run.entries ≡ []
+  pub none_yet : opened.keeps.entries ≡ []
   unfolding opened
   none_yet = no_entry
 
   pub untouched_known : (i : ℕ) → i < p.threads
-      → IsKnown p l opened.keeps.run.entries opened.run.actors (untouched p l i)
+      → IsKnown p l opened.keeps.entries opened.run.actors (untouched p l i)
   unfolding opened
   untouched_known i below = record {
     program = refl;

@@ -13,7 +13,7 @@ use Rattle.omi_step_words.specs.Placed.{IsPlaced}
 use Rattle.omi_actor.specs.Steps.{next_of}
 use Rattle.omi_core.specs.declared.entry.Entry.{Entry}
 use Rattle.omi_core.specs.Found.{actor_after, entry_at}
-use Rattle.omi_core.specs.Kept.{KeepsCore}
+use Rattle.omi_core.specs.Kept.{KeepsRun}
 use Rattle.omi_core.specs.Runs.{actors_in}
 use Rattle.omi_core.specs.RunSteps.{seats_of}
 use Rattle.omi_core.specs.Steps.{steps_of}
@@ -25,14 +25,14 @@ use Rattle.omi_seat.specs.Behind.{CanStep, HasRun}
 use Rattle.omi_seat.specs.Claims.{claims_from}
 use Rattle.omi_seat.specs.Known.{IsKnown, actor_known, claims_known, entry_known, finds, steps_known}
 use Rattle.omi_seat.proofs.Learnt.{actor_one_more, steps_found, steps_one_more}
-use Rattle.omi_seat.proofs.OneStep.{entry_of, few_members, next_core, next_core_entries, on_word, run_behind}
+use Rattle.omi_seat.proofs.OneStep.{entry_of, few_members, next_run, next_entries, on_word, run_behind}
 
 module _ (p : Program) (l : Layout) (words others : List ℕ) (h : HasRun p l words others) where
   -- where the others begin
   pub image_long : length h.run.words ≡ image_words l.table
-  image_long = h.keeps.run.count ∙ ap image_words h.table
+  image_long = h.keeps.count ∙ ap image_words h.table
 
-  module _ (x : Known) (is : IsKnown p l h.keeps.run.entries h.run.actors x) where
+  module _ (x : Known) (is : IsKnown p l h.keeps.entries h.run.actors x) where
     pub thread : x.thread < h.run.program.threads
     thread = subst (λ (q : Program). x.thread < q.threads) (sym h.program) is.thread
 
@@ -77,9 +77,9 @@ module _ (p : Program) (l : Layout) (words others : List ℕ) (h : HasRun p l wo
     -- what it asks for
     pub can_step : CanStep x.program x.layout.table (actor_known x)
     can_step =
-        let here = own h.run h.keeps.run x.thread thread in
+        let here = own h.run h.keeps x.thread thread in
         let count : length h.run.words ≡ image_words x.layout.table =
-        h.keeps.run.count ∙ ap image_words (sym table_is) in
+        h.keeps.count ∙ ap image_words (sym table_is) in
         record {
           fits = subst (λ (z : Program × Actor). Fits z.0 z.1) (λ k. (sym program_is k, sym actor_is k)) here.fits;
           placed = subst (λ (z : List ℕ × Actor). IsPlaced z.0 z.1) (λ k. (sym table_is k, sym actor_is k)) here.placed;
@@ -100,17 +100,17 @@ module _ (p : Program) (l : Layout) (words others : List ℕ) (h : HasRun p l wo
     -- ---- the run behind it
 
     abbrev pub entries_now : List (ℕ × Entry)
-    entries_now = h.keeps.run.entries ++ (x.thread, step) ∷ []
+    entries_now = h.keeps.entries ++ (x.thread, step) ∷ []
 
     steps_here : steps_of x.thread entries_now ≡ steps_known (finds step.old x)
     steps_here =
-        own_one_more x.thread h.keeps.run.entries step
+        own_one_more x.thread h.keeps.entries step
         ∙ ap (λ (es : List Entry). es ++ step ∷ []) is.steps
         ∙ ap (λ (f : Entry). steps_known x ++ f ∷ []) (sym (entry_is step.old))
         ∙ sym (steps_one_more x step.old)
 
-    steps_there : (j : ℕ) → j ≢ x.thread → steps_of j entries_now ≡ steps_of j h.keeps.run.entries
-    steps_there j other = other_one_more j x.thread h.keeps.run.entries step (λ same. other (sym same))
+    steps_there : (j : ℕ) → j ≢ x.thread → steps_of j entries_now ≡ steps_of j h.keeps.entries
+    steps_there j other = other_one_more j x.thread h.keeps.entries step (λ same. other (sym same))
 
     few_after : (j : ℕ) → length x.found < MOST_BUDGET → length (steps_of j entries_now) ≤ MOST_BUDGET
     few_after j room = go (j == x.thread) refl
@@ -126,12 +126,12 @@ module _ (p : Program) (l : Layout) (words others : List ℕ) (h : HasRun p l wo
             (sym (steps_there j (λ same. let yes : j == x.thread ≡ true = eq-eqb j x.thread same in cc (not, yes))))
             (h.few j)
 
-    next : KeepsCore (run_behind h.run x.thread)
-    next = next_core h.run h.keeps h.few x.thread thread
+    next : KeepsRun (run_behind h.run x.thread)
+    next = next_run h.run h.keeps h.few x.thread thread
 
-    next_has : next.run.entries ≡ entries_now
+    next_has : next.entries ≡ entries_now
     unfolding next
-    next_has = next_core_entries h.run h.keeps h.few x.thread thread
+    next_has = next_entries h.run h.keeps h.few x.thread thread
 
     pub run_now : length x.found < MOST_BUDGET
         → HasRun p l (slice_set words place (left_of step.op (slice_index words place))) others
@@ -144,7 +144,7 @@ module _ (p : Program) (l : Layout) (words others : List ℕ) (h : HasRun p l wo
       few = λ j. subst (λ es. length (steps_of j es) ≤ MOST_BUDGET) (sym next_has) (few_after j room);
     }
 
-    pub entries_are : (room : length x.found < MOST_BUDGET) → (run_now room).keeps.run.entries ≡ entries_now
+    pub entries_are : (room : length x.found < MOST_BUDGET) → (run_now room).keeps.entries ≡ entries_now
     unfolding run_now
     entries_are room = next_has
 
@@ -160,12 +160,12 @@ module _ (p : Program) (l : Layout) (words others : List ℕ) (h : HasRun p l wo
           get_or-set_same h.run.actors x.thread
           (actor_after h.run.program h.run.table (actors_in h.run.actors x.thread) step.old)
           (waiting_actor x.thread)
-          (subst (λ n. x.thread < n) (sym h.keeps.run.actors) thread)
+          (subst (λ n. x.thread < n) (sym h.keeps.actors) thread)
           ∙ sym (λ k. actor_after (program_is k) (table_is k) (actor_is k) step.old)
           ∙ sym (actor_one_more x step.old);
     }
 
-    known_beside : (z : Known) → z.thread ≢ x.thread → IsKnown p l h.keeps.run.entries h.run.actors z
+    known_beside : (z : Known) → z.thread ≢ x.thread → IsKnown p l h.keeps.entries h.run.actors z
         → IsKnown p l entries_now (run_behind h.run x.thread).actors z
     known_beside z other was = record {
       program = was.program;
@@ -180,15 +180,15 @@ module _ (p : Program) (l : Layout) (words others : List ℕ) (h : HasRun p l wo
     }
 
     pub known_now : (room : length x.found < MOST_BUDGET)
-        → IsKnown p l (run_now room).keeps.run.entries (run_now room).run.actors (finds step.old x)
+        → IsKnown p l (run_now room).keeps.entries (run_now room).run.actors (finds step.old x)
     unfolding run_now
     known_now room =
         subst (λ es. IsKnown p l es (run_behind h.run x.thread).actors (finds step.old x))
         (sym next_has) known_here
 
     pub known_there : (room : length x.found < MOST_BUDGET) (z : Known) → z.thread ≢ x.thread
-        → IsKnown p l h.keeps.run.entries h.run.actors z
-        → IsKnown p l (run_now room).keeps.run.entries (run_now room).run.actors z
+        → IsKnown p l h.keeps.entries h.run.actors z
+        → IsKnown p l (run_now room).keeps.entries (run_now room).run.actors z
     unfolding run_now
     known_there room z other was =
         subst (λ es. IsKnown p l es (run_behind h.run x.thread).actors z) (sym next_has)

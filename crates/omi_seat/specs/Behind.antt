@@ -9,7 +9,7 @@ use Rattle.omi_pc.specs.declared.actor.Actor.{Actor}
 use Rattle.omi_pc.specs.Fits.{Fits}
 use Rattle.omi_step_words.specs.Placed.{IsPlaced}
 use Rattle.omi_actor.specs.Steps.{next_of}
-use Rattle.omi_core.specs.Kept.{KeepsCore}
+use Rattle.omi_core.specs.Kept.{KeepsRun}
 use Rattle.omi_core.specs.Runs.{Run}
 use Rattle.omi_core.specs.Steps.{steps_of}
 use Rattle.omi_seat.specs.declared.limits.TheConstants.{MOST_BUDGET}
@@ -18,11 +18,11 @@ use Rattle.omi_seat.specs.declared.limits.TheConstants.{MOST_BUDGET}
 -- a budget may have, and behind them these others
 pub record HasRun (p : Program) (l : Layout) (words others : List ℕ) : Type 0 where
   pub run : Run
-  pub keeps : KeepsCore run
+  pub keeps : KeepsRun run
   pub program : run.program ≡ p
   pub table : run.table ≡ l.table
   pub are : words ≡ run.words ++ others
-  pub few : (i : ℕ) → length (steps_of i keeps.run.entries) ≤ MOST_BUDGET
+  pub few : (i : ℕ) → length (steps_of i keeps.entries) ≤ MOST_BUDGET
 
 -- an actor may make its next step: what its operation and its outcome ask for
 pub record CanStep (p : Program) (w : List ℕ) (a : Actor) : Type 0 where

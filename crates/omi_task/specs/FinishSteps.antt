@@ -75,13 +75,13 @@ behind_finish p None = counter.Plain Leave
 behind_finish p (Some wait.Taskyield) = counter.Look (look.Yield 0)
 behind_finish p (Some v) = counter.Look (if p.env.debug then look.State v else look.LoadRow v 0)
 
--- where the step found the word `old`. No step leads to the counters that give records back yet
+-- where the step found the word `old`
 abbrev pub finish_moved : Program → List ℕ → Actor → FinishCounter → ℕ → Actor
 finish_moved p w a finish.Finish old = past_finish a
 finish_moved p w a (finish.LoadGenerating v t) old =
     to_finish (finish.SubtractChildren v t (task_place w old)) a
 finish_moved p w a (finish.SubtractChildren v t generating) old =
-    to_finish (finish.SubtractPending v) a
+    to_finish (finish.SubtractReferences v t generating) a
 finish_moved p w a (finish.SubtractReferences v t generating) old =
     to_finish (if old == 1 then finish.Free v t generating else finish.SubtractPending v) a
 finish_moved p w a (finish.Free v t generating) old = to_finish (finish.LoadImplicit v generating) a

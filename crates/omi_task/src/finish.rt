@@ -137,7 +137,15 @@ pub fn finish_move(p: &Program, l: &Layout, a: &mut Actor, c: FinishCounter, old
             task,
             generating: task_place(l, old),
         },
-        FinishCounter::SubtractChildren { wait, .. } => FinishCounter::SubtractPending { wait },
+        FinishCounter::SubtractChildren {
+            wait,
+            task,
+            generating,
+        } => FinishCounter::SubtractReferences {
+            wait,
+            task,
+            generating,
+        },
         FinishCounter::SubtractReferences {
             wait,
             task,

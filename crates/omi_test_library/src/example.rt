@@ -1,6 +1,6 @@
 //! A worked example for a debugger's author: a session over two stops of one run.
 
-ghost use Rattle.std.specs.Prelude.{◌≡◌, IfOk};
+ghost use Rattle.std.specs.Prelude.{◌≡◌};
 ghost use Rattle.std.specs.Int.{from_le_bytes, w64};
 ghost use Rattle.std.specs.Int.{from_le_bytes, w64};
 ghost use Rattle.omi_calls.specs.Kept.{GivesNumbers, TakesAll};
@@ -17,10 +17,9 @@ use omi_asktask::{
 use omi_calls::{MemCalls, Table, ToHost};
 use omi_corefile::CoreImage;
 use omi_handle::{RegionHandle, TaskHandle, ThreadHandle};
-use omi_layout::{Field, Layout};
 use omi_model::{Id, Rid, Tid};
 use omi_session::{Rc, Session, initialize};
-use omi_test_targets::{Words, Wrong, two_stops};
+use omi_test_targets::{Wrong, two_stops};
 use std::alloc::Global;
 use std::cmp::Ordering;
 use std::test::Fail;
@@ -143,20 +142,6 @@ fn task_in(slot: u16) -> Tid {
     })
 }
 
-/// The core of a stop, in which the record of thread 0's fourth task has the life word of the next task in it.
-fn with_next_task(alloc: Global, core: &CoreImage) -> Result<CoreImage, Wrong>
-    ensures { IfOk result (λ core. core.order ≡ 0) }
-{
-    let layout = Layout::family(0, 4);
-    if layout.tasks_per_thread() < 4 {
-        return Err(Wrong::NoCore);
-    }
-    let record = layout.task_at(0, 3);
-    let words = Words::of(alloc, core, layout)?;
-    let life = words.at(record, Field::TaskLife, 0);
-    words.core(alloc, [(life, Some(3)); 2])
-}
-
 /// The handles that are kept from one stop to the next: of a thread, of its task and of its region.
 type Kept = (ThreadHandle, TaskHandle, RegionHandle);
 
@@ -196,8 +181,8 @@ fn first_stop<F: ToHost>(alloc: Global, s: &mut Stopped<F>) -> Result<(Kept, boo
     Ok(((thread, task, region), are_found && is_forked && is_named))
 }
 
-/// At the second stop the team is joined. The record of the task has another life word; that of the region was left alone, and
-/// answers as before.
+/// At the second stop the team is joined, and the record of its first member's task was given back. That of the region, which is
+/// given back behind those of all members, answers as before.
 fn second_stop<F: ToHost>(s: &mut Stopped<F>, kept: Kept) -> Result<bool, Wrong> {
     let (thread, task, region) = kept;
     let stale = get_task_function(s, task);
@@ -235,8 +220,7 @@ fn two_stops_by<F: ToHost + Copy>(alloc: Global, to_host: F) -> Result<bool, Wro
     requires takes { TakesAll (F.takes to_host) }
     requires gives { GivesNumbers (F.gives to_host) 0 }
 {
-    let (first, second) = two_stops(alloc, NESTED, [752, 148])?;
-    let second = with_next_task(alloc, &second)?;
+    let (first, second) = two_stops(alloc, NESTED, [752, 100])?;
     let calls = MemCalls::over(first, Vec::new(alloc));
     let mut s = open(alloc, Table::new(calls, 0, to_host))?;
     s.reserve(32)?;

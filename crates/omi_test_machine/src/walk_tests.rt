@@ -323,15 +323,30 @@ fn proposals(alloc: Global, s: &State, dice: &mut Dice) -> Result<Proposals, Out
     Ok(list)
 }
 
-/// The first legal event from some place on.
-fn pick(p: &Program, s: &State, list: &Proposals, from: usize) -> Option<(u8, Event)> {
+/// The first legal event from some place on: any, or one that gives a task back.
+fn first_legal(
+    p: &Program,
+    s: &State,
+    list: &Proposals,
+    from: usize,
+    frees: bool,
+) -> Option<(u8, Event)> {
     for k in 0..list.len() {
         let (thread, e) = *list.get(k.saturating_add(from) % list.len());
-        if legal(p, s, thread, &e) {
+        if (!frees || matches!(e, Event::FreeTask { .. })) && legal(p, s, thread, &e) {
             return Some((thread, e));
         }
     }
     None
+}
+
+/// The next event. A task that may be given back is: one that is passed over may live on, and then the barrier of its region is
+/// not released.
+fn pick(p: &Program, s: &State, list: &Proposals, from: usize) -> Option<(u8, Event)> {
+    match first_legal(p, s, list, from, true) {
+        Some(event) => Some(event),
+        None => first_legal(p, s, list, from, false),
+    }
 }
 
 /// Walks to the end of a program, with a view of each state for these contexts. None where no event is legal before, or

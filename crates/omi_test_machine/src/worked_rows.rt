@@ -51,14 +51,15 @@ pub const A_LIST_WITH_A_CHANGED_HEAD: Row = Row {
 /// Too few threads.
 pub const TOO_FEW_THREADS: Row = Row {
     script: "threads 3\nfunc f\nwork\nend\nfunc main\nparallel f num 4\nend\n",
-    events: "t0 enter; t1 begin; t2 begin; t0 state overhead 0; t1 offer; t2 offer; t0 want 4; t0 ask 1 got; t0 ask 2 got; \
-        t0 fork r0.1.0 size 3 team k0.1.0@0 k0.2.0@1 k0.3.0@2; t0 state work_parallel 0; t0 work; \
+    events: "t0 enter; t1 begin; t2 begin; t0 state overhead 0; t1 offer; t2 offer; t0 want 4; t0 ask 1 got; \
+        t0 ask 2 got; t0 fork r0.1.0 size 3 team k0.1.0@0 k0.2.0@1 k0.3.0@2; t0 state work_parallel 0; t0 work; \
         t0 state wait_barrier_implicit_parallel 0; t0 arrive; t1 implicit_begin k0.2.0; t1 state work_parallel 0; \
         t2 implicit_begin k0.3.0; t1 work; t2 state work_parallel 0; t1 state wait_barrier_implicit_parallel 0; \
         t2 work; t1 arrive; t2 state wait_barrier_implicit_parallel 0; t2 arrive; t0 release; t0 pass; t1 pass; \
         t1 implicit_end k0.2.0; t2 pass; t2 implicit_end k0.3.0; t1 state idle 0; t1 offer; t2 state idle 0; \
-        t0 join r0.1.0; t2 offer; t0 state work_serial 0; t0 leave; t0 state wait_barrier_implicit_parallel 0; \
-        t0 arrive; t0 release; t0 pass; t0 done",
+        t0 join r0.1.0; t0 free k0.1.0; t0 free k0.2.0; t0 free k0.3.0; t0 free r0.1.0; t2 offer; \
+        t0 state work_serial 0; t0 leave; t0 state wait_barrier_implicit_parallel 0; t0 arrive; t0 release; t0 pass; \
+        t0 done",
     forbidden: &[
         // a beginning twice, an offer before it, and a state too early
         (2, "t1 begin"),
@@ -98,6 +99,11 @@ pub const TOO_FEW_THREADS: Row = Row {
         // a join before a member ended, and member 0 that doesn't join
         (29, "t0 join r0.1.0"),
         (29, "t0 implicit_end k0.1.0"),
+        // a joined region that is passed over, before its last member's task is given back, and after it
+        (34, "t0 state work_serial 0"),
+        (36, "t0 state work_serial 0"),
+        (36, "t0 free r0.1.0"),
+        (37, "t0 state work_serial 0"),
     ],
     lawful: &[
         // events of two threads exchanged
@@ -133,12 +139,14 @@ pub const A_CONTESTED_WORKER: Row = Row {
         t0 fork r0.2.0 size 2 team k0.3.0@0 k0.4.0@2; t1 state work_parallel 0; t0 state work_parallel 0; t1 work; \
         t0 work; t1 state wait_barrier_implicit_parallel 0; t0 state wait_barrier_implicit_parallel 0; t1 arrive; \
         t0 arrive; t2 implicit_begin k0.4.0; t2 state work_parallel 0; t2 work; t1 release; \
-        t2 state wait_barrier_implicit_parallel 0; t1 pass; t2 arrive; t1 join r1.0.0; t1 state work_parallel 0; \
-        t1 leave; t0 release; t1 state wait_barrier_implicit_parallel 0; t0 pass; t1 arrive; t2 pass; \
-        t2 implicit_end k0.4.0; t2 state idle 0; t0 join r0.2.0; t2 offer; t0 state work_parallel 0; t0 leave; \
+        t2 state wait_barrier_implicit_parallel 0; t1 pass; t2 arrive; t1 join r1.0.0; t1 free k1.0.0; \
+        t1 free r1.0.0; t1 state work_parallel 0; t1 leave; t0 release; t1 state wait_barrier_implicit_parallel 0; \
+        t0 pass; t1 arrive; t2 pass; t2 implicit_end k0.4.0; t2 state idle 0; t0 join r0.2.0; t0 free k0.3.0; \
+        t0 free k0.4.0; t0 free r0.2.0; t2 offer; t0 state work_parallel 0; t0 leave; \
         t0 state wait_barrier_implicit_parallel 0; t0 arrive; t0 release; t0 pass; t1 pass; t1 implicit_end k0.2.0; \
-        t1 state idle 0; t0 join r0.1.0; t1 offer; t0 state work_serial 0; t0 leave; \
-        t0 state wait_barrier_implicit_parallel 0; t0 arrive; t0 release; t0 pass; t0 done",
+        t1 state idle 0; t0 join r0.1.0; t0 free k0.1.0; t0 free k0.2.0; t0 free r0.1.0; t1 offer; \
+        t0 state work_serial 0; t0 leave; t0 state wait_barrier_implicit_parallel 0; t0 arrive; t0 release; t0 pass; \
+        t0 done",
     forbidden: &[
         // a worker that is asked twice
         (13, "t0 ask 1 got"),
@@ -159,13 +167,14 @@ pub const LIMIT_OF_ACTIVE_LEVELS: Row = Row {
         t0 fork r0.1.0 size 2 team k0.1.0@0 k0.2.0@1; t0 state work_parallel 0; t0 enter; t0 state overhead 0; \
         t0 want 1; t0 fork r0.2.0 size 1 team k0.3.0@0; t0 state work_parallel 0; t0 work; \
         t0 state wait_barrier_implicit_parallel 0; t0 arrive; t1 implicit_begin k0.2.0; t1 state work_parallel 0; \
-        t1 enter; t0 release; t1 state overhead 0; t0 pass; t0 join r0.2.0; t0 state work_parallel 0; t0 leave; \
-        t0 state wait_barrier_implicit_parallel 0; t0 arrive; t1 want 1; t1 fork r1.0.0 size 1 team k1.0.0@1; \
-        t1 state work_parallel 0; t1 work; t1 state wait_barrier_implicit_parallel 0; t1 arrive; t1 release; t1 pass; \
-        t1 join r1.0.0; t1 state work_parallel 0; t1 leave; t1 state wait_barrier_implicit_parallel 0; t1 arrive; \
-        t0 release; t0 pass; t1 pass; t1 implicit_end k0.2.0; t1 state idle 0; t0 join r0.1.0; t1 offer; \
-        t0 state work_serial 0; t0 leave; t0 state wait_barrier_implicit_parallel 0; t0 arrive; t0 release; t0 pass; \
-        t0 done",
+        t1 enter; t0 release; t1 state overhead 0; t0 pass; t0 join r0.2.0; t0 free k0.3.0; t0 free r0.2.0; \
+        t0 state work_parallel 0; t0 leave; t0 state wait_barrier_implicit_parallel 0; t0 arrive; t1 want 1; \
+        t1 fork r1.0.0 size 1 team k1.0.0@1; t1 state work_parallel 0; t1 work; \
+        t1 state wait_barrier_implicit_parallel 0; t1 arrive; t1 release; t1 pass; t1 join r1.0.0; t1 free k1.0.0; \
+        t1 free r1.0.0; t1 state work_parallel 0; t1 leave; t1 state wait_barrier_implicit_parallel 0; t1 arrive; \
+        t0 release; t0 pass; t1 pass; t1 implicit_end k0.2.0; t1 state idle 0; t0 join r0.1.0; t0 free k0.1.0; \
+        t0 free k0.2.0; t0 free r0.1.0; t1 offer; t0 state work_serial 0; t0 leave; \
+        t0 state wait_barrier_implicit_parallel 0; t0 arrive; t0 release; t0 pass; t0 done",
     forbidden: &[
         // more threads than the limit of active levels allows
         (10, "t0 want 2"),
@@ -183,10 +192,11 @@ pub const LIMIT_OF_ACTIVE_LEVELS: Row = Row {
 /// An ended ancestor.
 pub const AN_ENDED_ANCESTOR: Row = Row {
     script: "threads 1\nfunc b\nwork\nend\nfunc a\ntask b\nend\nfunc main\ntask a\nend\n",
-    events: "t0 enter; t0 defer k0.1.0; t0 leave; t0 state wait_barrier_implicit_parallel 0; t0 arrive; t0 start k0.1.0; \
-        t0 state work_serial 0; t0 enter; t0 defer k0.2.0; t0 leave; t0 finish k0.1.0; \
+    events: "t0 enter; t0 defer k0.1.0; t0 leave; t0 state wait_barrier_implicit_parallel 0; t0 arrive; \
+        t0 start k0.1.0; t0 state work_serial 0; t0 enter; t0 defer k0.2.0; t0 leave; t0 finish k0.1.0; \
         t0 state wait_barrier_implicit_parallel 0; t0 start k0.2.0; t0 state work_serial 0; t0 work; \
-        t0 finish k0.2.0; t0 state wait_barrier_implicit_parallel 0; t0 release; t0 pass; t0 done",
+        t0 finish k0.2.0; t0 free k0.2.0; t0 free k0.1.0; t0 state wait_barrier_implicit_parallel 0; t0 release; \
+        t0 pass; t0 done",
     forbidden: &[
         // a deferred task that starts at once, and an empty place that is seen taken
         (1, "t0 start_now k0.1.0"),
@@ -200,6 +210,12 @@ pub const AN_ENDED_ANCESTOR: Row = Row {
         // a finished task starts again
         (12, "t0 start k0.1.0"),
         (12, "t0 finish k0.2.0"),
+        // a task with a live child is given back, and one before its child
+        (11, "t0 free k0.1.0"),
+        (16, "t0 free k0.1.0"),
+        // a task twice, and the task of a region that is not joined
+        (17, "t0 free k0.2.0"),
+        (18, "t0 free k0.0.0"),
     ],
     lawful: &[
         // another free slot
@@ -220,19 +236,20 @@ pub const AN_ENDED_ANCESTOR: Row = Row {
 /// A full row of slots.
 pub const A_FULL_ROW_OF_SLOTS: Row = Row {
     script: "threads 1\nfunc t\nwork\nend\nfunc main\ntask t\ntask t\ntask t\ntask t\ntask t\ntask t\ntask t\ntask t\nend\n",
-    events: "t0 enter; t0 defer k0.1.0; t0 leave; t0 enter; t0 seen 0; t0 defer k0.2.0; t0 leave; t0 enter; t0 seen 0; \
-        t0 seen 1; t0 defer k0.3.0; t0 leave; t0 enter; t0 seen 0; t0 seen 1; t0 seen 2; t0 defer k0.4.0; t0 leave; \
-        t0 enter; t0 seen 0; t0 seen 1; t0 seen 2; t0 seen 3; t0 start_now k0.5.0; t0 work; t0 finish k0.5.0; \
-        t0 leave; t0 enter; t0 seen 0; t0 seen 1; t0 seen 2; t0 seen 3; t0 start_now k0.6.0; t0 work; \
-        t0 finish k0.6.0; t0 leave; t0 enter; t0 seen 0; t0 seen 1; t0 seen 2; t0 seen 3; t0 start_now k0.7.0; \
-        t0 work; t0 finish k0.7.0; t0 leave; t0 enter; t0 seen 0; t0 seen 1; t0 seen 2; t0 seen 3; \
-        t0 start_now k0.8.0; t0 work; t0 finish k0.8.0; t0 leave; t0 state wait_barrier_implicit_parallel 0; \
-        t0 arrive; t0 start k0.1.0; t0 state work_serial 0; t0 work; t0 finish k0.1.0; \
-        t0 state wait_barrier_implicit_parallel 0; t0 start k0.2.0; t0 state work_serial 0; t0 work; \
-        t0 finish k0.2.0; t0 state wait_barrier_implicit_parallel 0; t0 start k0.3.0; t0 state work_serial 0; \
-        t0 work; t0 finish k0.3.0; t0 state wait_barrier_implicit_parallel 0; t0 start k0.4.0; \
-        t0 state work_serial 0; t0 work; t0 finish k0.4.0; t0 state wait_barrier_implicit_parallel 0; t0 release; \
-        t0 pass; t0 done",
+    events: "t0 enter; t0 defer k0.1.0; t0 leave; t0 enter; t0 seen 0; t0 defer k0.2.0; t0 leave; t0 enter; \
+        t0 seen 0; t0 seen 1; t0 defer k0.3.0; t0 leave; t0 enter; t0 seen 0; t0 seen 1; t0 seen 2; t0 defer k0.4.0; \
+        t0 leave; t0 enter; t0 seen 0; t0 seen 1; t0 seen 2; t0 seen 3; t0 start_now k0.5.0; t0 work; \
+        t0 finish k0.5.0; t0 free k0.5.0; t0 leave; t0 enter; t0 seen 0; t0 seen 1; t0 seen 2; t0 seen 3; \
+        t0 start_now k0.6.0; t0 work; t0 finish k0.6.0; t0 free k0.6.0; t0 leave; t0 enter; t0 seen 0; t0 seen 1; \
+        t0 seen 2; t0 seen 3; t0 start_now k0.7.0; t0 work; t0 finish k0.7.0; t0 free k0.7.0; t0 leave; t0 enter; \
+        t0 seen 0; t0 seen 1; t0 seen 2; t0 seen 3; t0 start_now k0.8.0; t0 work; t0 finish k0.8.0; t0 free k0.8.0; \
+        t0 leave; t0 state wait_barrier_implicit_parallel 0; t0 arrive; t0 start k0.1.0; t0 state work_serial 0; \
+        t0 work; t0 finish k0.1.0; t0 free k0.1.0; t0 state wait_barrier_implicit_parallel 0; t0 start k0.2.0; \
+        t0 state work_serial 0; t0 work; t0 finish k0.2.0; t0 free k0.2.0; \
+        t0 state wait_barrier_implicit_parallel 0; t0 start k0.3.0; t0 state work_serial 0; t0 work; \
+        t0 finish k0.3.0; t0 free k0.3.0; t0 state wait_barrier_implicit_parallel 0; t0 start k0.4.0; \
+        t0 state work_serial 0; t0 work; t0 finish k0.4.0; t0 free k0.4.0; \
+        t0 state wait_barrier_implicit_parallel 0; t0 release; t0 pass; t0 done",
     forbidden: &[
         // a place seen again, an empty one, and a name that lives
         (5, "t0 seen 0"),
@@ -247,19 +264,19 @@ pub const A_FULL_ROW_OF_SLOTS: Row = Row {
         (24, "t0 leave"),
         (24, "t0 finish k0.5.0"),
         // a release, and a finished task, in place of a deferred one
-        (56, "t0 release"),
-        (56, "t0 start k0.5.0"),
+        (60, "t0 release"),
+        (60, "t0 start k0.5.0"),
     ],
     lawful: &[
         // deferred tasks in another order
         Version {
-            at: 56,
-            instead: 20,
-            lines: "t0 start k0.4.0; t0 state work_serial 0; t0 work; t0 finish k0.4.0; \
+            at: 60,
+            instead: 24,
+            lines: "t0 start k0.4.0; t0 state work_serial 0; t0 work; t0 finish k0.4.0; t0 free k0.4.0; \
             t0 state wait_barrier_implicit_parallel 0; t0 start k0.2.0; t0 state work_serial 0; t0 work; \
-            t0 finish k0.2.0; t0 state wait_barrier_implicit_parallel 0; t0 start k0.1.0; \
-            t0 state work_serial 0; t0 work; t0 finish k0.1.0; t0 state wait_barrier_implicit_parallel 0; \
-            t0 start k0.3.0; t0 state work_serial 0; t0 work; t0 finish k0.3.0; \
+            t0 finish k0.2.0; t0 free k0.2.0; t0 state wait_barrier_implicit_parallel 0; t0 start k0.1.0; \
+            t0 state work_serial 0; t0 work; t0 finish k0.1.0; t0 free k0.1.0; t0 state wait_barrier_implicit_parallel 0; \
+            t0 start k0.3.0; t0 state work_serial 0; t0 work; t0 finish k0.3.0; t0 free k0.3.0; \
             t0 state wait_barrier_implicit_parallel 0",
         },
     ],
@@ -270,15 +287,17 @@ pub const A_FULL_ROW_OF_SLOTS: Row = Row {
 pub const NESTED_CHAIN: Row = Row {
     script: "threads 2\nfunc leaf\nwork\nend\nfunc h\nparallel leaf num 1\nend\nfunc g\ntask h\nend\nfunc f\nonly 0 g\nend\nfunc main\nparallel f num 2\nend\n",
     events: "t1 begin; t1 offer; t0 enter; t0 state overhead 0; t0 want 2; t0 ask 1 got; \
-        t0 fork r0.1.0 size 2 team k0.1.0@0 k0.2.0@1; t0 state work_parallel 0; t0 call 2; t0 enter; t0 defer k0.3.0; \
-        t1 implicit_begin k0.2.0; t1 state work_parallel 0; t1 skip; t1 state wait_barrier_implicit_parallel 0; \
-        t1 arrive; t1 start k0.3.0; t1 state work_parallel 0; t1 enter; t1 state overhead 0; t1 want 1; \
-        t1 fork r1.0.0 size 1 team k1.0.0@1; t0 leave; t1 state work_parallel 0; t0 ret; t1 work; \
-        t0 state wait_barrier_implicit_parallel 0; t1 state wait_barrier_implicit_parallel 0; t0 arrive; t1 arrive; \
-        t1 release; t1 pass; t1 join r1.0.0; t1 state work_parallel 0; t1 leave; t1 finish k0.3.0; \
+        t0 fork r0.1.0 size 2 team k0.1.0@0 k0.2.0@1; t0 state work_parallel 0; t0 call 2; t0 enter; \
+        t0 defer k0.3.0; t1 implicit_begin k0.2.0; t1 state work_parallel 0; t1 skip; \
+        t1 state wait_barrier_implicit_parallel 0; t1 arrive; t1 start k0.3.0; t1 state work_parallel 0; t1 enter; \
+        t1 state overhead 0; t1 want 1; t1 fork r1.0.0 size 1 team k1.0.0@1; t0 leave; t1 state work_parallel 0; \
+        t0 ret; t1 work; t0 state wait_barrier_implicit_parallel 0; t1 state wait_barrier_implicit_parallel 0; \
+        t0 arrive; t1 arrive; t1 release; t1 pass; t1 join r1.0.0; t1 free k1.0.0; t1 free r1.0.0; \
+        t1 state work_parallel 0; t1 leave; t1 finish k0.3.0; t1 free k0.3.0; \
         t1 state wait_barrier_implicit_parallel 0; t0 release; t0 pass; t1 pass; t1 implicit_end k0.2.0; \
-        t1 state idle 0; t0 join r0.1.0; t1 offer; t0 state work_serial 0; t0 leave; \
-        t0 state wait_barrier_implicit_parallel 0; t0 arrive; t0 release; t0 pass; t0 done",
+        t1 state idle 0; t0 join r0.1.0; t0 free k0.1.0; t0 free k0.2.0; t0 free r0.1.0; t1 offer; \
+        t0 state work_serial 0; t0 leave; t0 state wait_barrier_implicit_parallel 0; t0 arrive; t0 release; t0 pass; \
+        t0 done",
     forbidden: &[
         // a call that is not passed over by member 0
         (8, "t0 skip"),
@@ -288,7 +307,9 @@ pub const NESTED_CHAIN: Row = Row {
         // a call that is passed over by member 1
         (13, "t1 call 2"),
         // a barrier that is passed before its release
-        (37, "t1 pass"),
+        (40, "t1 pass"),
+        // a release while a finished task of another thread lives
+        (38, "t0 release"),
         // a release while the task of another thread is unfinished
         (29, "t0 release"),
         (29, "t1 join r1.0.0"),
@@ -324,24 +345,24 @@ pub const NESTED_CHAIN: Row = Row {
 pub const WAITS_AND_A_LOCK: Row = Row {
     script: "threads 1\nfunc w\nwork\nend\nfunc main\ntask w\ntaskwait\ntaskyield\ncritical 3 w\ntool 77\nend\n",
     events: "t0 enter; t0 defer k0.1.0; t0 leave; t0 enter; t0 state wait_taskwait 0; t0 start k0.1.0; \
-        t0 state work_serial 0; t0 work; t0 finish k0.1.0; t0 state wait_taskwait 0; t0 wait_done; \
+        t0 state work_serial 0; t0 work; t0 finish k0.1.0; t0 free k0.1.0; t0 state wait_taskwait 0; t0 wait_done; \
         t0 state work_serial 0; t0 leave; t0 enter; t0 yield; t0 leave; t0 enter; t0 state wait_critical 4; \
         t0 lock 3; t0 state work_serial 0; t0 leave; t0 call 0; t0 work; t0 ret; t0 unlock 3; t0 tool 77; \
         t0 state wait_barrier_implicit_parallel 0; t0 arrive; t0 release; t0 pass; t0 done",
     forbidden: &[
         // the end of a wait before the child has finished, and a yield before its task entered
         (5, "t0 wait_done"),
-        (13, "t0 yield"),
+        (14, "t0 yield"),
         // a lock too early, and another one
-        (17, "t0 lock 3"),
-        (18, "t0 lock 2"),
+        (18, "t0 lock 3"),
+        (19, "t0 lock 2"),
         // a return and a giving back too early, and another lock's
-        (22, "t0 ret"),
-        (23, "t0 unlock 3"),
-        (24, "t0 unlock 2"),
+        (23, "t0 ret"),
+        (24, "t0 unlock 3"),
+        (25, "t0 unlock 2"),
         // a tool word too early, and another one
-        (24, "t0 tool 77"),
-        (25, "t0 tool 78"),
+        (25, "t0 tool 77"),
+        (26, "t0 tool 78"),
     ],
     lawful: &[],
     reported: &[],
@@ -357,9 +378,9 @@ pub const A_FREED_REGION: Row = Row {
         t1 implicit_end k0.2.0; t1 state idle 0; t0 join r0.1.0; t0 free k0.1.0; t0 free k0.2.0; t0 free r0.1.0; \
         t1 offer; t0 state work_serial 0; t0 leave; t0 enter; t0 state overhead 0; t0 want 1; \
         t0 fork r0.1.1 size 1 team k0.1.1@0; t0 state work_parallel 0; t0 work; \
-        t0 state wait_barrier_implicit_parallel 0; t0 arrive; t0 release; t0 pass; t0 join r0.1.1; \
-        t0 state work_serial 0; t0 leave; t0 state wait_barrier_implicit_parallel 0; t0 arrive; t0 release; t0 pass; \
-        t0 done",
+        t0 state wait_barrier_implicit_parallel 0; t0 arrive; t0 release; t0 pass; t0 join r0.1.1; t0 free k0.1.1; \
+        t0 free r0.1.1; t0 state work_serial 0; t0 leave; t0 state wait_barrier_implicit_parallel 0; t0 arrive; \
+        t0 release; t0 pass; t0 done",
     forbidden: &[
         // members whose region is not joined: one that runs, and one that has ended
         (21, "t0 free k0.1.0"),
@@ -381,29 +402,23 @@ pub const A_FREED_REGION: Row = Row {
         (31, "t0 fork r0.1.0 size 1 team k0.1.1@0"),
         (31, "t0 fork r0.1.1 size 1 team k0.1.0@0"),
         (31, "t0 fork r0.1.2 size 1 team k0.1.1@0"),
-        // what was passed over
-        (40, "t0 free k0.1.1"),
+        // a region that is passed over
+        (22, "t0 state work_serial 0"),
+        (24, "t0 state work_serial 0"),
+        (39, "t0 state work_serial 0"),
     ],
     lawful: &[
-        // the second region is given back, too
+        // the second region has other names
         Version {
-            at: 39,
-            instead: 0,
-            lines: "t0 free k0.1.1; t0 free r0.1.1",
-        },
-        // nothing is given back, and the second region has other names
-        Version {
-            at: 22,
+            at: 31,
             instead: ALL,
-            lines: "t1 offer; t0 state work_serial 0; t0 leave; t0 enter; t0 state overhead 0; t0 want 1; \
-                t0 fork r0.2.0 size 1 team k0.3.0@0",
+            lines: "t0 fork r0.2.0 size 1 team k0.3.0@0; t0 state work_parallel 0; t0 work",
         },
-        // a member's task is given back, and the region is left
+        // another thread goes on between two members
         Version {
             at: 23,
-            instead: ALL,
-            lines: "t1 offer; t0 state work_serial 0; t0 leave; t0 enter; t0 state overhead 0; t0 want 1; \
-                t0 fork r0.2.0 size 1 team k0.1.1@0",
+            instead: 3,
+            lines: "t1 offer; t0 free k0.2.0; t0 free r0.1.0",
         },
     ],
     reported: &[(
@@ -413,58 +428,57 @@ pub const A_FREED_REGION: Row = Row {
     )],
 };
 
-/// An explicit task of a joined region that was not given back.
+/// A finished task that is passed over lives on, and the barrier of its region is not released.
 pub const A_TASK_THAT_IS_LEFT: Row = Row {
     script: "threads 1\nfunc w\nwork\nend\nfunc f\ntask w if 0\nend\nfunc main\nparallel f num 1\nend\n",
     events: "t0 enter; t0 state overhead 0; t0 want 1; t0 fork r0.1.0 size 1 team k0.1.0@0; t0 state work_parallel 0; \
         t0 enter; t0 start_now k0.2.0; t0 work; t0 finish k0.2.0; t0 leave; \
-        t0 state wait_barrier_implicit_parallel 0; t0 arrive; t0 release; t0 pass; t0 join r0.1.0; \
-        t0 state work_serial 0; t0 leave; t0 state wait_barrier_implicit_parallel 0; t0 arrive; t0 release; t0 pass; \
-        t0 done",
+        t0 state wait_barrier_implicit_parallel 0; t0 arrive",
     forbidden: &[
         // the generating task that goes on, and the one that was passed over
         (9, "t0 free k0.1.0"),
         (10, "t0 free k0.2.0"),
-        // a member with a live explicit task of its region, and the region
-        (15, "t0 free k0.1.0"),
-        (15, "t0 free k0.2.0"),
-        (15, "t0 free r0.1.0"),
+        (12, "t0 free k0.2.0"),
+        // a release while it lives
+        (12, "t0 release"),
+        (12, "t0 pass"),
     ],
     lawful: &[
-        // each is given back
+        // it is given back, and the run goes on to its end
         Version {
             at: 9,
-            instead: 6,
+            instead: ALL,
             lines: "t0 free k0.2.0; t0 leave; t0 state wait_barrier_implicit_parallel 0; t0 arrive; t0 release; t0 pass; \
-                t0 join r0.1.0; t0 free k0.1.0; t0 free r0.1.0",
+                t0 join r0.1.0; t0 free k0.1.0; t0 free r0.1.0; t0 state work_serial 0; t0 leave; \
+                t0 state wait_barrier_implicit_parallel 0; t0 arrive; t0 release; t0 pass; t0 done",
         },
     ],
     reported: &[],
 };
 
-/// A region in another one, of which only the member's task was given back.
-pub const A_REGION_THAT_IS_LEFT: Row = Row {
+/// A region in another one: both are given back.
+pub const A_REGION_IN_ANOTHER: Row = Row {
     script: "threads 1\nfunc w\nwork\nend\nfunc g\nparallel w num 1\nend\nfunc main\nparallel g num 1\nend\n",
     events: "t0 enter; t0 state overhead 0; t0 want 1; t0 fork r0.1.0 size 1 team k0.1.0@0; t0 state work_parallel 0; \
         t0 enter; t0 state overhead 0; t0 want 1; t0 fork r0.2.0 size 1 team k0.2.0@0; t0 state work_parallel 0; \
         t0 work; t0 state wait_barrier_implicit_parallel 0; t0 arrive; t0 release; t0 pass; t0 join r0.2.0; \
-        t0 free k0.2.0; t0 state work_parallel 0; t0 leave; t0 state wait_barrier_implicit_parallel 0; t0 arrive; \
-        t0 release; t0 pass; t0 join r0.1.0; t0 state work_serial 0; t0 leave; \
-        t0 state wait_barrier_implicit_parallel 0; t0 arrive; t0 release; t0 pass; t0 done",
+        t0 free k0.2.0; t0 free r0.2.0; t0 state work_parallel 0; t0 leave; \
+        t0 state wait_barrier_implicit_parallel 0; t0 arrive; t0 release; t0 pass; t0 join r0.1.0; t0 free k0.1.0; \
+        t0 free r0.1.0; t0 state work_serial 0; t0 leave; t0 state wait_barrier_implicit_parallel 0; t0 arrive; \
+        t0 release; t0 pass; t0 done",
     forbidden: &[
-        // a member of a region that encloses a live one, and the regions
-        (24, "t0 free k0.1.0"),
-        (24, "t0 free r0.1.0"),
-        (24, "t0 free r0.2.0"),
+        // the region is passed over, or left behind its member's task
+        (16, "t0 state work_parallel 0"),
+        (16, "t0 free r0.2.0"),
+        (17, "t0 state work_parallel 0"),
+        // the enclosing region and its member
+        (17, "t0 free k0.1.0"),
+        (17, "t0 free r0.1.0"),
+        (25, "t0 free r0.1.0"),
+        // the inner region twice
+        (25, "t0 free k0.2.0"),
+        (26, "t0 free r0.2.0"),
     ],
-    lawful: &[
-        // each is given back
-        Version {
-            at: 17,
-            instead: 7,
-            lines: "t0 free r0.2.0; t0 state work_parallel 0; t0 leave; t0 state wait_barrier_implicit_parallel 0; \
-                t0 arrive; t0 release; t0 pass; t0 join r0.1.0; t0 free k0.1.0; t0 free r0.1.0",
-        },
-    ],
+    lawful: &[],
     reported: &[],
 };

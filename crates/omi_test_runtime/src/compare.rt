@@ -202,14 +202,14 @@ impl<'a> Look<'a> {
         )
     }
 
-    /// The life word of a slot: of its live object, or past those that it had.
+    /// The life word of a slot: of its live object, or past those that it had, where the record may be taken for the next one.
     fn life<T: Drop>(&self, record: Place, field: Field, slot: &Slot<T>) -> Result<(), Difference> {
         let had = slot.generations.wrapping_mul(2);
         if slot.live.is_some() {
             return self.is(record, field, had.wrapping_sub(1));
         }
         match word(self.layout, self.image, record, field, 0) {
-            Some(found) if had <= found => Ok(()),
+            Some(found) if found == had.wrapping_add(1) => Ok(()),
             _ => self.is(record, field, had),
         }
     }

@@ -8,6 +8,12 @@ mod end_tests;
 #[cfg(test)]
 mod family_tests;
 #[cfg(test)]
+mod few_scripts;
+#[cfg(test)]
+mod few_tests;
+#[cfg(test)]
+mod given_back_tests;
+#[cfg(test)]
 mod lines;
 #[cfg(test)]
 mod look;

@@ -1,8 +1,8 @@
-//! The operations of worked runs, step by step, in the layout of family 0 for two threads. Its arenas begin at the words 99, 112, 124
-//! and 540, and their records have 13, 6, 13 and 26 words.
+//! The operations of worked runs, step by step, in the layout of family 0. For two threads its arenas begin at the words 99, 112, 124
+//! and 540, and their records have 13, 6, 13 and 26 words; for one thread at the words 99, 112, 118 and 310, with 13, 6, 12 and 26 words.
 
 use crate::moves::follow;
-use crate::scripts::{EACH_PLAIN_STATEMENT, TWO_TASKS};
+use crate::scripts::{A_TEAM_AND_A_TASK, EACH_PLAIN_STATEMENT, TWO_TASKS};
 use crate::trial::{Looks, Trial, Wrong};
 use omi_core::Core;
 use omi_run_lists::Made;
@@ -224,8 +224,9 @@ fn variables_calls_and_a_lock(rt: HostRuntime) -> Result<(), Fail> {
 }
 
 /// A task is deferred into the first empty slot of its thread, twice: the slots, the data environment, the record, the three counts, the
-/// slot. At the barrier the first is taken from its slot and starts, and finishes: its generating task, and the two counts. Then the
-/// second starts.
+/// slot. At the barrier the first is taken from its slot and starts, and finishes: its generating task, whose count of children is lowered; its
+/// own references, of which this was the last one, and its life word, so it is given back; the references of the generating task, which is
+/// implicit; and the count of the region. Then the second starts.
 const THE_TASKS: &str = "\
 store @549 0x7f00000fffa0 found 0
 load @562 found 0
@@ -330,6 +331,10 @@ store @114 @566 found @540
 store @114 @540 found @566
 load @571 found @540
 subtract @556 1 found 2
+subtract @583 1 found 1
+store @566 2 found 1
+load @541 found 1
+subtract @557 1 found 2
 subtract @133 1 found 2
 load @135 found @540
 load @562 found 0
@@ -347,5 +352,139 @@ store @114 @592 found @540";
 #[test]
 fn two_tasks(rt: HostRuntime) -> Result<(), Fail> {
     assert!(rt; runs(rt.alloc(), TWO_TASKS, "0 until start k0.2.0", THE_TASKS)?);
+    Ok(())
+}
+
+/// A team of one that is joined, and a task that starts at once. Behind the join: the task of the member and its life word, which is given back, and the
+/// life word of the region, too. The task takes the record that the member's task had, whose words it finds; behind its end, the words of the counts:
+/// the children of its generating task, its own references and its life word, the references of the generating task, and the tasks of the region.
+const THE_RECORDS: &str = "\
+store @319 0x7f00000fffa0 found 0
+load @123 found 0
+load @124 found 0
+load @320 found 0
+load @321 found 1
+load @322 found 1
+load @323 found 0
+load @328 found 1
+load @329 found 0
+load @330 found 0
+load @331 found 0
+load @103 found 8
+load @118 found 1
+load @130 found 0
+store @130 1 found 0
+store @131 0x400000 found 0
+store @132 @118 found 0
+store @133 @310 found 0
+store @134 1 found 0
+store @135 1 found 0
+store @136 0 found 0
+store @137 0 found 0
+store @138 0 found 0
+store @139 0 found 0
+store @140 0 found 0
+load @310 found 1
+load @336 found 0
+store @336 1 found 0
+store @337 1 found 0
+store @338 @130 found 0
+store @339 @112 found 0
+store @340 0 found 0
+store @341 @310 found 0
+store @342 @310 found 0
+store @343 0x400000 found 0
+store @344 0x7f00000fff80 found 0
+store @345 0 found 0
+store @346 0 found 0
+store @347 1 found 0
+store @348 1 found 0
+store @349 0 found 0
+store @350 0 found 0
+store @351 0 found 0
+store @352 0 found 0
+store @353 0 found 0
+store @354 1 found 0
+store @355 0 found 0
+store @356 0 found 0
+store @357 0 found 0
+store @358 0 found 0
+store @359 0 found 0
+store @360 0 found 0
+store @361 0 found 0
+store @141 @336 found 0
+store @114 @336 found @310
+add @138 1 found 0
+load @141 found @336
+load @358 found 0
+load @359 found 0
+load @360 found 0
+load @361 found 0
+load @138 found 1
+load @139 found 0
+store @137 1 found 0
+load @137 found 1
+load @140 found 0
+store @114 @310 found @336
+load @141 found @336
+load @336 found 1
+store @336 2 found 1
+store @130 2 found 1
+store @319 0 found 0x7f00000fffa0
+store @319 0x7f00000fffa0 found 0
+load @320 found 0
+load @321 found 1
+load @322 found 1
+load @323 found 0
+load @328 found 1
+load @329 found 0
+load @330 found 0
+load @331 found 0
+load @310 found 1
+load @336 found 2
+store @336 3 found 2
+store @337 0 found 1
+store @338 @118 found @130
+store @339 @112 found @112
+store @340 0 found 0
+store @341 @310 found @310
+store @342 @310 found @310
+store @343 0x400000 found 0x400000
+store @344 0x7f00000fff80 found 0x7f00000fff80
+store @345 0 found 0
+store @346 0 found 0
+store @347 1 found 1
+store @348 1 found 1
+store @349 0 found 0
+store @350 0 found 0
+store @351 0 found 0
+store @352 0 found 0
+store @353 1 found 0
+store @354 1 found 1
+store @355 0 found 0
+store @356 0 found 0
+store @357 0 found 0
+store @358 0 found 0
+store @359 0 found 0
+store @360 0 found 0
+store @361 0 found 0
+add @127 1 found 0
+add @326 1 found 0
+add @327 1 found 0
+store @114 @336 found @310
+store @114 @310 found @336
+load @341 found @310
+subtract @326 1 found 1
+subtract @353 1 found 1
+store @336 4 found 3
+load @311 found 1
+subtract @327 1 found 1
+subtract @127 1 found 1
+store @319 0 found 0x7f00000fffa0";
+
+#[test]
+fn records_given_back(rt: HostRuntime) -> Result<(), Fail> {
+    let moves = "0 until free r0.1.0\n0 until leave\n0 until leave";
+    assert!(rt; runs(rt.alloc(), A_TEAM_AND_A_TASK, moves, THE_RECORDS)?);
     Ok(())
 }

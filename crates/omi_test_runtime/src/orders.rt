@@ -64,6 +64,15 @@ pub enum Manner {
     Slow(u8),
 }
 
+/// The manner of an order by its number.
+pub fn manner_of(order: u64) -> Manner {
+    match order % 4 {
+        0 => Manner::Bursts,
+        1 => Manner::Slow((order / 4 % 3) as u8),
+        _ => Manner::Even,
+    }
+}
+
 /// For how many steps the thread that is drawn goes on.
 fn burst(manner: Manner, i: u8, dice: &mut Dice) -> u64 {
     match manner {
@@ -102,4 +111,25 @@ pub fn at_random(t: &mut Trial, manner: Manner, dice: &mut Dice, most: u64) -> R
         }
     }
     t.compare()
+}
+
+/// So many steps in a random order, and then an even one up to the end of the program, in fewer than so many steps.
+pub fn to_the_end(
+    t: &mut Trial,
+    manner: Manner,
+    dice: &mut Dice,
+    most: (u64, u64),
+) -> Result<(), Wrong> {
+    let (first, all) = most;
+    at_random(t, manner, dice, first)?;
+    for _ in 0..all {
+        if let Some(Outcome::Ended) = t.step(0)? {
+            return t.compare();
+        }
+        if t.core().steps() >= all {
+            break;
+        }
+        at_random(t, Manner::Even, dice, all)?;
+    }
+    Err(Wrong::TooLong)
 }

@@ -1,6 +1,6 @@
 //! Random orders of threads over many workloads, each step judged by the machine.
 
-use crate::orders::{Dice, Manner, at_random};
+use crate::orders::{Dice, at_random, manner_of};
 use crate::scripts::{CALLS, EXAMPLES, LEVELS, MANY_THREADS, SETTINGS, TASKS, TEAMS};
 use crate::trial::{Looks, Trial, Wrong};
 use std::alloc::Global;
@@ -18,15 +18,6 @@ const ORDERS_OF_MANY: u64 = 24;
 /// More steps than a run has.
 const MOST: u64 = 6_000;
 
-/// The manner of an order.
-fn manner(order: u64) -> Manner {
-    match order % 4 {
-        0 => Manner::Bursts,
-        1 => Manner::Slow((order / 4 % 3) as u8),
-        _ => Manner::Even,
-    }
-}
-
 /// Judges a workload in an order, in the layout of some family.
 fn judged(alloc: Global, script: &str, order: u64, dice: &mut Dice) -> Result<Trial, Wrong> {
     let looks = if order / 4 % 2 == 0 {
@@ -36,7 +27,7 @@ fn judged(alloc: Global, script: &str, order: u64, dice: &mut Dice) -> Result<Tr
     };
     let family = (dice.roll(16) % 16) as u8;
     let mut t = Trial::opening(alloc, script, family, looks)?;
-    at_random(&mut t, manner(order), dice, MOST)?;
+    at_random(&mut t, manner_of(order), dice, MOST)?;
     Ok(t)
 }
 

@@ -25,9 +25,25 @@ pub const TWO_BARRIERS: &str =
 pub const ONE_LOCK: &str =
     "threads 2\nfunc w\nwork\nend\nfunc b\ncritical 3 w\nend\nfunc main\nparallel b num 2\nend\n";
 
-/// More teams than a thread has records of regions.
-pub const SIXTEEN_TEAMS: &str =
-    "threads 1\nfunc w\nwork\nend\nfunc b\nparallel w num 1\nend\nfunc main\nrepeat 16 b\nend\n";
+/// A team of one in a team of one.
+pub const A_TEAM_IN_A_TEAM: &str =
+    "threads 1\nfunc w\nwork\nend\nfunc b\nparallel w num 1\nend\nfunc main\nparallel b num 1\nend\n";
+
+/// A member of a team makes four tasks.
+pub const FOUR_TASKS_OF_A_MEMBER: &str =
+    "threads 2\nfunc w\nwork\nend\nfunc t\ntask w\ntask w\ntask w\ntask w\nend\nfunc b\nonly 1 t\nend\nfunc main\nparallel b num 2\nend\n";
+
+/// A team of one, and a task that starts at once behind it, without states.
+pub const A_TEAM_AND_A_TASK: &str =
+    "threads 1\nenv debug disabled\nfunc w\nend\nfunc main\nparallel w num 1\ntask w if 0\nend\n";
+
+/// Two tasks that start at once.
+pub const ONE_TASK_AFTER_ANOTHER: &str =
+    "threads 1\nfunc t\nwork\nend\nfunc main\ntask t if 0\ntask t if 0\nend\n";
+
+/// Two teams of two threads.
+pub const ONE_TEAM_AFTER_ANOTHER: &str =
+    "threads 2\nfunc f\nwork\nend\nfunc main\nparallel f num 2\nparallel f num 2\nend\n";
 
 /// Each statement that makes no team and no task, on thread 0 of two.
 pub const EACH_PLAIN_STATEMENT: &str =
@@ -106,4 +122,34 @@ pub const SETTINGS: [&str; 3] = [
     "threads 4\nenv num_threads 2,4,3\nfunc c\nwork\nset_num_threads 5\nend\nfunc b\nset_dynamic 1\nset_schedule guided 9\nset_default_device 7\nset_max_active_levels 1\ntool 18446744073709551615\nparallel c\nend\nfunc main\nset_num_threads 3\nset_max_active_levels 3\ntool 12\nparallel b\nend\n",
     "threads 4\nfunc w\nwork\nend\nfunc s\nset_max_active_levels 0\nset_max_active_levels 4\nend\nfunc f\nparallel w num 2\nend\nfunc b\nonly 0 s\nonly 1 f\nonly 1 w\nend\nfunc main\nparallel b num 2\nend\n",
     "threads 3\nenv debug disabled\nfunc w\nwork\nend\nfunc b\ncritical 0 w\nbarrier\nonly 1 w\nbarrier\nend\nfunc main\nparallel b num 2\nparallel b num 3\nend\n",
+];
+
+/// Workloads of one thread that makes more tasks and teams than it has records, and waits for each before it needs its record: with how many records
+/// of regions and of tasks.
+pub const FEW_OF_ONE_THREAD: [(&str, u64, u64); 5] = [
+    (
+        "threads 1\nfunc w\nwork\nend\nfunc t\ntask w if 0\ntask w\ntaskwait\ntask w\ntaskyield\ntask w final 1\ntaskwait\nend\nfunc main\nrepeat 5 t\nend\n",
+        1,
+        2,
+    ),
+    (
+        "threads 1\nfunc w\nwork\nend\nfunc u\ntask w\ntaskwait\nend\nfunc m\ntask u\nbarrier\nend\nfunc main\nrepeat 4 m\ntask u if 0\nend\n",
+        1,
+        3,
+    ),
+    (
+        "threads 1\nfunc w\nwork\nend\nfunc a\ntask w\nend\nfunc m\ntask a\nbarrier\nend\nfunc main\nrepeat 5 m\nend\n",
+        1,
+        3,
+    ),
+    (
+        "threads 1\nfunc w\nwork\nend\nfunc p\nparallel w num 1\ntask w if 0\nend\nfunc main\nrepeat 5 p\nend\n",
+        2,
+        2,
+    ),
+    (
+        "threads 1\nenv debug disabled\nfunc w\nwork\nend\nfunc b\ntask w\nbarrier\ntask w if 0\ntask w\nend\nfunc p\nparallel b num 1\nend\nfunc main\nrepeat 4 p\nend\n",
+        2,
+        3,
+    ),
 ];

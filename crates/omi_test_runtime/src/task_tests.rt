@@ -52,27 +52,32 @@ fn an_ended_ancestor(rt: HostRuntime) -> Result<(), Fail> {
     Ok(())
 }
 
-/// The events of eight tasks, of which four are deferred and four start at once.
+/// The events of eight tasks, of which four are deferred and four start at once. Each that starts at once takes the record that the one before
+/// gave back.
 const THE_ROW: &str = "\
     enter; defer k0.1.0; leave; \
     enter; seen 0; defer k0.2.0; leave; \
     enter; seen 0; seen 1; defer k0.3.0; leave; \
     enter; seen 0; seen 1; seen 2; defer k0.4.0; leave; \
-    enter; seen 0; seen 1; seen 2; seen 3; start_now k0.5.0; work; finish k0.5.0; leave; \
-    enter; seen 0; seen 1; seen 2; seen 3; start_now k0.6.0; work; finish k0.6.0; leave; \
-    enter; seen 0; seen 1; seen 2; seen 3; start_now k0.7.0; work; finish k0.7.0; leave; \
-    enter; seen 0; seen 1; seen 2; seen 3; start_now k0.8.0; work; finish k0.8.0; leave; \
+    enter; seen 0; seen 1; seen 2; seen 3; start_now k0.5.0; work; finish k0.5.0; free k0.5.0; leave; \
+    enter; seen 0; seen 1; seen 2; seen 3; start_now k0.5.1; work; finish k0.5.1; free k0.5.1; leave; \
+    enter; seen 0; seen 1; seen 2; seen 3; start_now k0.5.2; work; finish k0.5.2; free k0.5.2; leave; \
+    enter; seen 0; seen 1; seen 2; seen 3; start_now k0.5.3; work; finish k0.5.3; free k0.5.3; leave; \
     state wait_barrier_implicit_parallel 0; arrive; \
-    start k0.1.0; state work_serial 0; work; finish k0.1.0; state wait_barrier_implicit_parallel 0; \
-    start k0.2.0; state work_serial 0; work; finish k0.2.0; state wait_barrier_implicit_parallel 0; \
-    start k0.3.0; state work_serial 0; work; finish k0.3.0; state wait_barrier_implicit_parallel 0; \
-    start k0.4.0; state work_serial 0; work; finish k0.4.0; state wait_barrier_implicit_parallel 0; \
+    start k0.1.0; state work_serial 0; work; finish k0.1.0; free k0.1.0; \
+        state wait_barrier_implicit_parallel 0; \
+    start k0.2.0; state work_serial 0; work; finish k0.2.0; free k0.2.0; \
+        state wait_barrier_implicit_parallel 0; \
+    start k0.3.0; state work_serial 0; work; finish k0.3.0; free k0.3.0; \
+        state wait_barrier_implicit_parallel 0; \
+    start k0.4.0; state work_serial 0; work; finish k0.4.0; free k0.4.0; \
+        state wait_barrier_implicit_parallel 0; \
     release; pass; done";
 
-/// Whether a run is done with these events, which are 79.
+/// Whether a run is done with these events, which are 87.
 fn has_a_full_row(alloc: Global, t: &mut Trial) -> Result<bool, Wrong> {
     until(t, 0, "done")?;
-    Ok(tells(alloc, t.core(), 0, THE_ROW)? && t.core().events().len() == 79)
+    Ok(tells(alloc, t.core(), 0, THE_ROW)? && t.core().events().len() == 87)
 }
 
 #[test]

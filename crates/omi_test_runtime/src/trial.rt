@@ -38,6 +38,8 @@ pub enum Wrong {
     Waits { thread: u8, step: u64 },
     /// A line that is no move.
     NoMove,
+    /// Only few runs of a workload take a record again.
+    NoneAgain,
     /// The words have no report.
     NoReport,
     /// A word differs from the state.
@@ -111,6 +113,54 @@ fn layout_for(threads: u8, k: u8) -> Result<Layout, Wrong> {
     Ok(Layout::family(k, threads))
 }
 
+/// How many records of regions and of tasks each thread has.
+#[derive(Clone, Copy)]
+pub struct Few {
+    pub regions: u64,
+    pub tasks: u64,
+}
+
+/// The byte address of the first arena.
+const FIRST_ARENA: u64 = 0x10000 + 8 * 99;
+
+/// Places an arena of so many records, by where its place stands in the table, and answers where the next one begins.
+fn placed(table: &mut [u64; 56], arena: (usize, u64), place: u64) -> u64 {
+    let (index, records) = arena;
+    let size = match table.get(index.wrapping_add(1)) {
+        Some(size) => *size,
+        None => 0,
+    };
+    if let Some(word) = table.get_mut(index) {
+        *word = place;
+    }
+    place.wrapping_add(size.wrapping_mul(records).wrapping_mul(8))
+}
+
+/// The layout of a family for so many threads, but with few records, its arenas one right after the other as in the family.
+fn layout_of_few(threads: u8, k: u8, few: Few) -> Result<Layout, Wrong> {
+    let mut table = layout_for(threads, k)?.table;
+    let makers = u64::from(threads);
+    table[8] = few.regions;
+    table[11] = few.tasks;
+    let arenas = [
+        (1usize, 1u64),
+        (3, makers),
+        (6, makers.wrapping_mul(few.regions)),
+        (9, makers.wrapping_mul(few.tasks)),
+    ];
+    let mut place = FIRST_ARENA;
+    for n in 0..4usize {
+        let at = if k % 2 == 0 { n } else { 3 - n };
+        if let Some(arena) = arenas.get(at) {
+            place = placed(&mut table, *arena, place);
+        }
+    }
+    match Layout::of_words(&table) {
+        Ok(layout) => Ok(layout),
+        Err(_) => Err(Wrong::NoProgram),
+    }
+}
+
 /// The program of a script, and the layout of a family for its threads.
 pub fn program_in(alloc: Global, script: &str, k: u8) -> Result<(Program, Layout), Wrong> {
     let program = program_of(alloc, script)?;
@@ -139,6 +189,24 @@ impl Trial {
     /// A run of a script before its first step, in the layout of a family.
     pub fn opening(alloc: Global, script: &str, k: u8, looks: Looks) -> Result<Trial, Wrong> {
         let (program, layout) = program_in(alloc, script, k)?;
+        Trial::of(alloc, program, layout, looks)
+    }
+
+    /// The same with few records for each thread.
+    pub fn with_few(
+        alloc: Global,
+        script: &str,
+        k: u8,
+        few: Few,
+        looks: Looks,
+    ) -> Result<Trial, Wrong> {
+        let program = program_of(alloc, script)?;
+        let layout = layout_of_few(program.threads, k, few)?;
+        Trial::of(alloc, program, layout, looks)
+    }
+
+    /// A run of a program before its first step in a layout, where this suits it.
+    fn of(alloc: Global, program: Program, layout: Layout, looks: Looks) -> Result<Trial, Wrong> {
         let core = core_of(alloc, program.same(alloc)?, layout)?;
         let state = opening(alloc, &program)?;
         let mut trial = Trial {

@@ -1,12 +1,12 @@
 //! Each place at which a thread waits: the word at which it is not ready, and that it goes on once the others have
-//! made their steps. In the layouts of all families, but for the search that finds no free record.
+//! made their steps. In the layouts of all families, with few records where a search finds all in use.
 
 use crate::moves::follow;
-use crate::orders::until;
 use crate::scripts::{
-    A_TASK_OF_EACH_MEMBER, ONE_LOCK, SIXTEEN_TEAMS, TWO_BARRIERS, WAITS_FOR_TASKS,
+    A_TASK_OF_EACH_MEMBER, A_TEAM_IN_A_TEAM, FOUR_TASKS_OF_A_MEMBER, ONE_LOCK, TWO_BARRIERS,
+    WAITS_FOR_TASKS,
 };
-use crate::trial::{Looks, Trial, Wrong};
+use crate::trial::{Few, Looks, Trial, Wrong};
 use omi_test_rows::{A_FULL_ROW, A_TEAM_OF_TWO};
 use std::alloc::Global;
 use std::test::Fail;
@@ -33,6 +33,10 @@ const A_TEAM: &str = "\
 1 goes on to pass
 1 waits at thread.assign 1 0 0 0
 0 goes on to join r0.1.0
+0 goes on to free k0.1.0
+0 goes on to free k0.2.0
+0 goes on to free r0.1.0
+0 goes on to state work_serial 0
 0 until done";
 
 /// The bounds of the words at a first and a second barrier of three members: so many arrivals for each release.
@@ -69,7 +73,8 @@ const A_LOCK: &str = "\
 0 waits at region.arrived 0 1 0 1
 1 until unlock 3";
 
-/// Member 0 waits at the barrier for the explicit task that the other member runs, until its thread has lowered the count.
+/// Member 0 waits at the barrier for the explicit task that the other member runs, until its thread has given the task back and has lowered
+/// the count.
 const TASKS_OF_A_REGION: &str = "\
 1 waits at thread.assign 1 0 0 0
 0 until fork
@@ -80,10 +85,13 @@ const TASKS_OF_A_REGION: &str = "\
 0 waits at region.pending 0 1 0 1
 1 until finish k0.3.0
 0 waits at region.pending 0 1 0 1
+1 goes on to free k0.3.0
+0 waits at region.pending 0 1 0 1
 1 goes on to state wait_barrier_implicit_parallel 0
 0 goes on to release";
 
-/// A task waits for a child that the other member runs, until its thread has lowered the count.
+/// A task waits for a child that the other member runs, until its thread has lowered the count. It finishes before the child's thread has given up
+/// its reference, so that this thread gives back both.
 const CHILDREN: &str = "\
 1 waits at thread.assign 1 0 0 0
 0 until fork
@@ -94,8 +102,12 @@ const CHILDREN: &str = "\
 1 waits at task.children 1 0 0 1
 0 until finish k1.1.0
 1 waits at task.children 1 0 0 1
-0 goes on to state wait_barrier_implicit_parallel 0
-1 goes on to wait_done";
+0 goes on to free k1.1.0
+1 goes on to wait_done
+1 until finish k1.0.0
+1 goes on to state wait_barrier_implicit_parallel 0
+0 goes on to free k1.0.0
+0 goes on to state wait_barrier_implicit_parallel 0";
 
 /// A search for the record of an explicit task finds one in use, and goes on at the next.
 const A_TASK_RECORD: &str = "\
@@ -139,37 +151,52 @@ fn each_wait(rt: HostRuntime) -> Result<(), Fail> {
     Ok(())
 }
 
+/// Two records of regions and three of tasks for each thread.
+const FEW: Few = Few {
+    regions: 2,
+    tasks: 3,
+};
+
 /// The looks of a search that finds all records of regions in use, and begins anew.
-const A_SEARCH: &str = "\
+const A_SEARCH_IN_VAIN: &str = "\
+0 until fork r0.1.0
+0 until want 1
 0 waits at region.life 0 0 0 1
 0 waits at region.life 0 1 0 1
-0 waits at region.life 0 2 0 1
-0 waits at region.life 0 3 0 1
-0 waits at region.life 0 4 0 1
-0 waits at region.life 0 5 0 1
-0 waits at region.life 0 6 0 1
-0 waits at region.life 0 7 0 1
-0 waits at region.life 0 8 0 1
-0 waits at region.life 0 9 0 1
-0 waits at region.life 0 10 0 1
-0 waits at region.life 0 11 0 1
-0 waits at region.life 0 12 0 1
-0 waits at region.life 0 13 0 1
-0 waits at region.life 0 14 0 1
-0 waits at region.life 0 15 0 1
-0 waits at region.life 0 0 0 1";
+0 waits at region.life 0 0 0 1
+0 waits at region.life 0 1 0 1";
 
-/// Makes the regions that a thread has records for, and searches for one more.
-fn searches_in_vain(t: &mut Trial) -> Result<(), Wrong> {
-    for _ in 0..16u8 {
-        until(t, 0, "want 1")?;
-    }
-    follow(t, A_SEARCH)
+/// A member has made as many tasks as it has records. Its search for one more finds all in use, and begins anew; a task that has finished keeps its
+/// record until it is given back. Then the search comes to it.
+const A_SEARCH_THAT_WAITS: &str = "\
+1 waits at thread.assign 1 0 0 0
+0 until fork
+0 until arrive
+1 until defer k1.2.0
+1 waits at task.life 1 0 0 1
+1 waits at task.life 1 1 0 1
+1 waits at task.life 1 2 0 1
+1 waits at task.life 1 0 0 1
+0 until finish k1.0.0
+1 waits at task.life 1 1 0 1
+1 waits at task.life 1 2 0 1
+1 waits at task.life 1 0 0 1
+0 goes on to free k1.0.0
+1 waits at task.life 1 1 0 1
+1 waits at task.life 1 2 0 1
+1 goes on to defer k1.0.1";
+
+/// Makes moves in the layout of a family with few records.
+fn with_few(alloc: Global, script: &str, k: u8, moves: &str) -> Result<(), Wrong> {
+    let mut t = Trial::with_few(alloc, script, k, FEW, Looks::EachEvent)?;
+    follow_and_compare(&mut t, moves)
 }
 
 #[test]
 fn no_record_is_free(rt: HostRuntime) -> Result<(), Fail> {
-    let mut t = Trial::opening(rt.alloc(), SIXTEEN_TEAMS, 15, Looks::EachEvent)?;
-    searches_in_vain(&mut t)?;
+    for k in 0..16u8 {
+        with_few(rt.alloc(), A_TEAM_IN_A_TEAM, k, A_SEARCH_IN_VAIN)?;
+        with_few(rt.alloc(), FOUR_TASKS_OF_A_MEMBER, k, A_SEARCH_THAT_WAITS)?;
+    }
     Ok(())
 }

@@ -1,4 +1,5 @@
-//! Tests of omi_pc and omi_run_lists: the bodies that an actor opens, and the lists that a run fills.
+//! Tests of omi_pc, omi_run_lists and omi_actor: the bodies that an actor opens, the lists that a run fills, and the words by which an actor finds a
+//! record.
 #![tactic(auto)]
 
 #[cfg(test)]
@@ -7,3 +8,5 @@ mod actor_tests;
 mod compact_tests;
 #[cfg(test)]
 mod event_list_tests;
+#[cfg(test)]
+mod search_tests;

@@ -1,14 +1,29 @@
 -- The texts of `make`: what stands around the number, and that each is a program.
-use Rattle.std.proofs.Common.{◌≡◌, ◌-◌, ◌<◌, ◌++◌, ◌∷◌, [], ℕ, Bool, true, false, List, length, get_or, refl, sym, ap, ◌∙◌, arith, append_assoc, codes}
+use Rattle.std.proofs.Common.{◌≡◌, ◌≤◌, ◌<◌, ◌+◌, ◌++◌, ◌∷◌, [], ℕ, true, false, List, length, Option, Some, None, refl, subst, sym, ap, ◌∙◌, arith, append_assoc, codes, if◌then◌else◌}
+use Rattle.std.specs.Prelude.{flat_map, nat_le}
 use Rattle.std.specs.Fmt.{decimal, digits}
-use Rattle.std.specs.List.{flat_map, list_all, range_with_len}
-use Rattle.std.proofs.lemmas.List.Folds.{list_all_at}
-use Rattle.std.proofs.lemmas.List.FromFn.{get_or-range_with_len, length-range_with_len}
+use Rattle.std.proofs.lemmas.Bool.{le-leb}
+use Rattle.std.proofs.lemmas.Fmt.{length-decimal-le}
+use Rattle.std.proofs.lemmas.List.{length-append}
 use Rattle.omi_script.specs.Grammar.{Refused}
-use Rattle.omi_script.specs.Verdict.{Accepts, Refuses, Verdict, verdict}
+use Rattle.omi_script.specs.Lines.{lines}
+use Rattle.omi_script.specs.Names.{name_of}
+use Rattle.omi_script.specs.ParserState.{first_state, no_head}
+use Rattle.omi_script.specs.Verdict.{Accepts, Refuses, Verdict, judge, verdict}
 use Rattle.omi_script.specs.declared.fault.ScriptFault.{ScriptFault}
+use Rattle.omi_script.specs.declared.fault.Why.TheVariants.{OverLimit}
+use Rattle.omi_script.specs.declared.function.Func.{Func}
+use Rattle.omi_script.specs.declared.head.Head.{Head}
+use Rattle.omi_script.specs.declared.limits.TheConstants.{MAX_BYTES, MAX_REPEATS}
+use Rattle.omi_script.specs.declared.parser.ParserState.{ParserState}
+use Rattle.omi_script.specs.declared.statement.Stmt.{Stmt}
+use Rattle.omi_script.specs.declared.statement.Stmt.TheVariants.{Parallel, Repeat, Task, Taskwait, Work}
+use Rattle.omi_script.proofs.CanonicalFunctions.{AreSound, function_lines, functions_lead}
+use Rattle.omi_script.proofs.CanonicalLines.{lines-ended}
+use Rattle.omi_script.proofs.CanonicalStatements.{between}
+use Rattle.omi_script.proofs.CanonicalSteps.{LinesLead, judged_accepted, leads_on, printed_from_leads}
 use Rattle.omi_top.specs.Asked.{IsMadeText, IsNodes}
-use Rattle.omi_top.specs.Make.{make_text}
+use Rattle.omi_top.specs.Make.{make_lines, make_text}
 
 -- ---- around the number
 
@@ -43,30 +58,66 @@ around n =
 
 -- ---- programs
 
-abbrev is_accepted : Verdict → Bool
-is_accepted (Accepts state) = true
-is_accepted (Refuses fault) = false
+-- the functions of the text
+abbrev made_func : List ℕ → List Stmt → Func
+made_func name body = record { name = name_of name; body = body }
 
--- the verdict on each of the hundred texts accepts it
-abbrev is_program : ℕ → Bool
-is_program n = is_accepted (verdict (make_text n))
+abbrev functions : ℕ → List Func
+functions n =
+    made_func (codes "leaf") (Work ∷ [])
+    ∷ made_func (codes "node") (Task 0 false false ∷ Task 0 false false ∷ Taskwait ∷ [])
+    ∷ made_func (codes "team") (Repeat n 1 ∷ [])
+    ∷ made_func (codes "main") (Parallel 2 (Some 4) ∷ [])
+    ∷ []
 
-all_accepted : list_all is_program (range_with_len 1 100) ≡ true
+abbrev made_head : Head
+made_head = record no_head { threads = Some 4 }
+
+-- the text is a line on threads, and the lines of these functions
+lines_are : (n : ℕ) → make_lines n ≡ codes "threads 4" ∷ flat_map (function_lines (functions n)) (functions n)
 unfolding digits
-all_accepted = refl
+lines_are n = refl
 
-accepted : (n : ℕ) → IsNodes n → is_program n ≡ false → ⊥
-accepted n range refused =
-    let place : n - 1 < length (range_with_len 1 100) =
-    omega (arith, range.least, range.most, length-range_with_len 1 100) in
-    let here : get_or (range_with_len 1 100) (n - 1) 0 ≡ n =
-    get_or-range_with_len 1 100 (n - 1) 0 (omega (arith, range.least, range.most))
-    ∙ omega (arith, range.least) in
-    let none : list_all is_program (range_with_len 1 100) ≡ false =
-    list_all_at is_program (range_with_len 1 100) (n - 1) 0 place (ap is_program here ∙ refused) in
-    let wrong : true ≡ false = sym all_accepted ∙ none in
-    cc
+sound : (n : ℕ) → IsNodes n → AreSound [] (functions n)
+sound n range =
+    let within : nat_le n MAX_REPEATS ≡ true = le-leb n MAX_REPEATS (omega (arith, range.most)) in
+    record {
+      count = omega arith;
+      statements = omega arith;
+      named = refl;
+      distinct = refl;
+      allowed = rw within refl;
+    }
+
+abbrev last : ℕ → ParserState
+last n = between made_head (functions n)
+
+leads : (n : ℕ) → IsNodes n → LinesLead first_state (make_lines n) (last n)
+leads n range =
+    subst (λ (ls : List (List ℕ)). LinesLead first_state ls (last n)) (sym (lines_are n))
+    (leads_on first_state (between made_head []) (last n) (codes "threads 4")
+    (flat_map (function_lines (functions n)) (functions n)) (refl, refl, refl)
+    (functions_lead made_head [] (functions n) (sound n range)))
+
+-- it isn't too long
+short : (n : ℕ) → IsNodes n → length (make_text n) ≤ MAX_BYTES
+short n range =
+    let few : length (decimal n) ≤ 4 = length-decimal-le 4 n (omega arith) (omega (arith, range.most)) (omega (arith, range.most)) in
+    let parts : length (make_text n) ≡ length front + (length (decimal n) + length back) =
+    ap length (around n) ∙ length-append front (decimal n ++ back)
+    ∙ ap (λ k. length front + k) (length-append (decimal n) back) in
+    omega (arith, few, parts)
+
+accepted : (n : ℕ) → IsNodes n → verdict (make_text n) ≡ Accepts (last n)
+accepted n range =
+    let cut : lines (make_text n) ≡ make_lines n =
+    lines-ended (make_lines n) (printed_from_leads first_state (last n) (make_lines n) (leads n range)) in
+    ap (λ b. if b then judge 1 first_state (lines (make_text n)) else Refuses (record { line = 1; why = OverLimit }))
+    (le-leb (length (make_text n)) MAX_BYTES (short n range))
+    ∙ ap (judge 1 first_state) cut
+    ∙ judged_accepted 1 first_state (last n) (make_lines n) (leads n range) refl
 
 pub never_refused : (text : List ℕ) → IsMadeText text → (fault : ScriptFault) → Refused text fault → ⊥
 never_refused text (n, range, is) fault refused =
-    accepted n range (ap is_accepted (ap verdict (sym is) ∙ refused.says))
+    let both : Accepts (last n) ≡ Refuses fault = sym (accepted n range) ∙ ap verdict (sym is) ∙ refused.says in
+    cc

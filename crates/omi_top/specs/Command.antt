@@ -32,7 +32,7 @@ stop_by (steps ∷ script ∷ core ∷ []) line =
     option_map_or (λ plan. Stop plan script core) (plan_of steps line) Faulty
 stop_by names line = Faulty
 
--- `make N SCRIPT`, with N 1 to 100, without options
+-- `make N SCRIPT`, with N 1 to 1000, without options
 abbrev pub make_by : List (List ℕ) → Line → Command
 make_by (n ∷ script ∷ []) line =
     if has_option line then Faulty

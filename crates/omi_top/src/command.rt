@@ -21,7 +21,7 @@ pub enum Request<'a> {
         core: &'a str,
     },
     Make {
-        nodes: u8,
+        nodes: u16,
         script: &'a str,
     },
     Show {
@@ -78,7 +78,7 @@ fn make_by<'a>(names: &'a [Text], line: &Line) -> Request<'a>
     };
     match number(nodes, 1, MOST_NODES) {
         Some(nodes) if !has_option(line) => Request::Make {
-            nodes: nodes as u8,
+            nodes: nodes as u16,
             script: text_of(script),
         },
         _ => Request::Faulty,

@@ -12,7 +12,7 @@ pub const MOST_SEED: u64 = u64::MAX;
 pub const MOST_COUNT: u64 = 1_000_000;
 
 /// The most times that a workload of `make` repeats its pair of tasks.
-pub const MOST_NODES: u64 = 100;
+pub const MOST_NODES: u64 = 1_000;
 
 /// The most bytes that are read of a core that is read whole: one more than a core may have.
 pub const CORE_FRONT: u64 = MOST_BYTES + 1;

@@ -36,7 +36,7 @@ const RUN: Plan = Plan {
 };
 
 /// The text of a workload whose four threads each repeat a pair of tasks so many times.
-fn make_text(alloc: Global, nodes: u8) -> Result<String, AllocError>
+fn make_text(alloc: Global, nodes: u16) -> Result<String, AllocError>
     ensures { IfOk result (λ text. string_bytes text ≡ make_text nodes) }
 {
     format!(in alloc;
@@ -112,7 +112,7 @@ impl Recorder for Starts {
 }
 
 /// What `make` prints of a run that ended so.
-fn made_line(alloc: Global, nodes: u8, tasks: u64, why: End) -> Result<String, AllocError>
+fn made_line(alloc: Global, nodes: u16, tasks: u64, why: End) -> Result<String, AllocError>
     ensures { IfOk result (λ line. string_bytes line ≡ made_line nodes tasks why) }
 {
     let why = word_of(why);
@@ -120,7 +120,7 @@ fn made_line(alloc: Global, nodes: u8, tasks: u64, why: End) -> Result<String, A
 }
 
 /// Runs the program of such a text, and answers what is printed of the run.
-fn made(alloc: Global, nodes: u8, text: &[u8]) -> Result<String, OutOfMemory>
+fn made(alloc: Global, nodes: u16, text: &[u8]) -> Result<String, OutOfMemory>
     requires nodes { IsNodes nodes }
     requires text { text.now ≡ make_text nodes }
     ensures { IfOk result
@@ -134,7 +134,7 @@ fn made(alloc: Global, nodes: u8, text: &[u8]) -> Result<String, OutOfMemory>
 /// Makes a workload, runs it, writes its text, and answers what is printed of the run.
 pub fn make<W: Files>(
     alloc: Global,
-    nodes: u8,
+    nodes: u16,
     script: &str,
     dest: &mut W,
 ) -> Result<Vec<u8>, Refusal>

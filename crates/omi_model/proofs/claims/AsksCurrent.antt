@@ -8,6 +8,7 @@ use Rattle.omi_script.specs.declared.program.Program.{Program}
 use Rattle.omi_model.specs.declared.claim.Claim.TheVariants as claim
 use Rattle.omi_model.specs.declared.event.Event.{Event}
 use Rattle.omi_model.specs.declared.event.Event.TheVariants as event
+use Rattle.omi_model.specs.declared.freeable.Freeable.{Freeable}
 use Rattle.omi_model.specs.declared.id.Tid.{Tid}
 use Rattle.omi_model.specs.declared.item.Item.{Item}
 use Rattle.omi_model.specs.declared.item.Item.TheVariants as item
@@ -29,7 +30,7 @@ use Rattle.omi_model.proofs.ChainsKept.{current_begun, current_kept, have_chains
 use Rattle.omi_model.proofs.EachObject.{EachTask, IsFreeing, IsGoingOn, IsTaskLaw, ahead_of_current, task_step_from}
 use Rattle.omi_model.proofs.MembersKnown.{first_scheduled, members_known}
 use Rattle.omi_model.proofs.ListLaws.{take_fits, by_taken, is_frees, taken_plain}
-use Rattle.omi_model.proofs.NamesLive.{names_live}
+use Rattle.omi_model.proofs.OpenNames.{open_names}
 use Rattle.omi_model.proofs.OpeningObjects.{each_first_task}
 use Rattle.omi_model.proofs.ReachedStates.{over_reached}
 use Rattle.omi_model.proofs.Slots.{each_put, false_true, found_live, none_some, put_same, some_same}
@@ -123,7 +124,7 @@ forking_taken p events s reached i e all y ys is_taken forks = of_current (s.thr
         (ap (take_item p (encounter s i) e) (sym (list ∙ place.list)) ∙ is_taken) in
         absurd (false_true (sym t.plain ∙ forks))
     of_current (Some k) name =
-        let (t, live, un) = (names_live p events s reached).currents i k name in
+        let (t, live, un) = (open_names p events s reached).currents i k name in
         let is : IsCurrent s i k t = record { name = name; live = live } in
         let taken =
         taken_plain p (encounter s i) e t.frees t.list y ys (forking_plain y forks)
@@ -197,10 +198,11 @@ module _ (p : Program) (events : List (ℕ × Event)) (s : State) (reached : Rea
           first_scheduled s middle (members_known p events s reached) before j u r is.live im first found ∙ from
 
       -- a task that asks for threads is current, and no task in front of what it has ahead may be given back
-      no_asks : (k : Tid) (t : Task) → IsFreeing middle i e m.item k → AreNext s i m.item k t → ⊥
-      no_asks k t (inr (n, of, name)) h =
+      no_asks : (k : Tid) (t : Task) (free : Option Freeable) → IsFreeing middle i e m.item k free → AreNext s i m.item k t
+          → ⊥
+      no_asks k t free (inr (n, task, of, frees, name, behind)) h =
           false_true (sym (ap is_asking of) ∙ h.asking (sym (before.currents i) ∙ name))
-      no_asks k t (inl (j, u, is, over, from)) h =
+      no_asks k t free (inl (j, u, is, over, from, next_is)) h =
           let (v, xs, live, same) = before.tasks j u is.live in
           let name : (s.threads i).current ≡ Some j = sym (before.currents i) ∙ is.name in
           let (ks, chain) = have_chains p events s reached i in
@@ -215,14 +217,36 @@ module _ (p : Program) (events : List (ℕ × Event)) (s : State) (reached : Rea
 
       law : EachTask (HadAsks s i m.item) middle → IsTaskLaw p middle i e m.item next (HadAsks s i m.item)
       law of_tasks = record {
-        frees = λ k t free how q. record { placed = q.placed; first = q.first; top = λ asks. let h = q.top asks in record { before = h.before; asking = h.asking; was = h.was }; alone = λ asks. absurd (no_asks k t how (q.top asks)) };
+        frees = λ k t free how q. record {
+          placed = q.placed;
+          first = q.first;
+          top = λ asks. let h = q.top asks in record { before = h.before; asking = h.asking; was = h.was };
+          alone = λ asks. absurd (no_asks k t free how (q.top asks));
+        };
         shows = λ k t x q. record { placed = q.placed; first = q.first; top = λ asks. let h = q.top asks in record { before = h.before; asking = h.asking; was = h.was }; alone = q.alone };
         tools = λ k t x q. record { placed = q.placed; first = q.first; top = λ asks. let h = q.top asks in record { before = h.before; asking = h.asking; was = h.was }; alone = q.alone };
-        sets = λ k t icv value v f at_set q. record { placed = q.placed; first = q.first; top = λ asks. let h = q.top asks in record { before = h.before; asking = h.asking; was = h.was }; alone = q.alone };
-        begins = λ k t waits mine by q. record { placed = q.placed; first = λ d. absurd (begun_deferred d); top = λ asks. let h = q.top asks in record { before = h.before; asking = h.asking; was = h.was }; alone = q.alone };
-        finishes = λ k t is over q. record { placed = q.placed; first = λ d. absurd (finished_deferred d); top = λ asks. let h = q.top asks in record { before = h.before; asking = h.asking; was = h.was }; alone = q.alone };
+        sets = λ k t icv value v f at_set q. record {
+          placed = q.placed;
+          first = q.first;
+          top = λ asks. let h = q.top asks in record { before = h.before; asking = h.asking; was = h.was };
+          alone = q.alone;
+        };
+        begins = λ k t waits mine by q. record {
+          placed = q.placed;
+          first = λ d. absurd (begun_deferred d);
+          top = λ asks. let h = q.top asks in record { before = h.before; asking = h.asking; was = h.was };
+          alone = q.alone;
+        };
+        finishes = λ k t is over q. record {
+          placed = q.placed;
+          first = λ d. absurd (finished_deferred d);
+          top = λ asks. let h = q.top asks in record { before = h.before; asking = h.asking; was = h.was };
+          alone = q.alone;
+        };
         starts = λ k u j t x is live ex de may of by q. let h = start_plain x (encounter middle i) u.list ((q.first de, q.placed.1), q.placed.0) in plain k _ (h.1, h.0.1) h.0.0;
-        members = λ region team f k t r is found may new of by j n at. let h = member_plain p (record { debug = p.env.debug; number = j; level = r.levels + 1; is_final = false }) f in plain n.0 _ (h.1, h.0.1) h.0.0;
+        members = λ region team f k t r is found may new of by j n at. let h = member_plain p
+            (record { debug = p.env.debug; number = j; level = r.levels + 1; is_final = false }) f in plain
+            n.0 _ (h.1, h.0.1) h.0.0;
         deferred = λ task f final seen k t is of fresh. let h = task_plain p f in plain task _ (h.1, h.0.1) h.0.0;
         made = λ task f final k t is of fresh by. let h = task_plain p f in plain task _ (h.1, h.0.1) h.0.0;
       }
@@ -237,7 +261,9 @@ module _ (p : Program) (events : List (ℕ × Event)) (s : State) (reached : Rea
       go asks h (inl same) =
           let name : (s.threads i).current ≡ Some k = ap (λ j. (s.threads j).current) (sym same) ∙ h.before in
           ap (λ j. (next.threads j).current) same
-          ∙ (from_some (λ (v : State). (v.threads i).current ≡ (middle.threads i).current) (effect p middle i e m.item) next m.effect_is (asking_current p middle i e m.item item_fits (h.asking name) m.rule_moved)
+          ∙ (from_some (λ (v : State). (v.threads i).current ≡ (middle.threads i).current)
+          (effect p middle i e m.item) next m.effect_is
+          (asking_current p middle i e m.item item_fits (h.asking name) m.rule_moved)
           ∙ (before.currents i ∙ name))
       go asks h (inr other) = current_kept p s i e next step t.thread other ∙ h.before
 
@@ -266,7 +292,9 @@ module _ (p : Program) (events : List (ℕ × Event)) (s : State) (reached : Rea
         finishes = λ k t is over q. q;
         starts = λ k u j t x is live ex de may of by q v found asks ne. absurd (was_deferred k u live de v found asks);
         members = λ region team f k t r is found may new of by j n at v was asks ne.
-            absurd (new_name s i (stays (encounter s i) e m.item m.behind) n.0 v (subst (λ (b : Tid × ℕ). IsFresh middle.tasks i b.0.0) (get_or_from_slice_get team j n n at) (may.tasks_new j n (slice_get_within team j n at))) was);
+            absurd (new_name s i (stays (encounter s i) e m.item m.behind) n.0 v
+            (subst (λ (b : Tid × ℕ). IsFresh middle.tasks i b.0.0) (get_or_from_slice_get team j n n at)
+            (may.tasks_new j n (slice_get_within team j n at))) was);
         deferred = λ task f final seen k t is of fresh v was asks ne. absurd (new_name s i (stays (encounter s i) e m.item m.behind) task v fresh was);
         made = λ task f final k t is of fresh by v was asks ne. absurd (new_name s i (stays (encounter s i) e m.item m.behind) task v fresh was);
       }
@@ -296,7 +324,7 @@ module _ (p : Program) (events : List (ℕ × Event)) (s : State) (reached : Rea
   forking_before c ne f =
       let name : (s.threads c).current ≡ Some f.name =
       sym (current_kept p s i e next step c ne) ∙ f.current.name in
-      let (t, live, un) = (names_live p events s reached).currents c f.name name in
+      let (t, live, un) = (open_names p events s reached).currents c f.name name in
       let is : IsCurrent s c f.name t = record { name = name; live = live } in
       let (v, found, asks) =
       ((had_asks f.name f.task f.current.live).top f.next).was (other_name c ne f.name t is) in
@@ -307,7 +335,7 @@ module _ (p : Program) (events : List (ℕ × Event)) (s : State) (reached : Rea
   forking_after after_reached c ne f =
       let name : (next.threads c).current ≡ Some f.name =
       current_kept p s i e next step c ne ∙ f.current.name in
-      let (t, live, un) = (names_live p (events ++ (i, e) ∷ []) next after_reached).currents c f.name name in
+      let (t, live, un) = (open_names p (events ++ (i, e) ∷ []) next after_reached).currents c f.name name in
       record {
         name = f.name;
         task = t;

@@ -25,7 +25,7 @@ use Rattle.omi_model.proofs.members.ClosingItems.{IsIt, closing_of, last_items}
 use Rattle.omi_model.proofs.LastItems.{Closes, take_closes}
 use Rattle.omi_model.proofs.EachObject.{EachTask, IsTaskLaw, ahead_of_current, task_step}
 use Rattle.omi_model.proofs.EachThread.{EachThread, IsThreadLaw, thread_step}
-use Rattle.omi_model.proofs.ListLaws.{take_fits, passes_front}
+use Rattle.omi_model.proofs.ListLaws.{take_fits, taken_other}
 use Rattle.omi_model.proofs.MembersKnown.{members_known}
 use Rattle.omi_model.proofs.OpeningObjects.{each_first_task}
 use Rattle.omi_model.proofs.ReachedStates.{over_reached}
@@ -100,14 +100,14 @@ module _ (p : Program) (events : List (ℕ × Event)) (s : State) (reached : Rea
   m = move_of p s i e next step
 
   -- the region that is joined was encountered
-  encountered : (k : Tid) (t : Task) (r : Region) → IsCurrent s i k t → t.implicit ≡ true
+  pub encountered : (k : Tid) (t : Task) (r : Region) → IsCurrent s i k t → t.implicit ≡ true
       → region_of s t.region ≡ Some r → (n : Rid) → e ≡ event.Join n → IsSome r.encountering
   encountered k t r is im found n of = go r.encountering refl
     where
       taken : take_item p (encounter s i) e t.list ≡ Some (m.item, m.behind)
       taken =
-          sym (passes_front p (encounter s i) e t.frees t.list (ap is_free of))
-          ∙ (ap (take_item p (encounter s i) e) (sym (ahead_of_current s i k t is)) ∙ m.taken)
+          taken_other p (encounter s i) e t.frees t.list (m.item, m.behind) (ap is_free of)
+          (ap (take_item p (encounter s i) e) (sym (ahead_of_current s i k t is)) ∙ m.taken)
 
       joins : m.item ≡ item.Join
       joins =

@@ -35,7 +35,7 @@ use Rattle.omi_model.proofs.EachObject.{EachTask, IsTaskLaw, is_end, task_step_f
 use Rattle.omi_model.proofs.EachThread.{EachThread, IsThreadLaw, thread_step}
 use Rattle.omi_model.proofs.members.MemberEnds.{ends_as_finished, over_finished}
 use Rattle.omi_model.proofs.MembersKnown.{members_known}
-use Rattle.omi_model.proofs.NamesLive.{names_live}
+use Rattle.omi_model.proofs.OpenNames.{open_names}
 use Rattle.omi_model.proofs.OpeningObjects.{each_first_task}
 use Rattle.omi_model.proofs.NeededTasks.{needed_current, needed_scheduling}
 use Rattle.omi_model.proofs.ReachedStates.{over_reached}
@@ -230,7 +230,7 @@ module _ (p : Program) (events : List (ℕ × Event)) (s : State) (reached : Rea
   IsOver k = ((s.threads i).current ≡ Some k) × (is_end e ≡ true)
 
   names_of : (o : Option Tid) (j : ℕ) → o ≡ (s.threads j).current → (k : Tid) → o ≡ Some k → IsLiveTask s k
-  names_of o j same k is = (names_live p events s reached).currents j k (sym same ∙ is)
+  names_of o j same k is = (open_names p events s reached).currents j k (sym same ∙ is)
 
   kept : (k : Tid) (t : Task) → task_of s k ≡ Some t → t.progress ≡ Begun → (IsOver k → ⊥)
       → IsOnChain next t.thread k
@@ -250,13 +250,13 @@ module _ (p : Program) (events : List (ℕ × Event)) (s : State) (reached : Rea
           (suc n, ap (along (scheduling_of next) (suc n)) push.is ∙ (ap (along (scheduling_of next) n) push.under ∙ (same_along n i ∙ h)))
       own zero h (inr (inr (inl pop))) = absurd (still (h, pop.over))
       own (suc n) h (inr (inr (inl pop))) =
-          let (v, live_v, un) = (names_live p events s reached).currents i pop.top pop.was in
+          let (v, live_v, un) = (open_names p events s reached).currents i pop.top pop.was in
           let under : v.scheduling ≡ (next.threads i).current =
           ap (option_and_then (λ (x : Task). x.scheduling)) (sym live_v) ∙ pop.under in
           let was : along (scheduling_of s) n (next.threads i).current ≡ Some k =
           ap (along (scheduling_of s) n) (sym pop.under)
           ∙ (ap (λ (o : Option Tid). along (scheduling_of s) (suc n) o) (sym pop.was) ∙ h) in
-          (n, chain_stays p events s reached next stay n (next.threads i).current (λ a is. ((names_live p events s reached).tasks pop.top v live_v).scheduling a (under ∙ is)) (λ a x is live. needed_scheduling p events s reached pop.top v live_v a x (under ∙ is) live) ∙ was)
+          (n, chain_stays p events s reached next stay n (next.threads i).current (λ a is. ((open_names p events s reached).tasks pop.top v live_v).scheduling a (under ∙ is)) (λ a x is live. needed_scheduling p events s reached pop.top v live_v a x (under ∙ is) live) ∙ was)
       own n h (inr (inr (inr none))) =
           absurd (none_some (ap (along (scheduling_of s) n) none ∙ along_none s n) h)
 
@@ -311,7 +311,7 @@ module _ (p : Program) (events : List (ℕ × Event)) (s : State) (reached : Rea
       of_name n name over (inl same) =
           let current : (s.threads i).current ≡ Some k =
           name ∙ ap (λ (a : Id). Some (record { 0 = a })) same in
-          let (v, live_v, un) = (names_live p events s reached).currents i k current in
+          let (v, live_v, un) = (open_names p events s reached).currents i k current in
           let zs : List Item = stays (encounter s i) e m.item m.behind in
           let is : IsCurrent middle i k (relisted zs v) =
           current_after s i zs k v (record { name = current; live = live_v }) in

@@ -18,7 +18,7 @@ use Rattle.omi_model.proofs.members.BegunChains.{scheduling_begun}
 use Rattle.omi_model.proofs.members.Encounters.{are_made}
 use Rattle.omi_model.proofs.members.MembersInStep.{members_in_step}
 use Rattle.omi_model.proofs.MembersKnown.{first_at, members_known}
-use Rattle.omi_model.proofs.NamesLive.{names_live}
+use Rattle.omi_model.proofs.OpenNames.{open_names}
 use Rattle.omi_model.proofs.RegionEnds.{rests}
 use Rattle.omi_model.proofs.Slots.{false_true, some_same}
 
@@ -43,30 +43,42 @@ module _ (p : Program) (events : List (ℕ × Event)) (s : State) (reached : Rea
     live = live;
     team = λ j d within.
         let at = slice_get-get_or r.team j d within in
-        ap is_some (((names_live p events s reached).regions n r live).team unjoined j (get_or r.team j d) at).live;
+        ap is_some (((open_names p events s reached).regions n r live).team unjoined j (get_or r.team j d) at).live;
   }
 
-  -- the region of a task that is not finished is not joined
-  pub open_around : (k : Tid) (t : Task) → task_of s k ≡ Some t → (t.progress ≡ Finished → ⊥) → IsOpen s t.region
-  open_around k t live not =
-      let (r, found) = ((names_live p events s reached).tasks k t live).region in
+  -- no explicit task of a region that is joined lives
+  pub none_joined : (k : Tid) (t : Task) → task_of s k ≡ Some t → t.implicit ≡ false → (r : Region)
+      → region_of s t.region ≡ Some r → r.joined ≡ true → ⊥
+  none_joined k t live ex r found joined =
+      let stood = (members_in_step p events s reached).joined t.region r found joined in
+      rests p events s reached k t live ex r found (omega (arith, stood))
+
+  -- so the region of a task that is explicit, or not finished, is not joined
+  region_open : (k : Tid) (t : Task) → task_of s k ≡ Some t
+      → (t.implicit ≡ true → t.progress ≡ Finished → ⊥) → IsOpen s t.region
+  region_open k t live not =
+      let (r, found) = ((open_names p events s reached).tasks k t live).region in
       (r, found, go r found t.implicit refl r.joined refl)
     where
       go : (r : Region) → region_of s t.region ≡ Some r → (b : Bool) → t.implicit ≡ b → (j : Bool)
           → r.joined ≡ j → r.joined ≡ false
       go r found b kind false j = j
       go r found true im true j =
-          (((members_in_step p events s reached).members k t r live im found).going not).1
-      go r found false ex true j =
-          let stood = (members_in_step p events s reached).joined t.region r found j in
-          absurd (not (rests p events s reached k t live ex r found (omega (arith, stood))))
+          (((members_in_step p events s reached).members k t r live im found).going (not im)).1
+      go r found false ex true j = absurd (none_joined k t live ex r found j)
+
+  pub open_around : (k : Tid) (t : Task) → task_of s k ≡ Some t → (t.progress ≡ Finished → ⊥) → IsOpen s t.region
+  open_around k t live not = region_open k t live (λ im. not)
+
+  explicit_open : (k : Tid) (t : Task) → task_of s k ≡ Some t → t.implicit ≡ false → IsOpen s t.region
+  explicit_open k t live ex = region_open k t live (λ im over. false_true (sym ex ∙ im))
 
   -- member 0 of a region that is not joined has begun, and so has the task that encountered the region
-  encountering_begun : (n : Rid) (r : Region) (k : Tid) → region_of s n ≡ Some r → r.encountering ≡ Some k
+  pub encountering_begun : (n : Rid) (r : Region) (k : Tid) → region_of s n ≡ Some r → r.encountering ≡ Some k
       → r.joined ≡ false → (u : Task) × (task_of s k ≡ Some u) × (u.progress ≡ Begun)
   encountering_begun n r k found met unjoined =
       let (a, at) = first_at r.team ((members_known p events s reached).regions n r found).some in
-      let is = ((names_live p events s reached).regions n r found).team unjoined 0 a at in
+      let is = ((open_names p events s reached).regions n r found).team unjoined 0 a at in
       let here : region_of s is.task.region ≡ Some r = ap (region_of s) is.region ∙ found in
       let member = (members_in_step p events s reached).members a.0 is.task r is.live is.implicit here in
       let begun : is.task.progress ≡ Begun =
@@ -101,5 +113,5 @@ encounters p events s reached =
       encountered = λ n r k t found met live. encountering p events s reached n r k t found met live;
       initial = λ n r found. (made.initial n r found).0;
       outermost = λ n r found. (made.initial n r found).1;
-      explicit = λ k t live ex. record { creator = (made.members k t live ex).0; thread = (made.members k t live ex).1; inside = open_around p events s reached k t live };
+      explicit = λ k t live ex. record { creator = (made.members k t live ex).0; thread = (made.members k t live ex).1; inside = explicit_open p events s reached k t live ex };
     }

@@ -11,15 +11,18 @@ use Rattle.omi_model.specs.declared.region.Region.{Region}
 use Rattle.omi_model.specs.declared.task.Task.{Task}
 use Rattle.omi_model.specs.Changes.{IsCurrent, encounter, with_list}
 use Rattle.omi_model.specs.Lists.{stays}
+use Rattle.omi_model.specs.LawStays.{Stays}
 use Rattle.omi_model.specs.Put.{Slots, named}
+use Rattle.omi_model.specs.Reached.{Step}
 use Rattle.omi_model.specs.Rules.{Rule, effect}
 use Rattle.omi_model.specs.State.{State, region_of}
 use Rattle.omi_model.specs.Teams.{joined, new_region, task_ended}
 use Rattle.omi_model.proofs.BarrierSteps.{current_after}
+use Rattle.omi_model.proofs.EachObject.{EachRegion, IsRegionLaw, region_step}
 use Rattle.omi_model.proofs.SlotEffects.{changed_now, changes_regions, regions_effect, same_current}
 use Rattle.omi_model.proofs.Slots.{false_true, gone_was, made_stays, some_same}
 use Rattle.omi_model.proofs.StaysKept.{fresh_empty}
-use Rattle.omi_model.proofs.Steps.{IsMove, from_some, is_relisted, relisted}
+use Rattle.omi_model.proofs.Steps.{IsMove, IsRelisted, from_some, is_relisted, relisted}
 
 -- the region as it was, as far as its end goes
 abbrev pub IsAsOpen : Region → Region → Type 0
@@ -104,3 +107,19 @@ region_ended p s i e after_step m n r q found found_q =
     back zs (event.ImplicitEnd task) h = λ k t is. h k (relisted zs t) (current_after s i zs k t is)
     back zs (event.Join region) h = λ k t is. h k (relisted zs t) (current_after s i zs k t is)
     back zs e' h = h
+
+-- a joined region was there before
+pub was_there : (p : Program) (s : State) (i : ℕ) (e : Event) (next : State) → Step p s i e next
+    → EachRegion (λ n q. q.joined ≡ true → (r : Region) × (region_of s n ≡ Some r)) next
+was_there p s i e next step = region_step p (λ n q. q.joined ≡ true → (r : Region) × (region_of s n ≡ Some r)) s i e next step law
+    (λ n r found joined. (r, found))
+  where
+    law : (middle : State) → IsRelisted s middle → Stays middle next
+        → IsRegionLaw p middle i next (λ n q. q.joined ≡ true → (r : Region) × (region_of s n ≡ Some r))
+    law middle before later = record {
+      arrives = λ k t r is found q. q;
+      releases = λ k t r is found may q. q;
+      ends = λ k t r is found im other q. q;
+      joins = λ k t r is found may q joined. (r, sym (before.regions t.region) ∙ found);
+      forks = λ region team f k t r is found may new joined. absurd (false_true joined);
+    }

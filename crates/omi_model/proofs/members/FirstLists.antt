@@ -13,7 +13,7 @@ use Rattle.omi_model.specs.Rows.{member_items, task_items}
 use Rattle.omi_model.specs.State.{State, region_of, task_of}
 use Rattle.omi_model.proofs.ChainsKept.{current_begun}
 use Rattle.omi_model.proofs.EachObject.{EachTask, IsTaskLaw, task_step_from}
-use Rattle.omi_model.proofs.NamesLive.{names_live}
+use Rattle.omi_model.proofs.OpenNames.{open_names}
 use Rattle.omi_model.proofs.OpeningObjects.{each_first_task}
 use Rattle.omi_model.proofs.ReachedStates.{over_reached}
 use Rattle.omi_model.proofs.Slots.{some_same}
@@ -59,7 +59,7 @@ module _ (p : Program) (events : List (ℕ × Event)) (s : State) (reached : Rea
   still k t live h = record {
     deferred = h.deferred;
     waiting = λ w q found_q.
-        let (r, found) = ((names_live p events s reached).tasks k t live).region in
+        let (r, found) = ((open_names p events s reached).tasks k t live).region in
         let same = (stays_step p s i e next step).alike_regions t.region r q found found_q in
         h.waiting w r found
         ∙ (ap (λ n. member_items p (record { debug = p.env.debug; number = t.number; level = n; is_final = false }) r.function) (sym same.levels)

@@ -28,7 +28,7 @@ use Rattle.omi_model.proofs.BarrierSteps.{current_after}
 use Rattle.omi_model.proofs.EachObject.{EachTask, IsTaskLaw, is_end, task_step_from}
 use Rattle.omi_model.proofs.members.EndSteps.{EndsBy, IsAsOpen, region_ended}
 use Rattle.omi_model.proofs.MembersKnown.{members_known}
-use Rattle.omi_model.proofs.NamesLive.{names_live}
+use Rattle.omi_model.proofs.OpenNames.{open_names}
 use Rattle.omi_model.proofs.OpeningObjects.{each_first_task}
 use Rattle.omi_model.proofs.ReachedStates.{over_reached}
 use Rattle.omi_model.proofs.Slots.{false_true, map_some, none_some, on_same, same_or_not, some_same, each_on}
@@ -295,7 +295,7 @@ module _ (p : Program) (events : List (ℕ × Event)) (s : State) (reached : Rea
       of_name n name over (inl same) =
           let current : (s.threads i).current ≡ Some k =
           name ∙ ap (λ (a : Id). Some (record { 0 = a })) same in
-          let (v, live_v, un) = (names_live p events s reached).currents i k current in
+          let (v, live_v, un) = (open_names p events s reached).currents i k current in
           let is : IsCurrent middle i k (relisted (stays (encounter s i) e m.item m.behind) v) =
           current_after s i (stays (encounter s i) e m.item m.behind) k v
           (record { name = current; live = live_v }) in

@@ -31,7 +31,7 @@ use Rattle.omi_model.proofs.BarrierSteps.{Changes, region_changed}
 use Rattle.omi_model.proofs.ChainsKept.{current_begun}
 use Rattle.omi_model.proofs.members.ClosingItems.{last_items}
 use Rattle.omi_model.proofs.EachObject.{EachRegion, IsRegionLaw, over_events, region_step}
-use Rattle.omi_model.proofs.members.EndSteps.{EndsBy, region_ended}
+use Rattle.omi_model.proofs.members.EndSteps.{was_there, EndsBy, region_ended}
 use Rattle.omi_model.proofs.members.FirstLists.{first_lists}
 use Rattle.omi_model.proofs.JoinsLast.{joins_last}
 use Rattle.omi_model.proofs.members.MemberEnds.{ended_of, ends_as_finished, finished_is, is_finished}
@@ -188,21 +188,6 @@ begun_finished e = cc
 
 module _ (p : Program) (events : List (ℕ × Event)) (s : State) (reached : Reached p events s) (i : ℕ)
     (e : Event) (next : State) (step : Step p s i e next) (all : EachRegion (IsLastReleased p) s) where
-  -- a joined region was there before
-  was_there : EachRegion (λ n q. q.joined ≡ true → (r : Region) × (region_of s n ≡ Some r)) next
-  was_there = region_step p (λ n q. q.joined ≡ true → (r : Region) × (region_of s n ≡ Some r)) s i e next step law
-      (λ n r found joined. (r, found))
-    where
-      law : (middle : State) → IsRelisted s middle → Stays middle next
-          → IsRegionLaw p middle i next (λ n q. q.joined ≡ true → (r : Region) × (region_of s n ≡ Some r))
-      law middle before later = record {
-        arrives = λ k t r is found q. q;
-        releases = λ k t r is found may q. q;
-        ends = λ k t r is found im other q. q;
-        joins = λ k t r is found may q joined. (r, sym (before.regions t.region) ∙ found);
-        forks = λ region team f k t r is found may new joined. absurd (false_true joined);
-      }
-
   -- the region of a current task is not joined
   current_open : (k : Tid) (t : Task) → IsCurrent s i k t → (r : Region) → region_of s t.region ≡ Some r
       → r.joined ≡ true → ⊥
@@ -215,7 +200,7 @@ module _ (p : Program) (events : List (ℕ × Event)) (s : State) (reached : Rea
       go true im = true_false joined (going p events s reached k t r is.live im found runs).1
       go false ex =
           let stood = all t.region r found joined in
-          runs (rests p events s reached k t is.live ex r found (omega (arith, stood)))
+          rests p events s reached k t is.live ex r found (omega (arith, stood))
 
   module _ (n : Rid) (r q : Region) (found : region_of s n ≡ Some r) where
     -- what the event did to the region: it was joined and nothing was released, or it is joined now
@@ -253,7 +238,7 @@ module _ (p : Program) (events : List (ℕ × Event)) (s : State) (reached : Rea
 
   last_step : EachRegion (IsLastReleased p) next
   last_step n q found_q joined =
-      let (r, found) = was_there n q found_q joined in
+      let (r, found) = was_there p s i e next step n q found_q joined in
       let m = move_of p s i e next step in
       let same = (stays_step p s i e next step).alike_regions n r q found found_q in
       let function : barriers_of p q.function ≡ barriers_of p r.function = ap (barriers_of p) same.function in

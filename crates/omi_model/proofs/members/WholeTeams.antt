@@ -21,7 +21,7 @@ use Rattle.omi_model.proofs.ChainsKept.{current_begun}
 use Rattle.omi_model.proofs.EachObject.{EachRegion, EachTask, IsRegionLaw, IsTaskLaw, region_step, task_step}
 use Rattle.omi_model.proofs.members.EncounterLaws.{open_around, visible_open}
 use Rattle.omi_model.proofs.members.Lineages.{was}
-use Rattle.omi_model.proofs.NamesLive.{names_live}
+use Rattle.omi_model.proofs.OpenNames.{open_names}
 use Rattle.omi_model.proofs.OpeningObjects.{each_first_region, each_first_task}
 use Rattle.omi_model.proofs.ReachedStates.{over_reached}
 use Rattle.omi_model.proofs.Slots.{false_true, none_some, some_same}
@@ -60,7 +60,7 @@ module _ (p : Program) (events : List (ℕ × Event)) (s : State) (reached : Rea
       stays_live j d within =
           let (t, live) = live_of (task_of s (get_or seen.region.team j d).0) (seen.team j d within) in
           let at = slice_get-get_or seen.region.team j d within in
-          let names = (names_live p events s reached).regions n seen.region seen.live in
+          let names = (open_names p events s reached).regions n seen.region seen.live in
           let is = names.members j (get_or seen.region.team j d) at t live in
           let need = subst (IsTeamNeeded s) (sym is.region) team in
           let (v, found, same) =

@@ -38,12 +38,12 @@ use Rattle.omi_step_words.specs.Words.{of_region}
 use Rattle.omi_fork.specs.BarrierSteps.{barrier_moved, barrier_next, barrier_outcome, looking, of_current}
 use Rattle.omi_fork.specs.BarrierSteps as steps_of
 use Rattle.omi_rule.specs.Ahead as Ahead
-use Rattle.omi_rule.specs.Chains.{KeepsBodies, KeepsContext, Stands, StandsWith, encounter_of}
+use Rattle.omi_rule.specs.Chains.{KeepsBodies, KeepsContext, Stands, StandsWith, encounter_of, IsPassable}
 use Rattle.omi_rule.specs.Rule.{KeepsThread}
 use Rattle.omi_rule.specs.Steps.{RecordWord, StepKeeps}
 use Rattle.omi_rule.proofs.Assembly.{Before, plain_event_keeps, spares_region}
 use Rattle.omi_rule.proofs.Own.{ChangesTask, bodies_kept, context_kept, encounter_kept}
-use Rattle.omi_rule.proofs.OwnTask.{is_current, own_below, relisted_ahead}
+use Rattle.omi_rule.proofs.OwnTask.{is_current, own_below, relisted_ahead, relisted_front}
 use Rattle.omi_rule.proofs.barrier.ArrivedBodies.{arrived_once, bodies_arrive, contexts_arrive, encounter_stays}
 use Rattle.omi_rule.proofs.barrier.Arrivals.{arrivals_few, part_sum}
 use Rattle.omi_rule.proofs.barrier.AtBarrier.{fits_barrier, list_is}
@@ -168,6 +168,7 @@ module _ (p : Program) (w : List ℕ) (m : Memory) (events : List (ℕ × Event)
             (stands p w m events s actors i before (counter.Barrier c) at tt) behind next refl
             (λ xs. xs ≡ Ahead.arrived p (encounter_of next after.context) a.stack b)
             (ap (λ (x : Encounter). Ahead.arrived p x a.stack b) (sym sees_after)) t live;
+        front = λ t live. subst IsPassable (sym (relisted_front p s i a (stands p w m events s actors i before (counter.Barrier c) at tt) behind next refl t live)) tt;
       })
 
   abbrev later : List (ℕ × Event)

@@ -13,6 +13,7 @@ use Rattle.omi_model.specs.declared.task.Task.{Task}
 use Rattle.omi_model.specs.Changes.{OfCurrentRegion, encounter_by}
 use Rattle.omi_model.specs.State.{State, region_of}
 use Rattle.omi_model.proofs.Slots.{found_live, some_same}
+use Rattle.omi_model.specs.declared.freeable.Freeable.{Freeable}
 use Rattle.omi_layout.specs.declared.field.Field.{Field}
 use Rattle.omi_layout.specs.Field.{kind_of, regions}
 use Rattle.omi_layout.specs.Memory.{IsRecordWord, Memory, Rec}
@@ -34,8 +35,10 @@ use Rattle.omi_rule_words.specs.Owes.{all_owed, owed, owed_at}
 use Rattle.omi_rule_words.specs.Words.{region_in}
 use Rattle.omi_rule_words.proofs.OtherCounts.{name_of_slot}
 use Rattle.omi_step_words.specs.Placed.{AreContextsPlaced, IsContextPlaced, IsPlacedCounter}
+use Rattle.omi_pc.specs.declared.team_counter.JoinCounter.TheVariants as join
+use Rattle.omi_pc.specs.declared.task_counter.FinishCounter.TheVariants as finish
 use Rattle.omi_rule.specs.Ahead.{IsAhead}
-use Rattle.omi_rule.specs.Chains.{KeepsContext, StandsInTask, encounter_of}
+use Rattle.omi_rule.specs.Chains.{KeepsContext, StandsInTask, encounter_of, IsFront, IsPassable}
 use Rattle.omi_rule.specs.Rows.{KeepsRow}
 use Rattle.omi_rule.specs.Rule.{HasEnded, KeepsThread}
 use Rattle.omi_rule.specs.Steps.{KeepsRule, RecordWord, found_in, left_in}
@@ -43,7 +46,7 @@ use Rattle.omi_rule.specs.Waits.{Waits}
 use Rattle.omi_rule.proofs.SameBodies.{same_bodies}
 use Rattle.omi_rule.proofs.Assembly
 use Rattle.omi_rule.proofs.Assembly.{Before, load_stays, quiet_stays}
-use Rattle.omi_rule.proofs.OwnTask.{in_task, is_current, own_ahead, top}
+use Rattle.omi_rule.proofs.OwnTask.{in_task, is_current, own_ahead, top, own_front}
 use Rattle.omi_rule.proofs.plain.OwnEvents.{environment_stays}
 
 -- the thread with another counter
@@ -57,6 +60,30 @@ IsOfMember (counter.Join c) = Unit {0}
 IsOfMember (counter.Look c) = Unit {0}
 IsOfMember (counter.Finish c) = Unit {0}
 IsOfMember x = ⊥
+
+-- where a step may commit an event of the list: nothing has to be given back first
+abbrev pub IsEventful : Counter → Type 0
+IsEventful (counter.Barrier c) = Unit {0}
+IsEventful (counter.Join join.LoadLeft) = Unit {0}
+IsEventful (counter.Join join.Join) = Unit {0}
+IsEventful (counter.Look c) = Unit {0}
+IsEventful (counter.Finish finish.Finish) = Unit {0}
+IsEventful x = ⊥
+
+abbrev pub eventful_member : (x : Counter) → IsEventful x → IsOfMember x
+eventful_member (counter.Barrier c) is = tt
+eventful_member (counter.Join c) is = tt
+eventful_member (counter.Look c) is = tt
+eventful_member (counter.Finish c) is = tt
+eventful_member x is = is
+
+pub eventful_passes : (x : Counter) → IsEventful x → (o : Option Freeable) → IsFront x o → IsPassable o
+eventful_passes (counter.Barrier c) is o front = front
+eventful_passes (counter.Join join.LoadLeft) is o front = front
+eventful_passes (counter.Join join.Join) is o front = front
+eventful_passes (counter.Look c) is o front = front
+eventful_passes (counter.Finish finish.Finish) is o front = front
+eventful_passes x is o front = absurd is
 
 module _ (p : Program) (w : List ℕ) (m : Memory) (events : List (ℕ × Event)) (s : State) (actors : ℕ → Actor)
     (i : ℕ) (before : Before p w m events s actors i) (x : Counter) (at : (actors i).counter ≡ x)
@@ -95,6 +122,9 @@ module _ (p : Program) (w : List ℕ) (m : Memory) (events : List (ℕ × Event)
 
   pub ahead_is : IsAhead p sees a.stack x here.task.list
   ahead_is = subst (λ (d : Counter). IsAhead p sees a.stack d here.task.list) at (own_ahead p s i a stands)
+
+  pub front_is : IsFront x here.task.frees
+  front_is = subst (λ (d : Counter). IsFront d here.task.frees) at (own_front p s i a stands)
 
   pub sees_number : sees.number ≡ a.context.number
   sees_number = ap (λ (o : Option Task). (encounter_by s o).number) here.live ∙ here.number
@@ -159,6 +189,7 @@ module _ (p : Program) (w : List ℕ) (m : Memory) (events : List (ℕ × Event)
     pub fits : FitsCounter p (at_counter to a) to
     pub placed : IsPlacedCounter w (at_counter to a) to
     pub ahead : IsAhead p sees a.stack to here.task.list
+    pub front : IsFront to here.task.frees
     pub owes : owed (at_counter to a) ≡ owed_at a.context a.gathered.team x
     pub row : KeepsRow p w m s i (at_counter to a) to
     pub ended : HasEnded events i to
@@ -168,6 +199,7 @@ module _ (p : Program) (w : List ℕ) (m : Memory) (events : List (ℕ × Event)
     pub fits : FitsCounter p (at_counter to a) to
     pub placed : IsPlacedCounter w (at_counter to a) to
     pub ahead : IsAhead p sees a.stack to here.task.list
+    pub front : IsFront to here.task.frees
     pub row : KeepsRow p w n s i (at_counter to a) to
     pub ended : HasEnded events i to
 
@@ -176,12 +208,13 @@ module _ (p : Program) (w : List ℕ) (m : Memory) (events : List (ℕ × Event)
   thread_with n to goes =
       let (f, fs, is_stack, o) = body in
       same_bodies p w m events s i a own f fs is_stack o n to a.gathered own.fits.variables goes.fits goes.placed
-      (λ t live. subst (λ (v : Task). IsAhead p sees a.stack to v.list) (some_same here.live live) goes.ahead) goes.row goes.ended
+      (λ t live. subst (λ (v : Task). IsAhead p sees a.stack to v.list) (some_same here.live live) goes.ahead)
+      (λ t live. subst (λ (v : Task). IsFront to v.frees) (some_same here.live live) goes.front) goes.row goes.ended
 
   thread_at : (to : Counter) → GoesTo to → KeepsThread p w m events s i (at_counter to a)
   thread_at to goes =
       thread_with m to
-      (record { fits = goes.fits; placed = goes.placed; ahead = goes.ahead; row = goes.row; ended = goes.ended })
+      (record { fits = goes.fits; placed = goes.placed; ahead = goes.ahead; front = goes.front; row = goes.row; ended = goes.ended })
 
   owes_at : (to : Counter) → GoesTo to → owed (at_counter to a) ≡ owed a
   owes_at to goes = goes.owes ∙ sym owes_now

@@ -1,5 +1,5 @@
 -- An event of a thread at a counter of a member: what such steps have in common, and those that leave the thread's context and bodies.
-use Rattle.std.proofs.Common.{◌≡◌, ◌≢◌, ℕ, List, [], ◌∷◌, ◌++◌, Some, refl, sym, ap, ◌∙◌, subst}
+use Rattle.std.proofs.Common.{◌≡◌, ◌≢◌, ℕ, List, [], ◌∷◌, ◌++◌, Some, refl, sym, ap, ◌∙◌, subst, None}
 use Rattle.std.specs.Option.{option_and_then}
 use Rattle.omi_word.specs.declared.op.Op.{Op}
 use Rattle.omi_script.specs.declared.program.Program.{Program}
@@ -34,27 +34,32 @@ use Rattle.omi_rule.proofs.Assembly.{Before, plain_event_keeps}
 use Rattle.omi_rule.proofs.NewMembers.{waiting_step}
 use Rattle.omi_rule.proofs.NothingNew.{Makes}
 use Rattle.omi_rule.proofs.Own.{ChangesTask}
-use Rattle.omi_rule.proofs.OwnTask.{list_moved, own_changes, own_encounter, own_taken, own_stands, relisted_ahead, relisted_alike}
+use Rattle.omi_rule.proofs.OwnTask.{list_moved, own_changes, own_encounter, own_taken, own_stands, relisted_ahead, relisted_alike, relisted_front}
 use Rattle.omi_rule.proofs.RowsStay.{Spares}
-use Rattle.omi_rule.proofs.barrier.AtCounter.{IsOfMember, at_counter, body, here, own, owes_now, sees, stands}
+use Rattle.omi_rule.proofs.barrier.AtCounter.{IsOfMember, at_counter, body, here, own, owes_now, sees, stands, IsEventful, eventful_member, eventful_passes, front_is}
 use Rattle.omi_model.specs.LawStays.{Stays}
 use Rattle.omi_model.proofs.StaysKept.{stays_step}
 use Rattle.omi_rule.proofs.Runs.{stack_runs}
+use Rattle.omi_rule.specs.Chains.{IsFront}
 
 -- what a thread at a counter needs in a state in which this is its task's list
 pub record IsReadyAt (p : Program) (w : List ℕ) (m : Memory) (later : List (ℕ × Event)) (u : State) (i : ℕ) (at : Encounter) (a : Actor) (x : Counter) (list : List Item) : Type 0 where
   pub fits : FitsCounter p (at_counter x a) x
   pub placed : IsPlacedCounter w (at_counter x a) x
   pub ahead : IsAhead p at a.stack x list
+  pub front : IsFront x None
   pub owes : owed (at_counter x a) ≡ nothing
   pub row : KeepsRow p w m u i (at_counter x a) x
   pub ended : HasEnded later i x
 
 module _ (p : Program) (w : List ℕ) (m : Memory) (events : List (ℕ × Event)) (s : State) (actors : ℕ → Actor)
     (i : ℕ) (before : Before p w m events s actors i) (standing : Counter)
-    (at : (actors i).counter ≡ standing) (of_member : IsOfMember standing) where
+    (at : (actors i).counter ≡ standing) (eventful : IsEventful standing) where
   abbrev a : Actor
   a = actors i
+
+  abbrev of_member : IsOfMember standing
+  of_member = eventful_member standing eventful
 
   abbrev At : Encounter
   At = sees p w m events s actors i before standing at of_member
@@ -71,7 +76,8 @@ module _ (p : Program) (w : List ℕ) (m : Memory) (events : List (ℕ × Event)
   takes e y zs taken =
       ap (λ (x : Encounter). take_item p x e (ahead_of s i))
       (own_encounter p s i a (stands p w m events s actors i before standing at of_member))
-      ∙ own_taken p s i a (stands p w m events s actors i before standing at of_member) events before.rule.reached At e y zs taken
+      ∙ own_taken p s i a (stands p w m events s actors i before standing at of_member) events before.rule.reached
+      (eventful_passes standing eventful (here p w m events s actors i before standing at of_member).task.frees (front_is p w m events s actors i before standing at of_member)) At e y zs taken
 
   -- in whose place these items stand afterwards
   pub steps_to : (e : Event) (y : Item) (behind zs : List Item) (u : State)
@@ -126,7 +132,8 @@ module _ (p : Program) (w : List ℕ) (m : Memory) (events : List (ℕ × Event)
             own_stands p s i a
             (stands p w m events s actors i before standing at of_member) events before.rule.reached u changes
             (at_counter x a) f fs is refl (λ k. k)
-            (relisted_ahead p s i a (stands p w m events s actors i before standing at of_member) zs u tasks (IsAhead p At a.stack x) ready.ahead);
+            (relisted_ahead p s i a (stands p w m events s actors i before standing at of_member) zs u tasks (IsAhead p At a.stack x) ready.ahead)
+            (λ t live. subst (IsFront x) (sym (relisted_front p s i a (stands p w m events s actors i before standing at of_member) zs u tasks t live)) ready.front);
         runs = stack_runs p s u i stay a o.stands o.runs;
         row = ready.row;
         ended = ready.ended;

@@ -1,23 +1,17 @@
--- Loads at barriers: member 0 waits until all have arrived, and then until no explicit task of the region is unfinished; and the other members wait for the release.
-use Rattle.std.proofs.Common.{◌≡◌, ◌≢◌, ◌<◌, ◌≤◌, ◌+◌, ◌*◌, ◌==◌, ◌&&◌, ℕ, zero, suc, Bool, true, false, List, ◌∷◌, length, slice_index, sum, Option, refl, sym, ap, ◌∙◌, subst, arith, eq-eqb, eqb-true, ne_eqb, ltb-true, ltb-false, if◌then◌else◌}
+-- Loads at barriers: member 0 waits until all have arrived, and then until no explicit task of the region lives; and the other members wait for the release.
+use Rattle.std.proofs.Common.{◌≡◌, ◌≢◌, ◌<◌, ◌≤◌, ◌+◌, ◌*◌, ◌==◌, ℕ, zero, suc, Bool, true, false, List, ◌∷◌, length, slice_index, sum, refl, sym, ap, ◌∙◌, subst, arith, eq-eqb, eqb-true, ne_eqb, ltb-true, ltb-false, if◌then◌else◌}
 use Rattle.omi_word.specs.declared.op.Op.TheVariants as op
 use Rattle.omi_script.specs.declared.program.Program.{Program}
 use Rattle.omi_model.specs.declared.encounter.Encounter.{Encounter}
 use Rattle.omi_model.specs.declared.event.Event.{Event}
-use Rattle.omi_model.specs.declared.id.Rid.{Rid}
 use Rattle.omi_model.specs.declared.item.Item.TheVariants as item
-use Rattle.omi_model.specs.declared.progress.Progress.{Progress}
-use Rattle.omi_model.specs.declared.progress.Progress.TheVariants as progress
 use Rattle.omi_model.specs.declared.region.Region.{Region}
-use Rattle.omi_model.specs.declared.task.Task.{Task}
-use Rattle.omi_model.specs.Barriers.{AreFinished}
+use Rattle.omi_model.specs.Barriers.{HasNoExplicit}
 use Rattle.omi_model.specs.State.{State}
 use Rattle.omi_model.proofs.Slots.{some_same}
 use Rattle.omi_layout.specs.declared.field.Field.TheVariants.{RegionArrived, RegionPending, RegionReleased}
-use Rattle.omi_layout.specs.Field.{tasks}
 use Rattle.omi_layout.specs.Memory.{Memory}
 use Rattle.omi_layout.specs.Named.{number}
-use Rattle.omi_layout.specs.Table.{per_thread}
 use Rattle.omi_pc.specs.declared.actor.Actor.{Actor}
 use Rattle.omi_pc.specs.declared.counter.Counter.TheVariants as counter
 use Rattle.omi_pc.specs.declared.frame.Barrier.{Barrier}
@@ -28,11 +22,10 @@ use Rattle.omi_pc.specs.declared.team_counter.BarrierCounter.{BarrierCounter}
 use Rattle.omi_pc.specs.declared.team_counter.BarrierCounter.TheVariants as barrier
 use Rattle.omi_pc.specs.Fits.{IsMemberAt}
 use Rattle.omi_rep.specs.declared.outcome.Outcome.TheVariants as outcome
-use Rattle.omi_rule_words.specs.Counts.{is_region, is_unfinished, of_live, one, sum_below, unfinished_in}
-use Rattle.omi_rule_words.proofs.OtherCounts.{is_own_id}
-use Rattle.omi_rule_words.proofs.Sums.{part_below}
 use Rattle.omi_step_words.specs.Words.{of_region}
 use Rattle.omi_fork.specs.BarrierSteps.{barrier_moved, barrier_next, barrier_outcome, is_closed, looking, of_current, some_missing}
+use Rattle.omi_rule_words.proofs.TasksGone.{all_tasks_gone}
+use Rattle.omi_rule_words.specs.Owes.{all_owed}
 use Rattle.omi_rule.specs.Ahead.{barrier_state, passing}
 use Rattle.omi_rule.specs.Ahead as Ahead
 use Rattle.omi_rule.specs.Rows.{HasReleased}
@@ -41,9 +34,9 @@ use Rattle.omi_rule.specs.Waits.{Waits, passes_next, releases_next}
 use Rattle.omi_rule.proofs.Assembly.{Before}
 use Rattle.omi_rule.proofs.barrier.Arrivals.{all_arrived, before_release}
 use Rattle.omi_rule.proofs.barrier.AtBarrier.{fits_barrier, list_is, row}
-use Rattle.omi_rule.proofs.barrier.AtCounter.{GoesTo, at_counter, here, is_context, keeps_region, load_quiet, load_waits, of_own_region, region_record, region_there, region_word, sees, sees_number, word_of}
-use Rattle.omi_rule.proofs.Named.{task_named}
+use Rattle.omi_rule.proofs.barrier.AtCounter.{GoesTo, at_counter, here, is_context, keeps_region, load_quiet, load_waits, of_own_region, region_record, region_there, region_word, sees, sees_number, word_of, front_is}
 use Rattle.omi_rule.proofs.OwnRow.{is_open}
+use Rattle.omi_rule.proofs.Descends.{descends_in_region}
 
 -- ---- lists
 
@@ -71,14 +64,6 @@ pub other_released : (p : Program) (at : Encounter) (fs : List Frame) (b : Barri
 other_released p at fs b other =
     ap (λ (x : Bool). if x then passing p at fs b else Ahead.arrived p at fs b) (ne_eqb at.number 0 other)
 
--- a finished task
-over_by_count : (q : Progress) (im in_region : Bool) → (t : Task) → t.progress ≡ q → t.implicit ≡ false
-    → in_region ≡ true → one (is_unfinished t && in_region) ≤ 0 → q ≡ progress.Finished
-over_by_count progress.Finished im in_region t is ex there few = refl
-over_by_count progress.Deferred im in_region t is ex there few = absurd (grind (arith, is, ex, there, few))
-over_by_count progress.NotBegun im in_region t is ex there few = absurd (grind (arith, is, ex, there, few))
-over_by_count progress.Begun im in_region t is ex there few = absurd (grind (arith, is, ex, there, few))
-
 module _ (p : Program) (w : List ℕ) (m : Memory) (events : List (ℕ × Event)) (s : State) (actors : ℕ → Actor)
     (i : ℕ) (before : Before p w m events s actors i) where
   abbrev a : Actor
@@ -96,7 +81,7 @@ module _ (p : Program) (w : List ℕ) (m : Memory) (events : List (ℕ × Event)
         → GoesTo p w m events s actors i before (counter.Barrier c) at tt (counter.Look (LoadRow (wait.Barrier b) 0))
     looks b member is =
         let some = (is_context p w m events s actors i before (counter.Barrier c) at tt).size.0 in
-        record { fits = ((member, omega (arith, some)), refl); placed = tt; ahead = is; owes = refl; row = tt; ended = tt }
+        record { fits = ((member, omega (arith, some)), refl); placed = tt; ahead = is; front = front_is p w m events s actors i before (counter.Barrier c) at tt; owes = refl; row = tt; ended = tt }
 
     -- the arrivals of member 0 before its release
     pub one_more : (b : Barrier) → IsMemberAt p a b → a.context.number ≡ 0
@@ -120,28 +105,14 @@ module _ (p : Program) (w : List ℕ) (m : Memory) (events : List (ℕ × Event)
         subst releases_next
         (sym (is ∙ first_arrives p At a.stack b (sees_number p w m events s actors i before (counter.Barrier c) at tt ∙ first))) tt
 
-    -- no explicit task of the region is unfinished where its word is 0
-    pub all_finished : region_record p w m events s actors i before (counter.Barrier c) at tt (number RegionPending) 0 ≡ 0
-        → AreFinished s a.context.region
-    all_finished none x k t live ex same =
-        let n : Rid = a.context.region in
-        let f : Task → ℕ = λ u. one (is_unfinished u && is_region n u.region) in
-        let pending = (keeps_region p w m events s actors i before (counter.Barrier c) at tt).pending in
-        let few : unfinished_in w s n ≤ 0 = omega (arith, none, pending) in
-        let name = task_named p events s before.rule.reached x k t live in
-        let within =
-        before.rule.within.tasks name.name.0.creator name.name.0.slot name.name.0.generation t name.live in
-        let maker : x < s.count =
-        subst (λ y. y < s.count) name.creator
-        (subst (λ y. name.name.0.creator < y) (sym before.rule.within.count) within.maker) in
-        let place : k < per_thread w tasks = subst (λ y. y < per_thread w tasks) name.slot within.place in
-        let row =
-        part_below s.count x (λ y. sum_below (per_thread w tasks) (λ z. of_live f (s.tasks y z).live)) maker in
-        let slot = part_below (per_thread w tasks) k (λ z. of_live f (s.tasks x z).live) place in
-        let here_few : of_live f (s.tasks x k).live ≤ 0 = omega (arith, few, row, slot) in
-        over_by_count t.progress t.implicit (is_region n t.region) t refl ex
-        (subst (λ (r : Rid). is_region n r ≡ true) (sym same) (is_own_id n.0))
-        (subst (λ (o : Option Task). of_live f o ≤ 0) live here_few)
+    -- no explicit task of the region lives where its word for them is 0
+    pub all_gone : region_record p w m events s actors i before (counter.Barrier c) at tt (number RegionPending) 0 ≡ 0
+        → HasNoExplicit s a.context.region
+    all_gone none =
+        all_tasks_gone w m s (all_owed actors) a.context.region
+        (here p w m events s actors i before (counter.Barrier c) at tt).region before.rule.words before.rule.within
+        (descends_in_region p events s before.rule.reached)
+        (here p w m events s actors i before (counter.Barrier c) at tt).found none
 
   -- ---- the counters
 
@@ -190,6 +161,7 @@ module _ (p : Program) (w : List ℕ) (m : Memory) (events : List (ℕ × Event)
           fits = (member, first);
           placed = tt;
           ahead = is;
+          front = front_is p w m events s actors i before (counter.Barrier (barrier.LoadArrived b)) at tt;
           owes = refl;
           row = (o.region, o.found, all_arrived p events s before.rule.reached a.context.region o.region o.found (is_open p events s before.rule.reached i a.context o) (subst (λ n. n * (o.region.released + 1) ≤ sum o.region.arrivals) (sym o.size) whole));
           ended = tt;
@@ -220,8 +192,9 @@ module _ (p : Program) (w : List ℕ) (m : Memory) (events : List (ℕ × Event)
           fits = (member, first);
           placed = tt;
           ahead = list_is p w m events s actors i before (barrier.LoadPending b) at;
+          front = front_is p w m events s actors i before (counter.Barrier (barrier.LoadPending b)) at tt;
           owes = refl;
-          row = (row p w m events s actors i before (barrier.LoadPending b) at, all_finished (barrier.LoadPending b) at (eqb-true pending_word 0 none));
+          row = (row p w m events s actors i before (barrier.LoadPending b) at, all_gone (barrier.LoadPending b) at (eqb-true pending_word 0 none));
           ended = tt;
         })
     by_pending false some =

@@ -154,10 +154,10 @@ module _ (p : Program) (w : List ℕ) (m : Memory) (events : List (ℕ × Event)
           → Goes (if d then at_counter (counter.Plain plain.WorkState) a else worked p a)
       go true e goes_on ahead_is =
           passes free (counter.Plain plain.WorkState)
-          (λ n. record { fits = inr (stmt.Barrier, here_is, tt); placed = tt; ahead = list_is true e ∙ ap (λ xs. item.State (work_state At.level) 0 ∷ xs) (sym ahead_is); owes = refl; row = tt; ended = tt })
+          (λ n. record { fits = inr (stmt.Barrier, here_is, tt); placed = tt; ahead = list_is true e ∙ ap (λ xs. item.State (work_state At.level) 0 ∷ xs) (sym ahead_is); front = tt; owes = refl; row = tt; ended = tt })
       go false e goes_on ahead_is =
           subst Goes (sym goes_on)
-          (passes free (counter.Plain plain.Leave) (λ n. record { fits = (stmt.Barrier, here_is, tt); placed = tt; ahead = list_is false e; owes = refl; row = tt; ended = tt }))
+          (passes free (counter.Plain plain.Leave) (λ n. record { fits = (stmt.Barrier, here_is, tt); placed = tt; ahead = list_is false e; front = tt; owes = refl; row = tt; ended = tt }))
 
   -- the member is at its end
   member_goes : is_closed a word ≡ false → b ≡ Implicit → IsAtEnd p IsMember a.stack
@@ -181,13 +181,13 @@ module _ (p : Program) (w : List ℕ) (m : Memory) (events : List (ℕ × Event)
               → Goes (at_counter (behind_member_end o a.counter) a)
           by opened.Main e member last =
               passes free (counter.Plain plain.Done)
-              (λ n. record { fits = ends IsMain (subst IsMain (sym e) tt); placed = tt; ahead = last; owes = refl; row = tt; ended = tt })
+              (λ n. record { fits = ends IsMain (subst IsMain (sym e) tt); placed = tt; ahead = last; front = tt; owes = refl; row = tt; ended = tt })
           by opened.Worker e member last =
               passes free (counter.Worker ImplicitEnd)
-              (λ n. record { fits = ends IsWorker (subst IsWorker (sym e) tt); placed = tt; ahead = last; owes = refl; row = tt; ended = tt })
+              (λ n. record { fits = ends IsWorker (subst IsWorker (sym e) tt); placed = tt; ahead = last; front = tt; owes = refl; row = tt; ended = tt })
           by (opened.Master saved) e member last =
               passes free (counter.Join LoadLeft)
-              (λ n. record { fits = ends IsMaster (subst IsMaster (sym e) tt); placed = tt; ahead = last; owes = refl; row = tt; ended = tt })
+              (λ n. record { fits = ends IsMaster (subst IsMaster (sym e) tt); placed = tt; ahead = last; front = tt; owes = refl; row = tt; ended = tt })
           by (opened.Task x saved) e member last = absurd member
           by opened.Call e member last = absurd member
           by (opened.Repeat left) e member last = absurd member

@@ -11,7 +11,7 @@ use Rattle.omi_model.specs.declared.id.Rid.{Rid}
 use Rattle.omi_model.specs.declared.item.Item.{Item}
 use Rattle.omi_model.specs.declared.item.Item.TheVariants as item
 use Rattle.omi_model.specs.declared.region.Region.{Region}
-use Rattle.omi_model.specs.Barriers.{AreFinished, HaveArrived, released}
+use Rattle.omi_model.specs.Barriers.{HasNoExplicit, HaveArrived, released}
 use Rattle.omi_model.specs.Changes.{IsCurrent, on_region}
 use Rattle.omi_model.specs.Lists.{take_item}
 use Rattle.omi_model.specs.Reached.{Step}
@@ -84,11 +84,11 @@ module _ (p : Program) (w : List ℕ) (m : Memory) (events : List (ℕ × Event)
 
   all_arrived : HaveArrived own.region
   all_arrived =
-      let ((r, found, all), finished) = row p w m events s actors i before c at in subst HaveArrived (some_same found own.found) all
+      let ((r, found, all), alone) = row p w m events s actors i before c at in subst HaveArrived (some_same found own.found) all
 
-  none_left : AreFinished s own.task.region
+  none_left : HasNoExplicit s own.task.region
   none_left =
-      let (arrived, finished) = row p w m events s actors i before c at in subst (AreFinished s) (sym own.region_is) finished
+      let (arrived, alone) = row p w m events s actors i before c at in subst (HasNoExplicit s) (sym own.region_is) alone
 
   -- the barrier at which member 0 waits is the next that is released
   arrivals_are : a.context.arrivals ≡ own.region.released + 1
@@ -111,7 +111,7 @@ module _ (p : Program) (w : List ℕ) (m : Memory) (events : List (ℕ × Event)
   step =
       steps p w m events s actors i before
       (counter.Barrier c) at tt event.Release item.Release behind next takes_release
-      (a.context.task, own.task, own.region, current, there, record { first = own.number ∙ first; arrived = all_arrived; finished = none_left }) refl
+      (a.context.task, own.task, own.region, current, there, record { first = own.number ∙ first; arrived = all_arrived; alone = none_left }) refl
       (at_current listed i a.context.task (relisted behind own.task) (λ k t. released listed t) (current_moved s i a.context.task current.name behind a.context.task own.task current))
 
   words : KeepsWords w (with_region_word m a.context.region RegionReleased a.context.arrivals) next (all_owed actors)
@@ -155,5 +155,5 @@ module _ (p : Program) (w : List ℕ) (m : Memory) (events : List (ℕ × Event)
         words
         (λ j other. spares_region m s a.context.region own.region RegionReleased 0 a.context.arrivals j (actors j) own.found (inl (λ same. omega (arith, same))))
         changes refl
-        (record { fits = (fits_barrier p w m events s actors i before c at).0; placed = tt; ahead = sym (first_released p At a.stack b sees_first); owes = refl; row = is_released; ended = tt }),
+        (record { fits = (fits_barrier p w m events s actors i before c at).0; placed = tt; ahead = sym (first_released p At a.stack b sees_first); front = tt; owes = refl; row = is_released; ended = tt }),
   )

@@ -15,7 +15,7 @@ use Rattle.omi_model.specs.declared.item.Item.TheVariants as item
 use Rattle.omi_model.specs.declared.progress.Progress.TheVariants as progress
 use Rattle.omi_model.specs.declared.region.Region.{Region}
 use Rattle.omi_model.specs.declared.task.Task.{Task}
-use Rattle.omi_model.specs.Barriers.{AreFinished, HaveArrived}
+use Rattle.omi_model.specs.Barriers.{HasNoExplicit, HaveArrived}
 use Rattle.omi_model.specs.Changes.{IsCurrent, encounter}
 use Rattle.omi_model.specs.LawOrder.{Arrived, IsInOrder, Outside, Released, Stage, Waiting}
 use Rattle.omi_model.specs.Lists.{may_drop, take_item}
@@ -50,7 +50,6 @@ use Rattle.omi_rule.specs.Rule.{Rule}
 use Rattle.omi_rule.proofs.Others.{events_leave_others}
 use Rattle.omi_rule.proofs.RowsStay.{context_of}
 use Rattle.omi_rule.proofs.Named.{task_named}
-use Rattle.omi_model.specs.LawStays.{is_free}
 
 -- ---- lists between an arrival and its pass
 
@@ -199,13 +198,13 @@ module _ (p : Program) (events : List (ℕ × Event)) (s : State) (reached : Rea
 
   -- ---- explicit tasks
 
-  module _ (finished : AreFinished s n) where
-    abbrev IsOver : Tid → Task → Type 0
-    IsOver k t = t.implicit ≡ false → t.region ≡ n → t.progress ≡ progress.Finished
+  module _ (alone : HasNoExplicit s n) where
+    abbrev IsApart : Tid → Task → Type 0
+    IsApart k t = t.implicit ≡ false → t.region ≡ n → ⊥
 
-    over : EachTask IsOver s
+    over : EachTask IsApart s
     over k t live =
-        finished k.0.creator k.0.slot t (found_live k.0.generation (s.tasks k.0.creator k.0.slot) t live)
+        alone k.0.creator k.0.slot t (found_live k.0.generation (s.tasks k.0.creator k.0.slot) t live)
 
     abbrev middle : State
     middle = moved_on s i e m.item m.behind
@@ -223,9 +222,7 @@ module _ (p : Program) (events : List (ℕ × Event)) (s : State) (reached : Rea
         go v current region true im =
             never v.number
             (subst (λ (x : Item). IsInside v.number (x ∷ m.behind)) of (takes_inside k v current (ap is_frees of ∙ makes) im region))
-        go v current region false ex =
-            begun_over
-            (sym (current_begun p events s reached i k v current.name current.live).0 ∙ over k v current.live ex region)
+        go v current region false ex = over k v current.live ex region
 
     none_now : (f : ℕ) (final : Bool) (k : Tid) (t : Task) → IsCurrent middle i k t
         → (m.item ≡ item.StartNow f final) ⊎ ((seen : ℕ) × (m.item ≡ item.Defer seen f final)) → t.region ≡ n
@@ -235,37 +232,45 @@ module _ (p : Program) (events : List (ℕ × Event)) (s : State) (reached : Rea
     none_now f final k t is (inr (seen, of)) same =
         makes_none (item.Defer seen f final) refl (λ j h. no_defer j seen f final m.behind h) of k t is same
 
-    law : EachTask IsOver middle → IsTaskLaw p middle i e m.item next IsOver
+    law : EachTask IsApart middle → IsTaskLaw p middle i e m.item next IsApart
     law of_tasks = record {
       frees = λ k t free how h. h;
       shows = λ k t x h. h;
       tools = λ k t x h. h;
       sets = λ k t icv value v at_set of h. h;
-      begins = λ k t waits mine by h ex same. absurd (cc (sym waits, h ex same));
-      finishes = λ k t is end h ex same. refl;
-      starts = λ k u j t x is live ex de may of by h ex' same. absurd (cc (sym de, h ex' same));
+      begins = λ k t waits mine by h ex same. h ex same;
+      finishes = λ k t is end h ex same. h ex same;
+      starts = λ k u j t x is live ex de may of by h ex' same. h ex' same;
       members = λ region team f k t r0 is found0 may new of by j m at ex. absurd (false_true (sym ex));
       deferred = λ task f final seen k t is of fresh ex same. absurd (makes_none (item.Defer seen f final) refl (λ j h. no_defer j seen f final m.behind h) of k t is same);
       made = λ task f final k t is of fresh by ex same. absurd (none_now f final k t is of same);
     }
 
-    pub still_finished : AreFinished next n
-    still_finished c k t live ex same =
+    pub still_alone : HasNoExplicit next n
+    still_alone c k t live ex same =
         let o = task_named p (events ++ (i, e) ∷ []) next reached_next c k t live in
-        task_step_from p IsOver IsOver s i e next m (λ j u is taken h. h)
+        task_step_from p IsApart IsApart s i e next m (λ j u is taken h. h)
         (λ j u other there h. h) law over o.name t o.live ex same
 
 -- ---- the rows
 
 module _ (p : Program) (w : List ℕ) (m : Memory) (events : List (ℕ × Event)) (s : State) (actors : ℕ → Actor)
-    (rule : Rule p w m events s actors) (i : ℕ) (e : Event) (u : State) (held : is_free e ≡ false)
+    (rule : Rule p w m events s actors) (i : ℕ) (e : Event) (u : State)
     (step : Step p s i e u) (j : ℕ)
     (known : j < s.count) (other : j ≢ i) where
   leaves : LeavesOthers s u i
-  leaves = events_leave_others p events s rule.reached i e u held step
+  leaves = events_leave_others p events s rule.reached i e u step
 
   top : (c : BarrierCounter) → (actors j).counter ≡ counter.Barrier c → KeepsContext s j (actors j).context
   top c at = context_of p s j (actors j) (λ d f. cc (sym at, f)) (rule.threads j known).stands
+
+  region_stays : (c : BarrierCounter) → (actors j).counter ≡ counter.Barrier c → (r : Region)
+      → region_of s (actors j).context.region ≡ Some r
+      → (q : Region) × (region_of u (actors j).context.region ≡ Some q) × IsSameForOthers i r q
+  region_stays c at r found =
+      let o = top c at in
+      let (q, now, same) = leaves.regions (actors j).context.task o.task r o.live (ap (region_of s) o.region_is ∙ found) in
+      (q, ap (region_of u) (sym o.region_is) ∙ now, same)
 
   -- only the thread of member 0 releases
   still_released : (c : BarrierCounter) → (actors j).counter ≡ counter.Barrier c
@@ -284,13 +289,13 @@ module _ (p : Program) (w : List ℕ) (m : Memory) (events : List (ℕ × Event)
   arrived_stays : (c : BarrierCounter) → (actors j).counter ≡ counter.Barrier c
       → (actors j).context.number ≡ 0 → OfRegion s (actors j) HaveArrived → OfRegion u (actors j) HaveArrived
   arrived_stays c at first (r, found, all) =
-      let (q, now, same) = leaves.regions (actors j).context.region r found in
+      let (q, now, same) = region_stays c at r found in
       (q, now, still_arrived p events s rule.reached i e u step (actors j).context.region r found all q now (still_released c at first r q found same))
 
   released_stays : (c : BarrierCounter) → (actors j).counter ≡ counter.Barrier c → (h : ℕ)
       → (actors j).context.number ≡ h → HasReleased s (actors j) h → HasReleased u (actors j) h
   released_stays c at zero first (r, found, is) =
-      let (q, now, same) = leaves.regions (actors j).context.region r found in
+      let (q, now, same) = region_stays c at r found in
       (q, now, still_released c at first r q found same ∙ is)
   released_stays c at (suc h) first o = tt
 
@@ -301,16 +306,15 @@ module _ (p : Program) (w : List ℕ) (m : Memory) (events : List (ℕ × Event)
   row_of_barrier_stays (barrier.LoadArrived b) at o = tt
   row_of_barrier_stays (barrier.LoadPending b) at o =
       arrived_stays (barrier.LoadPending b) at (fits (barrier.LoadPending b) at).1 o
-  row_of_barrier_stays (barrier.Release b) at ((r, found, all), finished) = (
+  row_of_barrier_stays (barrier.Release b) at ((r, found, all), alone) = (
     arrived_stays (barrier.Release b) at (fits (barrier.Release b) at).1 (r, found, all),
-    still_finished p events s rule.reached i e u step (actors j).context.region r found all finished,
+    still_alone p events s rule.reached i e u step (actors j).context.region r found all alone,
   )
   row_of_barrier_stays (barrier.LoadReleased b) at o =
       released_stays (barrier.LoadReleased b) at (actors j).context.number refl o
 
 pub barrier_rows_stay : (p : Program) (w : List ℕ) (m : Memory) (events : List (ℕ × Event)) (s : State) (actors : ℕ → Actor)
-    → Rule p w m events s actors → (i : ℕ) → i < s.count → (e : Event) (u : State) → is_free e ≡ false
-    → Step p s i e u
+    → Rule p w m events s actors → (i : ℕ) → i < s.count → (e : Event) (u : State) → Step p s i e u
     → (j : ℕ) → j < s.count → j ≢ i → (c : BarrierCounter) → (actors j).counter ≡ counter.Barrier c → KeepsBarrierRow s (actors j) c → KeepsBarrierRow u (actors j) c
-barrier_rows_stay p w m events s actors rule i there e u held step j known other c at o =
-    row_of_barrier_stays p w m events s actors rule i e u held step j known other c at o
+barrier_rows_stay p w m events s actors rule i there e u step j known other c at o =
+    row_of_barrier_stays p w m events s actors rule i e u step j known other c at o

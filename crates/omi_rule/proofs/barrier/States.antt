@@ -55,5 +55,5 @@ module _ (p : Program) (w : List ℕ) (m : Memory) (events : List (ℕ × Event)
     is_on p w m events s actors i before (counter.Barrier c) at tt refl (barrier_state b) behind (counter.Barrier (barrier.Arrive b)),
     stores_state p w m events s actors i before (counter.Barrier c) at tt refl (barrier_state b) behind
         (counter.Barrier (barrier.Arrive b)) taken
-        (record { fits = fits_barrier p w m events s actors i before c at; placed = tt; ahead = refl; owes = refl; row = tt; ended = tt }),
+        (record { fits = fits_barrier p w m events s actors i before c at; placed = tt; ahead = refl; front = tt; owes = refl; row = tt; ended = tt }),
   )

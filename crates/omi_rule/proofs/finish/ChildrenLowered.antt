@@ -34,7 +34,8 @@ use Rattle.omi_rule.proofs.Assembly.{Before, quiet_keeps, spares_task}
 use Rattle.omi_rule.proofs.CountsFew.{children_few}
 use Rattle.omi_rule.proofs.KeptObjects.{task_kept}
 use Rattle.omi_rule.proofs.Owing.{owed_after}
-use Rattle.omi_rule.proofs.barrier.AtCounter.{StandsAt, ahead_is, at_counter, fits_counter, owes_now, placed_counter, row_is, thread_with, wide}
+use Rattle.omi_rule.proofs.barrier.AtCounter.{StandsAt, ahead_is, at_counter, fits_counter, owes_now, placed_counter, row_is, thread_with, wide, front_is}
+use Rattle.omi_rule.proofs.finish.GivenTasks.{same_end}
 
 module _ (p : Program) (w : List ℕ) (m : Memory) (events : List (ℕ × Event)) (s : State) (actors : ℕ → Actor)
     (i : ℕ) (before : Before p w m events s actors i) (v : Option Wait) (t : Tid) (place : Place)
@@ -46,7 +47,7 @@ module _ (p : Program) (w : List ℕ) (m : Memory) (events : List (ℕ × Event)
   standing = counter.Finish (finish.SubtractChildren v t place)
 
   abbrev to : Counter
-  to = counter.Finish (finish.SubtractPending v)
+  to = counter.Finish (finish.SubtractReferences v t place)
 
   abbrev on_children : Place → RecordWord
   on_children q = record { creator = q.creator; slot = q.slot; field = TaskChildren; place = 0 }
@@ -76,7 +77,7 @@ module _ (p : Program) (w : List ℕ) (m : Memory) (events : List (ℕ × Event)
       let most = children_few w s before.valid before.rule.within.count (all_owed actors) g in
       omega (arith, count, most)
 
-  owes : owed a ≡ record nothing { pending = Some a.context.region; lowered = Some t }
+  owes : owed a ≡ record nothing { pending = Some a.context.region; lowered = Some t; own = Some t }
   owes = owes_now p w m events s actors i before standing at tt
 
   words : KeepsWords w n s (all_owed (replace_at actors i (at_counter to a)))
@@ -86,7 +87,7 @@ module _ (p : Program) (w : List ℕ) (m : Memory) (events : List (ℕ × Event)
       (children_subtracts_keep w m s (all_owed actors) i t g before.rule.words before.known (ap (λ (o : Owed). o.lowered) owes) (ap (λ o. option_and_then (λ x. x.generating) o) ended.live ∙ ended.made_by) few)
 
   stands_at : StandsAt p w m events s actors i before standing at tt n to
-  stands_at = record { fits = fits.0; placed = tt; ahead = ahead_is p w m events s actors i before standing at tt; row = tt; ended = tt }
+  stands_at = record { fits = fits; placed = placed; ahead = ahead_is p w m events s actors i before standing at tt; front = front_is p w m events s actors i before standing at tt; row = same_end s a to t (λ g. place_of g.0 ≡ place) ended; ended = tt }
 
   lowered : KeepsRule p w m events s actors i (op.Sub (of_place w (place_of g.0) TaskChildren) 1) (on_children (place_of g.0)) (at_counter to a, outcome.Quiet)
   lowered =

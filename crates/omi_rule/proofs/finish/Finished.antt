@@ -44,6 +44,7 @@ use Rattle.omi_rule_words.specs.Words.{KeepsWords}
 use Rattle.omi_step_words.specs.Moving.{task_under, to_finish}
 use Rattle.omi_step_words.specs.Placed.{AreContextsPlaced}
 use Rattle.omi_step_words.specs.Words.{of_thread}
+use Rattle.omi_rule.proofs.WaitingFronts.{freeing_front}
 use Rattle.omi_rule.specs.Ahead.{IsAhead, ahead, behind_body, resuming}
 use Rattle.omi_rule.specs.Chains.{IsScheduledFrom, IsSuspended, KeepsBodies, KeepsBody, KeepsContext, Stands, StandsWith, encounter_of}
 use Rattle.omi_rule.specs.Steps.{IsOn, KeepsRule, RecordWord, StepKeeps}
@@ -117,7 +118,7 @@ module _ (p : Program) (w : List ℕ) (m : Memory) (events : List (ℕ × Event)
     others = λ n other t live.
         later_task n t
         (on_other listed.tasks a.context.task.0 ending n.0 other ∙ on_other s.tasks a.context.task.0 (relisted []) n.0 other ∙ live);
-    regions = λ n r live. (r, live, refl, refl, refl);
+    regions = λ n t live r found. (r, found, refl, refl, refl);
   }
 
   abbrev on_current : RecordWord
@@ -213,7 +214,7 @@ module _ (p : Program) (w : List ℕ) (m : Memory) (events : List (ℕ × Event)
     stored = with_word m i threads 0 (number ThreadCurrent) 0 (task_address w (task_under a))
 
     abbrev lowers : Owed
-    lowers = record nothing { pending = Some mine.task.region; lowered = Some a.context.task }
+    lowers = record nothing { pending = Some mine.task.region; lowered = Some a.context.task; own = Some a.context.task }
 
     words : KeepsWords w stored next (put (all_owed actors) i lowers)
     words =
@@ -243,6 +244,7 @@ module _ (p : Program) (w : List ℕ) (m : Memory) (events : List (ℕ × Event)
               let (free, there) = task_kept p s next i a.context.task leaves saved apart suspended.task suspended.live in
               let one : record suspended.task { frees = free } ≡ t = some_same there live in
               subst (λ (e : Encounter). IsAhead p e fs back.counter t.list) (sym sees_same) (ap (λ (u : Task). u.list) (sym one) ∙ suspended.list_is);
+          front = λ t live. freeing_front (Some (freeable.Finished a.context.task)) _ mine.task.scheduling saved.task met t live;
         }
 
         none : (o : Option Wait) → StartsAt p saved f.function [] o → ⊥
@@ -285,7 +287,7 @@ module _ (p : Program) (w : List ℕ) (m : Memory) (events : List (ℕ × Event)
         (plain_event_keeps p w m events s actors i before (op.Store (of_thread w a.thread ThreadCurrent) v) on_current (back, outcome.Event (event.Finish a.context.task)) (event.Finish a.context.task) next
         (λ no_object. no_object) refl step (v, ap (λ j. op.Store (of_thread w j ThreadCurrent) v) o.thread)
         (none_new p w m events s actors i before x at tt (event.Finish a.context.task) item.Finish [] next taken step (λ g e. absurd (cc e)))
-        (owed_after w stored next actors i back lowers (ap (λ r. record nothing { pending = Some r; lowered = Some a.context.task }) (sym same_region)) words)
+        (owed_after w stored next actors i back lowers (ap (λ r. record nothing { pending = Some r; lowered = Some a.context.task; own = Some a.context.task }) (sym same_region)) words)
         (λ j other. spares_threads m s i ThreadCurrent v j (actors j) (λ same. omega (arith, same)))
         (record {
           thread = o.thread;

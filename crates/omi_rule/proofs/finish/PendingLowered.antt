@@ -1,5 +1,5 @@
 -- The region's word for unfinished tasks is lowered for an explicit task that has finished, and the thread goes back to where it started.
-use Rattle.std.proofs.Common.{◌≡◌, ◌<◌, ◌^◌, inl, inr, ◌*◌, ℕ, Bool, true, false, List, ◌∷◌, Option, Some, None, refl, ap, ◌∙◌, subst, arith, if◌then◌else◌}
+use Rattle.std.proofs.Common.{◌≡◌, ◌<◌, ◌^◌, inl, inr, ◌*◌, ℕ, Bool, true, false, List, ◌∷◌, Option, Some, None, refl, ap, ◌∙◌, arith, if◌then◌else◌}
 use Rattle.omi_word.specs.declared.op.Op.TheVariants as op
 use Rattle.omi_script.specs.declared.program.Program.{Program}
 use Rattle.omi_script.specs.declared.statement.Stmt.{Stmt}
@@ -25,7 +25,7 @@ use Rattle.omi_pc.specs.Fits.{Enters, IsBack, IsTask}
 use Rattle.omi_rep.specs.declared.outcome.Outcome.TheVariants as outcome
 use Rattle.omi_rule_words.specs.BarrierKinds.{with_region_word, word_of_region}
 use Rattle.omi_rule_words.specs.CountKinds.{one_less}
-use Rattle.omi_rule_words.specs.Owes.{Owed, all_owed, nothing, owed}
+use Rattle.omi_rule_words.specs.Owes.{all_owed, nothing, owed}
 use Rattle.omi_rule_words.specs.Words.{KeepsWords}
 use Rattle.omi_rule_words.proofs.PendingWords.{pending_subtracts_keep}
 use Rattle.omi_step_words.specs.Words.{of_region}
@@ -36,7 +36,7 @@ use Rattle.omi_rule.specs.Steps.{KeepsRule, StepKeeps}
 use Rattle.omi_rule.proofs.Assembly.{Before, quiet_keeps, spares_region}
 use Rattle.omi_rule.proofs.CountsFew.{pending_few}
 use Rattle.omi_rule.proofs.Owing.{owed_after}
-use Rattle.omi_rule.proofs.barrier.AtCounter.{StandsAt, ahead_is, at_counter, fits_counter, here, is_context, keeps_region, owes_now, region_word, sees, sees_debug, thread_with, word_of}
+use Rattle.omi_rule.proofs.barrier.AtCounter.{StandsAt, ahead_is, at_counter, fits_counter, here, is_context, keeps_region, owes_now, region_word, sees, sees_debug, thread_with, word_of, front_is}
 
 module _ (p : Program) (w : List ℕ) (m : Memory) (events : List (ℕ × Event)) (s : State) (actors : ℕ → Actor)
     (i : ℕ) (before : Before p w m events s actors i) (v : Option Wait)
@@ -69,9 +69,7 @@ module _ (p : Program) (w : List ℕ) (m : Memory) (events : List (ℕ × Event)
 
   words : KeepsWords w n s (replace_at (all_owed actors) i nothing)
   words =
-      subst (λ (o : Owed). KeepsWords w n s (replace_at (all_owed actors) i o))
-      (ap (λ (o : Owed). record o { pending = None }) owes)
-      (pending_subtracts_keep w m s (all_owed actors) i a.context.region before.rule.words before.known (ap (λ (o : Owed). o.pending) owes) few)
+      pending_subtracts_keep w m s (all_owed actors) i a.context.region before.rule.words before.known owes few
 
   abbrev Goes : Counter → Type 0
   Goes to =
@@ -105,19 +103,19 @@ module _ (p : Program) (w : List ℕ) (m : Memory) (events : List (ℕ × Event)
       → list ≡ resuming p At a.stack (Some (wait.Barrier x)) → Goes (by_debug (wait.Barrier x) b)
   barrier_waits x true e back is =
       leads (counter.Look (look.State (wait.Barrier x))) refl
-      (record { fits = (back, tt); placed = tt; ahead = is ∙ ap (λ (d : Bool). if d then item.State (Ahead.barrier_state x) 0 ∷ Ahead.arrived p At a.stack x else Ahead.arrived p At a.stack x) (sees_debug p w m events s actors i before standing at tt ∙ e); row = tt; ended = tt })
+      (record { fits = (back, tt); placed = tt; ahead = is ∙ ap (λ (d : Bool). if d then item.State (Ahead.barrier_state x) 0 ∷ Ahead.arrived p At a.stack x else Ahead.arrived p At a.stack x) (sees_debug p w m events s actors i before standing at tt ∙ e); front = front_is p w m events s actors i before standing at tt; row = tt; ended = tt })
   barrier_waits x false e back is =
       leads (counter.Look (look.LoadRow (wait.Barrier x) 0)) refl
-      (record { fits = ((back, some_slot), refl); placed = tt; ahead = is ∙ ap (λ (d : Bool). if d then item.State (Ahead.barrier_state x) 0 ∷ Ahead.arrived p At a.stack x else Ahead.arrived p At a.stack x) (sees_debug p w m events s actors i before standing at tt ∙ e); row = tt; ended = tt })
+      (record { fits = ((back, some_slot), refl); placed = tt; ahead = is ∙ ap (λ (d : Bool). if d then item.State (Ahead.barrier_state x) 0 ∷ Ahead.arrived p At a.stack x else Ahead.arrived p At a.stack x) (sees_debug p w m events s actors i before standing at tt ∙ e); front = front_is p w m events s actors i before standing at tt; row = tt; ended = tt })
 
   task_waits : (b : Bool) → p.env.debug ≡ b → IsBack p a (Some wait.Taskwait)
       → list ≡ resuming p At a.stack (Some wait.Taskwait) → Goes (by_debug wait.Taskwait b)
   task_waits true e back is =
       leads (counter.Look (look.State wait.Taskwait)) refl
-      (record { fits = (back, tt); placed = tt; ahead = is ∙ ap (λ (d : Bool). if d then item.State WAIT_TASKWAIT 0 ∷ Ahead.waiting p At a.stack wait.Taskwait else Ahead.waiting p At a.stack wait.Taskwait) (sees_debug p w m events s actors i before standing at tt ∙ e); row = tt; ended = tt })
+      (record { fits = (back, tt); placed = tt; ahead = is ∙ ap (λ (d : Bool). if d then item.State WAIT_TASKWAIT 0 ∷ Ahead.waiting p At a.stack wait.Taskwait else Ahead.waiting p At a.stack wait.Taskwait) (sees_debug p w m events s actors i before standing at tt ∙ e); front = front_is p w m events s actors i before standing at tt; row = tt; ended = tt })
   task_waits false e back is =
       leads (counter.Look (look.LoadRow wait.Taskwait 0)) refl
-      (record { fits = ((back, some_slot), refl); placed = tt; ahead = is ∙ ap (λ (d : Bool). if d then item.State WAIT_TASKWAIT 0 ∷ Ahead.waiting p At a.stack wait.Taskwait else Ahead.waiting p At a.stack wait.Taskwait) (sees_debug p w m events s actors i before standing at tt ∙ e); row = tt; ended = tt })
+      (record { fits = ((back, some_slot), refl); placed = tt; ahead = is ∙ ap (λ (d : Bool). if d then item.State WAIT_TASKWAIT 0 ∷ Ahead.waiting p At a.stack wait.Taskwait else Ahead.waiting p At a.stack wait.Taskwait) (sees_debug p w m events s actors i before standing at tt ∙ e); front = front_is p w m events s actors i before standing at tt; row = tt; ended = tt })
 
   waits : (x : Wait) → IsBack p a (Some x) → list ≡ resuming p At a.stack (Some x)
       → Goes (behind_finish p (Some x))
@@ -125,12 +123,12 @@ module _ (p : Program) (w : List ℕ) (m : Memory) (events : List (ℕ × Event)
   waits wait.Taskwait back is = task_waits p.env.debug refl back is
   waits wait.Taskyield back is =
       leads (counter.Look (look.Yield 0)) refl
-      (record { fits = (back, inl refl); placed = tt; ahead = inr is; row = tt; ended = tt })
+      (record { fits = (back, inl refl); placed = tt; ahead = inr is; front = front_is p w m events s actors i before standing at tt; row = tt; ended = tt })
 
   back_at : (x : Option Wait) → IsBack p a x → list ≡ resuming p At a.stack x → Goes (behind_finish p x)
   back_at None (y, is_at, task) is =
       leads (counter.Plain plain.Leave) refl
-      (record { fits = (y, is_at, enters y task); placed = tt; ahead = is; row = tt; ended = tt })
+      (record { fits = (y, is_at, enters y task); placed = tt; ahead = is; front = front_is p w m events s actors i before standing at tt; row = tt; ended = tt })
   back_at (Some x) back is = waits x back is
 
   pub subtract_pending_keeps : StepKeeps p w m events s actors i (finish_next w (actors i) (finish.SubtractPending v)) (λ old. (finish_moved p w (actors i) (finish.SubtractPending v) old, finish_outcome (actors i) (finish.SubtractPending v)))

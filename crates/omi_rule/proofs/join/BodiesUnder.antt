@@ -4,7 +4,6 @@ use Rattle.std.specs.Option.{option_map_or}
 use Rattle.omi_script.specs.declared.env.Env.{Env}
 use Rattle.omi_script.specs.declared.program.Program.{Program}
 use Rattle.omi_model.specs.declared.id.Id.{Id}
-use Rattle.omi_model.specs.declared.id.Rid.{Rid}
 use Rattle.omi_model.specs.declared.id.Tid.{Tid}
 use Rattle.omi_model.specs.declared.item.Item.{Item}
 use Rattle.omi_model.specs.declared.region.Region.{Region}
@@ -37,13 +36,13 @@ freeing_later slots x (Some m) n t live =
     (λ u. record u { frees = x }) (λ y e. (x, refl)) n.0 t live in
     (same.0, there ∙ ap (λ (z : Task). Some z) same.1)
 
--- a state in which one task has ended, or a region was joined
+-- a state in which one task has ended or is gone, a region was joined, or one of which no task lives is gone
 pub record LeavesUnder (s u : State) (k : Tid) : Type 0 where
   pub environment : u.environment ≡ s.environment
   pub others : (n : Tid) → (n.0 ≡ k.0 → ⊥) → (t : Task) → task_of s n ≡ Some t
       → (free : Option Freeable) × (task_of u n ≡ Some (record t { frees = free }))
-  pub regions : (n : Rid) (r : Region) → region_of s n ≡ Some r
-      → (q : Region) × (region_of u n ≡ Some q) × (q.team ≡ r.team) × (q.levels ≡ r.levels) × (q.arrivals ≡ r.arrivals)
+  pub regions : (n : Tid) (t : Task) → task_of s n ≡ Some t → (r : Region) → region_of s t.region ≡ Some r
+      → (q : Region) × (region_of u t.region ≡ Some q) × (q.team ≡ r.team) × (q.levels ≡ r.levels) × (q.arrivals ≡ r.arrivals)
 
 module _ (p : Program) (s u : State) (i : ℕ) (k : Tid) (leaves : LeavesUnder s u k) where
   pub task_kept : (c : Context) → (c.task ≡ k → ⊥) → (t : Task) → task_of s c.task ≡ Some t
@@ -53,7 +52,8 @@ module _ (p : Program) (s u : State) (i : ℕ) (k : Tid) (leaves : LeavesUnder s
 
   context_kept : (c : Context) → (c.task ≡ k → ⊥) → KeepsContext s i c → KeepsContext u i c
   context_kept c apart o =
-      let (q, found, team, levels, arrivals) = leaves.regions c.region o.region o.found in
+      let (q, found, team, levels, arrivals) =
+      leaves.regions c.task o.task o.live o.region (ap (region_of s) o.region_is ∙ o.found) in
       let (free, there) = task_kept c apart o.task o.live in
       record {
         task = record o.task { frees = free };
@@ -66,7 +66,7 @@ module _ (p : Program) (s u : State) (i : ℕ) (k : Tid) (leaves : LeavesUnder s
         final = o.final;
         exit = o.exit;
         region = q;
-        found = found;
+        found = ap (region_of u) (sym o.region_is) ∙ found;
         size = ap length team ∙ o.size;
         row = ap (λ (t : List (Tid × ℕ)). slice_get t c.number) team ∙ o.row;
         arrivals = ap (λ (xs : List ℕ). slice_index xs c.number) arrivals ∙ o.arrivals;
@@ -76,7 +76,7 @@ module _ (p : Program) (s u : State) (i : ℕ) (k : Tid) (leaves : LeavesUnder s
       → encounter_of u c ≡ encounter_of s c
   encounter_kept c apart o =
       let found_task : region_of s o.task.region ≡ Some o.region = ap (region_of s) o.region_is ∙ o.found in
-      let (q, found, team, levels, arrivals) = leaves.regions o.task.region o.region found_task in
+      let (q, found, team, levels, arrivals) = leaves.regions c.task o.task o.live o.region found_task in
       let level : level_of u o.task.region ≡ level_of s o.task.region =
       ap (λ (x : Option Region). option_map_or (λ r. r.levels) x 0) found
       ∙ levels
@@ -129,3 +129,19 @@ module _ (p : Program) (s u : State) (i : ℕ) (k : Tid) (leaves : LeavesUnder s
     body_kept c f.opened fs apart here (of_innermost p s i (context_under c f.opened) fs rest) body,
     under_kept (context_under c f.opened) fs (under_apart c f.opened apart here) below rest,
   )
+
+-- a name that is none of a task with an open body is below none of them
+pub below_apart : (p : Program) (s : State) (i : ℕ) (k : Tid) → ((c : Context) → KeepsContext s i c → c.task ≡ k → ⊥)
+    → (c : Context) (fs : List Frame) → KeepsBodies p s i c fs → AreBelow k fs
+below_apart p s i k apart c [] bodies = tt
+below_apart p s i k apart c (f ∷ fs) (o, body, rest) =
+    (of_opened f.opened rest, below_apart p s i k apart (context_under c f.opened) fs rest)
+  where
+    of_opened : (x : Opened) → KeepsBodies p s i (context_under c x) fs → IsBelow k x
+    of_opened opened.Main under = tt
+    of_opened opened.Worker under = tt
+    of_opened (opened.Master saved) under = apart saved (of_innermost p s i saved fs under)
+    of_opened (opened.Task w saved) under = apart saved (of_innermost p s i saved fs under)
+    of_opened opened.Call under = tt
+    of_opened (opened.Repeat left) under = tt
+    of_opened (opened.Critical lock) under = tt

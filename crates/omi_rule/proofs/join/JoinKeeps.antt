@@ -1,4 +1,4 @@
--- Each step of a join keeps the rule. The counters that give records back are not reached yet.
+-- Each step of a join keeps the rule.
 use Rattle.std.proofs.Common.{◌≡◌, ◌≤◌, ◌-◌, ℕ, List, sym, subst}
 use Rattle.omi_script.specs.declared.program.Program.{Program}
 use Rattle.omi_model.specs.declared.event.Event.{Event}
@@ -13,7 +13,9 @@ use Rattle.omi_pc.specs.declared.team_counter.JoinCounter.{JoinCounter}
 use Rattle.omi_pc.specs.declared.team_counter.JoinCounter.TheVariants as join
 use Rattle.omi_fork.specs.JoinSteps.{join_moved, join_next, join_outcome}
 use Rattle.omi_rule.specs.Steps.{StepKeeps}
-use Rattle.omi_rule.specs.StepsKeep.{IsJoinKept}
+use Rattle.omi_rule.proofs.join.MemberLoads.{load_life_keeps, load_member_keeps}
+use Rattle.omi_rule.proofs.join.MemberFreed.{free_task_keeps}
+use Rattle.omi_rule.proofs.join.RegionFreed.{free_region_keeps}
 use Rattle.omi_rule.proofs.Assembly.{Before}
 use Rattle.omi_rule.proofs.barrier.AtCounter.{row_is}
 use Rattle.omi_rule.proofs.join.Joined.{join_from}
@@ -29,19 +31,23 @@ join_keeps p w m events s actors i before at =
     subst
     (λ k. (actors i).context.size - 1 ≤ m k regions (actors i).context.region.0.slot (number RegionLeft) 0)
     (sym maker) enough in
-    join_from p w m events s actors i before at
+    join_from p w m events s actors i before at maker
     (others_ended p w m events s actors i before join.Join at full)
     (none_owes p w m events s actors i before join.Join at full)
 
 pub join_steps_keep : (p : Program) (w : List ℕ) (m : Memory) (events : List (ℕ × Event)) (s : State) (actors : ℕ → Actor) (i : ℕ)
-    → Before p w m events s actors i → (c : JoinCounter) → IsJoinKept c → (actors i).counter ≡ counter.Join c
+    → Before p w m events s actors i → (c : JoinCounter) → (actors i).counter ≡ counter.Join c
     → StepKeeps p w m events s actors i (join_next w (actors i) c)
     (λ old. (join_moved p w (actors i) c old, join_outcome w (actors i) c old))
-join_steps_keep p w m events s actors i before join.LoadLeft kept at =
+join_steps_keep p w m events s actors i before join.LoadLeft at =
     load_left_keeps p w m events s actors i before at
-join_steps_keep p w m events s actors i before join.Join kept at =
+join_steps_keep p w m events s actors i before join.Join at =
     join_keeps p w m events s actors i before at
-join_steps_keep p w m events s actors i before (join.LoadMember r size member) kept at = absurd kept
-join_steps_keep p w m events s actors i before (join.LoadLife r size member t) kept at = absurd kept
-join_steps_keep p w m events s actors i before (join.FreeTask r size member t) kept at = absurd kept
-join_steps_keep p w m events s actors i before (join.FreeRegion r size) kept at = absurd kept
+join_steps_keep p w m events s actors i before (join.LoadMember r size member) at =
+    load_member_keeps p w m events s actors i before r size member at
+join_steps_keep p w m events s actors i before (join.LoadLife r size member t) at =
+    load_life_keeps p w m events s actors i before r size member t at
+join_steps_keep p w m events s actors i before (join.FreeTask r size member t) at =
+    free_task_keeps p w m events s actors i before r size member t at
+join_steps_keep p w m events s actors i before (join.FreeRegion r size) at =
+    free_region_keeps p w m events s actors i before r size at

@@ -1,6 +1,7 @@
 -- Member 0 joins the others, which have all left: the region is over, and the task that encountered it goes on.
-use Rattle.std.proofs.Common.{◌≡◌, ◌≢◌, ◌<◌, ℕ, zero, suc, inr, Bool, true, false, List, [], ◌∷◌, ◌++◌, drop, Option, Some, refl, sym, ap, ◌∙◌, subst, arith, if◌then◌else◌}
+use Rattle.std.proofs.Common.{◌≡◌, ◌≢◌, ◌<◌, ℕ, true, List, [], ◌∷◌, ◌++◌, drop, Option, Some, refl, sym, ap, ◌∙◌, subst, arith, ◌≤◌}
 use Rattle.std.specs.List.{All}
+use Rattle.std.specs.Option.{option_map}
 use Rattle.omi_word.specs.declared.op.Op.TheVariants as op
 use Rattle.omi_script.specs.declared.program.Program.{Program}
 use Rattle.omi_script.specs.declared.statement.Stmt.TheVariants as stmt
@@ -15,16 +16,15 @@ use Rattle.omi_model.specs.declared.progress.Progress.TheVariants.{Finished}
 use Rattle.omi_model.specs.declared.region.Region.{Region}
 use Rattle.omi_model.specs.declared.task.Task.{Task}
 use Rattle.omi_model.specs.declared.thread.Thread.{Thread}
-use Rattle.omi_script.specs.declared.env.Env.{Env}
-use Rattle.omi_model.specs.Changes.{IsCurrent, encounter_by}
+use Rattle.omi_model.specs.Changes.{IsCurrent}
 use Rattle.omi_model.specs.Lists.{take_item}
 use Rattle.omi_model.specs.Put.{on}
 use Rattle.omi_model.specs.Reached.{Step}
-use Rattle.omi_model.specs.Rows.{work_state, working as working_row}
+use Rattle.omi_model.specs.Rows.{working as working_row}
 use Rattle.omi_model.specs.State.{State, region_of}
 use Rattle.omi_model.specs.Teams.{joined}
 use Rattle.omi_model.proofs.SlotEffects.{changed}
-use Rattle.omi_model.proofs.Slots.{on_other, put_same, some_same}
+use Rattle.omi_model.proofs.Slots.{on_other, put_same, some_same, on_same}
 use Rattle.omi_model.proofs.Steps.{at_region, current_moved, relisted}
 use Rattle.omi_layout.specs.declared.field.Field.TheVariants.{ThreadCurrent}
 use Rattle.omi_layout.specs.Field.{threads}
@@ -34,15 +34,11 @@ use Rattle.omi_pc.specs.declared.actor.Actor.{Actor}
 use Rattle.omi_pc.specs.declared.context.Context.{Context}
 use Rattle.omi_pc.specs.declared.counter.Counter.{Counter}
 use Rattle.omi_pc.specs.declared.counter.Counter.TheVariants as counter
-use Rattle.omi_pc.specs.declared.counter.PlainCounter.{PlainCounter}
-use Rattle.omi_pc.specs.declared.counter.PlainCounter.TheVariants as plain
 use Rattle.omi_pc.specs.declared.frame.Frame.{Frame}
 use Rattle.omi_pc.specs.declared.frame.Opened.{Opened}
 use Rattle.omi_pc.specs.declared.frame.Opened.TheVariants as opened
 use Rattle.omi_pc.specs.declared.team_counter.JoinCounter.TheVariants as join
-use Rattle.omi_pc.specs.Fits.{FitsPlain}
-use Rattle.omi_pc.specs.Frames.{body_in, statement_before}
-use Rattle.omi_pc.specs.Moves.{closed, closed_in, context_under, worked, worked_at, worked_in, back_to_work}
+use Rattle.omi_pc.specs.Moves.{closed, closed_in, context_under}
 use Rattle.omi_pc.specs.OpenBodies.{AreOpen, IsAt, IsAtEnd, IsMaster, IsMasterOf, StandsOn}
 use Rattle.omi_rep.specs.declared.outcome.Outcome.TheVariants as outcome
 use Rattle.omi_rep.specs.Records.{task_address, task_word}
@@ -51,13 +47,11 @@ use Rattle.omi_rule_words.specs.Words.{KeepsWords}
 use Rattle.omi_rule_words.proofs.Joins.{joins_keep}
 use Rattle.omi_rule_words.proofs.Moves.{moves_keep}
 use Rattle.omi_step_words.specs.Moving.{task_under}
-use Rattle.omi_step_words.specs.Placed.{AreContextsPlaced}
+use Rattle.omi_step_words.specs.Placed.{AreContextsPlaced, HasRegion}
 use Rattle.omi_step_words.specs.Words.{of_thread}
 use Rattle.omi_fork.specs.JoinSteps.{join_moved, join_next, join_outcome, past_join as rejoined}
-use Rattle.omi_rule.specs.Ahead.{IsAhead, leaving}
-use Rattle.omi_rule.specs.Ahead as Ahead
+use Rattle.omi_rule.specs.Ahead.{leaving}
 use Rattle.omi_rule.specs.Chains.{IsScheduledFrom, IsSuspended, KeepsBodies, KeepsBody, KeepsContext, Stands, StandsWith, encounter_of}
-use Rattle.omi_rule.specs.Rule.{HasEnded}
 use Rattle.omi_rule.specs.Steps.{IsOn, KeepsRule, RecordWord, StepKeeps}
 use Rattle.omi_rule.proofs.OwnWords.{store_on, thread_word}
 use Rattle.omi_rule.proofs.Assembly.{Before, plain_event_keeps, spares_threads}
@@ -67,11 +61,12 @@ use Rattle.omi_rule.proofs.OwnTask.{is_current, own_below}
 use Rattle.omi_rule.proofs.barrier.ArrivedBodies.{met_by}
 use Rattle.omi_rule.proofs.barrier.AtCounter.{ahead_is, body, fits_counter, here, own, owes_now, region_there, sees, stands}
 use Rattle.omi_rule.proofs.barrier.Events.{none_new, relisted_state, relisted_words, steps}
-use Rattle.omi_rule.proofs.plain.OwnEvents.{environment_stays}
 use Rattle.omi_rule.proofs.join.BodiesUnder.{freeing_later, LeavesUnder, encounter_kept, task_kept, under_kept}
 use Rattle.omi_model.proofs.StaysKept.{stays_step}
 use Rattle.omi_rule.specs.Chains.{RunsFunctions}
 use Rattle.omi_rule.proofs.Runs.{bodies_run}
+use Rattle.omi_rule.specs.Rows.{IsGivenBack}
+use Rattle.omi_rule.proofs.WaitingFronts.{freeing_front}
 
 module _ (p : Program) (w : List ℕ) (m : Memory) (events : List (ℕ × Event)) (s : State) (actors : ℕ → Actor)
     (i : ℕ) (before : Before p w m events s actors i) (at : (actors i).counter ≡ counter.Join join.Join) where
@@ -131,7 +126,7 @@ module _ (p : Program) (w : List ℕ) (m : Memory) (events : List (ℕ × Event)
         (Some (freeable.Joined ended_task.region 0)) mine.region.encountering n t
         (on_other listed.tasks a.context.task.0 (λ u. record u { progress = Finished }) n.0 other
         ∙ on_other s.tasks a.context.task.0 (relisted []) n.0 other ∙ live);
-    regions = regions_go_on;
+    regions = λ n t live r found. regions_go_on t.region r found;
   }
 
   abbrev on_current : RecordWord
@@ -208,113 +203,100 @@ module _ (p : Program) (w : List ℕ) (m : Memory) (events : List (ℕ × Event)
     abbrev goes_on : List Item
     goes_on = working_row (encounter_of s saved) (leaving p (encounter_of s saved) fs)
 
-    stands_back : (y : Counter) → IsAhead p (encounter_of s saved) fs y goes_on
-        → Stands p next i (record back { counter = y })
-    stands_back y ahead = by fs refl
+    -- the region stands in front of its list
+    abbrev first : Counter
+    first = counter.Join (join.LoadMember a.context.region a.context.size 0)
+
+    stands_back : Stands p next i (record back { counter = first })
+    stands_back = by fs refl
       where
         in_task : (g : Frame) (gs : List Frame) → fs ≡ g ∷ gs
-            → StandsWith p next i (record back { counter = y }) (g ∷ gs)
+            → StandsWith p next i (record back { counter = first }) (g ∷ gs)
         in_task g gs is = record {
           current = ap (λ (h : Thread). h.current) (put_same s.threads i (record (s.threads i) { current = mine.region.encountering })) ∙ met;
           bodies = under_kept p s next i a.context.task leaves saved fs apart below under;
           ahead = λ t live.
               let (free, there) = task_kept p s next i a.context.task leaves saved apart suspended.task suspended.live in
               let one : record suspended.task { frees = free } ≡ t = some_same there live in
-              subst (λ (e : Encounter). IsAhead p e fs y t.list) (sym sees_same)
-              (subst (λ (xs : List Item). IsAhead p (encounter_of s saved) fs y xs) (sym suspended.list_is ∙ ap (λ (v : Task). v.list) one) ahead);
+              sym (ap (λ (v : Task). v.list) one) ∙ suspended.list_is
+              ∙ ap (λ (e : Encounter). working_row e (leaving p e fs)) (sym sees_same);
+          front = λ t live.
+              freeing_front (Some (freeable.Joined mine.task.region 0))
+              (on listed.tasks a.context.task.0 (λ u. record u { progress = Finished })) mine.region.encountering saved.task met t live
+              ∙ ap (λ (n : Rid). Some (freeable.Joined n 0)) mine.region_is;
         }
 
-        by : (xs : List Frame) → fs ≡ xs → StandsWith p next i (record back { counter = y }) xs
+        by : (xs : List Frame) → fs ≡ xs → StandsWith p next i (record back { counter = first }) xs
         by [] is =
             absurd
             (cc (subst (λ (xs : List Frame). IsAt p xs (stmt.Parallel f.function num)) is at_construct))
         by (g ∷ gs) is = in_task g gs is
 
-    leads_to : (y : PlainCounter) → FitsPlain p (record back { counter = counter.Plain y }) y
-        → IsAhead p (encounter_of s saved) fs (counter.Plain y) goes_on → HasEnded later i (counter.Plain y)
-        → Goes (record back { counter = counter.Plain y })
-    leads_to y fits ahead over =
-        let o = own p w m events s actors i before x at tt in
-        let v = task_address w (task_under a) in
-        plain_event_keeps p w m events s actors i before
-        (op.Store (of_thread w a.thread ThreadCurrent) v) on_current
-        (record back { counter = counter.Plain y }, outcome.Event (event.Join a.context.region))
-        (event.Join a.context.region) next
-        (λ no_object. no_object) refl step (v, ap (λ j. op.Store (of_thread w j ThreadCurrent) v) o.thread)
-        (none_new p w m events s actors i before x at tt (event.Join a.context.region) item.Join [] next taken step (λ g e. absurd (cc e)))
-        (moves_keep w (with_word m i threads 0 (number ThreadCurrent) 0 v) next actors i (record back { counter = counter.Plain y }) words (sym (owes_now p w m events s actors i before x at tt)))
-        (λ j other. spares_threads m s i ThreadCurrent v j (actors j) (λ same. omega (arith, same)))
-        (record {
-          thread = o.thread;
-          fits = record { thread = o.fits.thread; variables = o.fits.variables; bodies = open_under; counter = fits };
-          placed = record { bodies = placed_under; counter = tt };
-          stands = stands_back (counter.Plain y) ahead;
-          runs = bodies_run p s next i (stays_step p s i (event.Join a.context.region) next step) saved fs under runs_under;
-          row = tt;
-          ended = over;
-        })
+    -- it is over, and has this thread's name
+    module _ (made : a.context.region.0.creator ≡ i) (some : 1 ≤ a.context.size)
+        (few : a.context.size ≤ p.threads) (placed : HasRegion w a.context.region) where
+      over : IsGivenBack next a.context.region a.context.size (λ team. Unit {0})
+      over = (
+        is_over mine.region,
+        subst (λ (n : Rid). region_of next n ≡ Some (is_over mine.region)) mine.region_is
+            (on_same s.regions mine.task.region.0 is_over ∙ ap (option_map is_over) there),
+        refl,
+        mine.size,
+        tt,
+      )
 
-    -- ---- the construct that goes on
-
-    debug_is : (encounter_of s saved).debug ≡ p.env.debug
-    debug_is =
-        ap (λ (o : Option Task). (encounter_by s o).debug) top_under.live
-        ∙ ap (λ (e : Env). e.debug) (environment_stays p events s before.rule.reached)
-
-    goes : Goes (rejoined p a)
-    goes = subst Goes (sym (ap (λ (b : Actor). back_to_work p b) closed_is)) (of_frame fs refl at_construct)
-      where
-        by : (d : Bool) → p.env.debug ≡ d
-            → worked p back ≡ record back { counter = counter.Plain plain.Leave }
-            → Ahead.worked p (encounter_of s saved) fs ≡ leaving p (encounter_of s saved) fs
-            → Goes (if d then record back { counter = counter.Plain plain.WorkState } else worked p back)
-        by true e leave ahead =
-            leads_to plain.WorkState (inr (stmt.Parallel f.function num, at_construct, tt))
-            (ap (λ (b : Bool). if b then item.State (work_state (encounter_of s saved).level) 0 ∷ leaving p (encounter_of s saved) fs else leaving p (encounter_of s saved) fs) (debug_is ∙ e)
-            ∙ ap (λ xs. item.State (work_state (encounter_of s saved).level) 0 ∷ xs) (sym ahead))
-            tt
-        by false e leave ahead =
-            subst Goes (sym leave)
-            (leads_to plain.Leave (stmt.Parallel f.function num, at_construct, tt)
-            (ap (λ (b : Bool). if b then item.State (work_state (encounter_of s saved).level) 0 ∷ leaving p (encounter_of s saved) fs else leaving p (encounter_of s saved) fs) (debug_is ∙ e)) tt)
-
-        of_next : (g : Frame) (gs : List Frame) → fs ≡ g ∷ gs → (n : ℕ) → g.next ≡ n
-            → statement_before (body_in p g) n ≡ Some (stmt.Parallel f.function num)
-            → Goes (back_to_work p back)
-        of_next g gs is zero e none = absurd (cc none)
-        of_next g gs is (suc n) e some =
-            by p.env.debug refl
-            (ap (λ (xs : List Frame). worked_in p xs back) is ∙ ap (λ j. worked_at p j back) e)
-            (ap (λ (xs : List Frame). Ahead.worked p (encounter_of s saved) xs) is ∙ ap (λ j. Ahead.working_at p (encounter_of s saved) j (g ∷ gs)) e ∙ ap (leaving p (encounter_of s saved)) (sym is))
-
-        of_frame : (xs : List Frame) → fs ≡ xs → IsAt p xs (stmt.Parallel f.function num)
-            → Goes (back_to_work p back)
-        of_frame [] is none = absurd (cc none)
-        of_frame (g ∷ gs) is some = of_next g gs is g.next refl some
+      goes : Goes (rejoined a)
+      goes =
+          let o = own p w m events s actors i before x at tt in
+          let v = task_address w (task_under a) in
+          subst Goes (ap (λ (b : Actor). record b { counter = first }) (sym closed_is))
+          (plain_event_keeps p w m events s actors i before
+          (op.Store (of_thread w a.thread ThreadCurrent) v) on_current
+          (record back { counter = first }, outcome.Event (event.Join a.context.region))
+          (event.Join a.context.region) next
+          (λ no_object. no_object) refl step (v, ap (λ j. op.Store (of_thread w j ThreadCurrent) v) o.thread)
+          (none_new p w m events s actors i before x at tt (event.Join a.context.region) item.Join [] next taken step (λ g e. absurd (cc e)))
+          (moves_keep w (with_word m i threads 0 (number ThreadCurrent) 0 v) next actors i (record back { counter = first }) words (sym (owes_now p w m events s actors i before x at tt)))
+          (λ j other. spares_threads m s i ThreadCurrent v j (actors j) (λ same. omega (arith, same)))
+          (record {
+            thread = o.thread;
+            fits = record {
+              thread = o.fits.thread;
+              variables = o.fits.variables;
+              bodies = open_under;
+              counter = (((stmt.Parallel f.function num, at_construct, tt), made ∙ sym o.thread, few), some);
+            };
+            placed = record { bodies = placed_under; counter = placed };
+            stands = stands_back;
+            runs = bodies_run p s next i (stays_step p s i (event.Join a.context.region) next step) saved fs under runs_under;
+            row = over;
+            ended = tt;
+          }))
 
   -- ---- the step, where all have left
 
-  pub join_from : All (λ b. b ≡ true) (drop 1 mine.region.ended)
+  pub join_from : a.context.region.0.creator ≡ i → All (λ b. b ≡ true) (drop 1 mine.region.ended)
       → ((j : ℕ) → j < s.count → (all_owed actors j).left ≢ Some a.context.region)
       → StepKeeps p w m events s actors i (join_next w (actors i) join.Join)
       (λ old. (join_moved p w (actors i) join.Join old, join_outcome w (actors i) join.Join old))
-  join_from ended none_owes = (on_current, is_on, with_bodies)
+  join_from made ended none_owes = (on_current, is_on, with_bodies)
     where
       by : (f : Frame) (fs : List Frame) → a.stack ≡ f ∷ fs → (o : Opened) → f.opened ≡ o → IsMaster o
           → StandsOn p a.context f.function fs o → KeepsBody p s a.context o fs
           → KeepsBodies p s i (context_under a.context o) fs
-          → AreOpen p (context_under a.context o) fs → AreContextsPlaced w (context_under a.context o) fs → AreBelow a.context.task (f ∷ fs) → Goes (rejoined p a)
-      by f fs is (opened.Master saved) how master (num, construct, master_of) (from, suspended) under open_under placed_under (apart, below) =
+          → AreOpen p (context_under a.context o) fs → AreContextsPlaced w (context_under a.context o) fs → AreBelow a.context.task (f ∷ fs)
+          → (1 ≤ a.context.size) × (a.context.size ≤ p.threads) → HasRegion w a.context.region → Goes (rejoined a)
+      by f fs is (opened.Master saved) how master (num, construct, master_of) (from, suspended) under open_under placed_under (apart, below) (some, few) placed =
           goes f fs is saved how num construct master_of from suspended under open_under placed_under
-          (subst (IsBelow a.context.task) how apart) below ended none_owes
-      by f fs is opened.Main how master on keeps under open_under placed_under below = absurd master
-      by f fs is opened.Worker how master on keeps under open_under placed_under below = absurd master
-      by f fs is (opened.Task y saved) how master on keeps under open_under placed_under below = absurd master
-      by f fs is opened.Call how master on keeps under open_under placed_under below = absurd master
-      by f fs is (opened.Repeat left) how master on keeps under open_under placed_under below = absurd master
-      by f fs is (opened.Critical k) how master on keeps under open_under placed_under below = absurd master
+          (subst (IsBelow a.context.task) how apart) below ended none_owes made some few placed
+      by f fs is opened.Main how master _ keeps under open_under placed_under below sized placed = absurd master
+      by f fs is opened.Worker how master _ keeps under open_under placed_under below sized placed = absurd master
+      by f fs is (opened.Task y saved) how master _ keeps under open_under placed_under below sized placed = absurd master
+      by f fs is opened.Call how master _ keeps under open_under placed_under below sized placed = absurd master
+      by f fs is (opened.Repeat left) how master _ keeps under open_under placed_under below sized placed = absurd master
+      by f fs is (opened.Critical k) how master _ keeps under open_under placed_under below sized placed = absurd master
 
-      with_bodies : Goes (rejoined p a)
+      with_bodies : Goes (rejoined a)
       with_bodies =
           let (f, fs, is, task) = body p w m events s actors i before x at tt in
           let o = own p w m events s actors i before x at tt in
@@ -326,3 +308,4 @@ module _ (p : Program) (w : List ℕ) (m : Memory) (events : List (ℕ × Event)
           subst (IsAtEnd p IsMaster) is (fits_counter p w m events s actors i before x at tt) in
           by f fs is f.opened refl master open_body.stands keeps rest open_rest placed.1
           (subst (AreBelow a.context.task) is (own_below p s i a (stands p w m events s actors i before x at tt) events before.rule.reached))
+          open_body.context.size placed.0.region

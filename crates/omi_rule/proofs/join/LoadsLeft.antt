@@ -29,7 +29,7 @@ use Rattle.omi_fork.specs.JoinSteps.{join_moved, join_next, join_outcome, some_i
 use Rattle.omi_rule.specs.Steps.{KeepsRule, RecordWord, StepKeeps}
 use Rattle.omi_rule.specs.Waits.{Waits, joins_next}
 use Rattle.omi_rule.proofs.Assembly.{Before}
-use Rattle.omi_rule.proofs.barrier.AtCounter.{GoesTo, ahead_is, at_counter, body, fits_counter, here, keeps_region, load_quiet, load_waits, of_own_region, own, region_record, region_word, word_of}
+use Rattle.omi_rule.proofs.barrier.AtCounter.{GoesTo, ahead_is, at_counter, body, fits_counter, here, keeps_region, load_quiet, load_waits, of_own_region, own, region_record, region_word, word_of, front_is}
 use Rattle.omi_rule.proofs.join.Departures.{all_ended, ended_few}
 
 module _ (p : Program) (w : List ℕ) (m : Memory) (events : List (ℕ × Event)) (s : State) (actors : ℕ → Actor)
@@ -109,6 +109,7 @@ module _ (p : Program) (w : List ℕ) (m : Memory) (events : List (ℕ × Event)
       fits = fits_counter p w m events s actors i before (counter.Join join.LoadLeft) at tt;
       placed = tt;
       ahead = ahead_is p w m events s actors i before (counter.Join join.LoadLeft) at tt;
+      front = front_is p w m events s actors i before (counter.Join join.LoadLeft) at tt;
       owes = refl;
       row = tt;
       ended = tt;
@@ -140,6 +141,7 @@ module _ (p : Program) (w : List ℕ) (m : Memory) (events : List (ℕ × Event)
           fits = fits_counter p w m events s actors i before (counter.Join join.LoadLeft) at tt;
           placed = tt;
           ahead = ahead_is p w m events s actors i before (counter.Join join.LoadLeft) at tt;
+          front = front_is p w m events s actors i before (counter.Join join.LoadLeft) at tt;
           owes = refl;
           row = (maker, subst (λ k. a.context.size - 1 ≤ m k regions a.context.region.0.slot (number RegionLeft) 0) maker enough);
           ended = tt;

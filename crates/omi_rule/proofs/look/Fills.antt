@@ -38,7 +38,7 @@ use Rattle.omi_rule.specs.Rule.{KeepsThread}
 use Rattle.omi_rule.specs.Steps.{KeepsRule, RecordWord, StepKeeps, left_in}
 use Rattle.omi_rule.proofs.Assembly.{Before, quiet_keeps, spares_task}
 use Rattle.omi_rule.proofs.RowsStay.{Spares}
-use Rattle.omi_rule.proofs.barrier.AtCounter.{StandsAt, ahead_is, at_counter, fits_counter, owes_now, placed_counter, row_is, thread_with, wide}
+use Rattle.omi_rule.proofs.barrier.AtCounter.{StandsAt, ahead_is, at_counter, fits_counter, owes_now, placed_counter, row_is, thread_with, wide, front_is}
 use Rattle.omi_rule.proofs.look.InHand.{hand_at, one_hand}
 use Rattle.omi_rule.proofs.team.Plans.{fill_next}
 
@@ -152,12 +152,12 @@ module _ (p : Program) (w : List ℕ) (m : Memory) (events : List (ℕ × Event)
       → Goes (counter.Look (if d then look.Fill v n code t f final (word + 1) else look.Start v n code t f final))
   by_count true more =
       leads (counter.Look (look.Fill v n code t f final (word + 1))) refl
-      (record { fits = (fits.0, ltb-true (word + 1) START_WORDS more); placed = has_task; ahead = ahead_is p w m events s actors i before standing at tt; row = (hand_at s a (counter.Look (look.Fill v n code t f final (word + 1))) v t Known Known hand.0 hand.0.knows, filled); ended = tt })
+      (record { fits = (fits.0, ltb-true (word + 1) START_WORDS more); placed = has_task; ahead = ahead_is p w m events s actors i before standing at tt; front = front_is p w m events s actors i before standing at tt; row = (hand_at s a (counter.Look (look.Fill v n code t f final (word + 1))) v t Known Known hand.0 hand.0.knows, filled); ended = tt })
   by_count false none =
       let whole : word + 1 ≡ START_WORDS =
       (let below = fits.1 in let over = ltb-false (word + 1) START_WORDS none in omega (arith, below, over)) in
       leads (counter.Look (look.Start v n code t f final)) refl
-      (record { fits = fits.0; placed = has_task; ahead = ahead_is p w m events s actors i before standing at tt; row = (hand_at s a (counter.Look (look.Start v n code t f final)) v t Known Known hand.0 hand.0.knows, subst (IsFilled (after_store t.0.creator tasks t.0.slot) (start_plan w a)) whole filled); ended = tt })
+      (record { fits = fits.0; placed = has_task; ahead = ahead_is p w m events s actors i before standing at tt; front = front_is p w m events s actors i before standing at tt; row = (hand_at s a (counter.Look (look.Start v n code t f final)) v t Known Known hand.0 hand.0.knows, subst (IsFilled (after_store t.0.creator tasks t.0.slot) (start_plan w a)) whole filled); ended = tt })
 
   pub fill_keeps : StepKeeps p w m events s actors i (look_next w (actors i) (look.Fill v n code t f final word)) (λ old. (look_moved p w (actors i) (look.Fill v n code t f final word) old, look_outcome w (actors i) (look.Fill v n code t f final word) old))
   fill_keeps = (

@@ -36,7 +36,7 @@ use Rattle.omi_rule.proofs.Assembly.{Before}
 use Rattle.omi_rule.proofs.Descends.{below_members, tasks_descend}
 use Rattle.omi_rule.proofs.KeptObjects.{task_kept}
 use Rattle.omi_rule.proofs.MemberFunctions.{member_function}
-use Rattle.omi_rule.proofs.barrier.AtCounter.{GoesTo, ahead_is, body, fits_counter, here, load_quiet, own, placed_counter, region_there, row_is, wide}
+use Rattle.omi_rule.proofs.barrier.AtCounter.{GoesTo, ahead_is, body, fits_counter, here, load_quiet, own, placed_counter, region_there, row_is, wide, front_is}
 use Rattle.omi_rule.proofs.look.InHand.{hand_at}
 use Rattle.omi_rule.proofs.look.TaskFunctions.{RunsTask, runs_task}
 
@@ -115,6 +115,7 @@ module _ (p : Program) (w : List ℕ) (m : Memory) (events : List (ℕ × Event)
       fits = (fits, (let same = loaded in let below = less in omega (arith, same, below)));
       placed = has_task;
       ahead = ahead_is p w m events s actors i before standing at tt;
+      front = front_is p w m events s actors i before standing at tt;
       owes = refl;
       row = hand_at s a (counter.Look (look.LoadFinal v n code t (function_at word))) v t (λ u. Unit {0}) (λ u. u.function ≡ function_at word) hand (sym loaded);
       ended = tt;
@@ -158,6 +159,7 @@ module _ (p : Program) (w : List ℕ) (m : Memory) (events : List (ℕ × Event)
       fits = (fits_counter p w m events s actors i before final_at at tt, omega arith);
       placed = has;
       ahead = ahead_is p w m events s actors i before final_at at tt;
+      front = front_is p w m events s actors i before final_at at tt;
       owes = refl;
       row = (hand_at s a (counter.Look (look.Fill v n code t f (not (final_word == 0)) 0)) v t (λ u. u.function ≡ f) (λ u. (u.function ≡ f) × (u.is_final ≡ not (final_word == 0))) known_hand (known_hand.knows, is_final), λ j below. absurd (omega (arith, below)));
       ended = tt;

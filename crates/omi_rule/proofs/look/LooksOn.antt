@@ -24,27 +24,33 @@ use Rattle.omi_task.specs.LookSteps.{behind_look, look_at, member_at, next_look}
 use Rattle.omi_rule.specs.Ahead as Ahead
 use Rattle.omi_rule.specs.Rows.{HasReleased, IsRowOf, OfRegion}
 use Rattle.omi_rule.proofs.Assembly.{Before}
-use Rattle.omi_rule.proofs.barrier.AtCounter.{GoesTo, IsOfMember, here, sees, sees_number}
+use Rattle.omi_rule.proofs.barrier.AtCounter.{GoesTo, here, sees, sees_number, IsEventful, eventful_member, eventful_passes, front_is}
 use Rattle.omi_rule.proofs.barrier.Loads.{other_released}
+use Rattle.omi_rule.specs.Chains.{IsPassable}
 
 module _ (p : Program) (w : List ℕ) (m : Memory) (events : List (ℕ × Event)) (s : State) (actors : ℕ → Actor)
     (i : ℕ) (before : Before p w m events s actors i) (standing : Counter)
-    (at : (actors i).counter ≡ standing) (of_member : IsOfMember standing)
+    (at : (actors i).counter ≡ standing) (eventful : IsEventful standing)
     (idle : owed_at (actors i).context (actors i).gathered.team standing ≡ nothing) (v : Wait) (n : ℕ)
     (row : Place) (fits : LooksAt p (actors i) v n row) (has_row : HasTaskPlace w row)
     (row_of : OfRegion s (actors i) (IsRowOf row n))
-    (list_is : (here p w m events s actors i before standing at of_member).task.list ≡ Ahead.waiting p (sees p w m events s actors i before standing at of_member) (actors i).stack v) where
+    (list_is : (here p w m events s actors i before standing at (eventful_member standing eventful)).task.list ≡ Ahead.waiting p (sees p w m events s actors i before standing at (eventful_member standing eventful)) (actors i).stack v) where
   abbrev a : Actor
   a = actors i
 
   abbrev At : Encounter
-  At = sees p w m events s actors i before standing at of_member
+  At = sees p w m events s actors i before standing at (eventful_member standing eventful)
 
   abbrev list : List Item
-  list = (here p w m events s actors i before standing at of_member).task.list
+  list = (here p w m events s actors i before standing at (eventful_member standing eventful)).task.list
 
   abbrev Goes : Counter → Type 0
-  Goes to = GoesTo p w m events s actors i before standing at of_member to
+  Goes to = GoesTo p w m events s actors i before standing at (eventful_member standing eventful) to
+
+  passes : IsPassable (here p w m events s actors i before standing at (eventful_member standing eventful)).task.frees
+  passes =
+      eventful_passes standing eventful (here p w m events s actors i before standing at (eventful_member standing eventful)).task.frees
+      (front_is p w m events s actors i before standing at (eventful_member standing eventful))
 
   -- ---- behind the last slot
 
@@ -60,6 +66,7 @@ module _ (p : Program) (w : List ℕ) (m : Memory) (events : List (ℕ × Event)
     fits = (waits, eqb-true a.context.number 0 first);
     placed = tt;
     ahead = is;
+    front = passes;
     owes = sym idle;
     row = tt;
     ended = tt;
@@ -67,11 +74,12 @@ module _ (p : Program) (w : List ℕ) (m : Memory) (events : List (ℕ × Event)
   waits_again b waits is false later =
       let other : a.context.number ≢ 0 = λ e. cc (sym later, eq-eqb a.context.number 0 e) in
       let number_is : At.number ≡ a.context.number =
-      sees_number p w m events s actors i before standing at of_member in
+      sees_number p w m events s actors i before standing at (eventful_member standing eventful) in
       record {
         fits = waits;
         placed = tt;
         ahead = is ∙ sym (other_released p At a.stack b (λ e. other (sym number_is ∙ e)));
+        front = passes;
         owes = sym idle;
         row = no_release a.context.number other;
         ended = tt;
@@ -79,8 +87,8 @@ module _ (p : Program) (w : List ℕ) (m : Memory) (events : List (ℕ × Event)
 
   behind : (x : Wait) → IsBack p a (Some x) → list ≡ Ahead.waiting p At a.stack x → Goes (behind_look a x)
   behind (wait.Barrier b) waits is = waits_again b waits is (a.context.number == 0) refl
-  behind wait.Taskwait waits is = record { fits = waits; placed = tt; ahead = is; owes = sym idle; row = tt; ended = tt }
-  behind wait.Taskyield waits is = record { fits = (waits, inr refl); placed = tt; ahead = inl is; owes = sym idle; row = tt; ended = tt }
+  behind wait.Taskwait waits is = record { fits = waits; placed = tt; ahead = is; front = passes; owes = sym idle; row = tt; ended = tt }
+  behind wait.Taskyield waits is = record { fits = (waits, inr refl); placed = tt; ahead = inl is; front = passes; owes = sym idle; row = tt; ended = tt }
 
   -- ---- the next slot
 
@@ -93,6 +101,7 @@ module _ (p : Program) (w : List ℕ) (m : Memory) (events : List (ℕ × Event)
     fits = ((fits.0.0, within), eqb-true ((n + 1) % OWN_SLOTS) 0 first);
     placed = tt;
     ahead = list_is;
+    front = passes;
     owes = sym idle;
     row = tt;
     ended = tt;
@@ -104,6 +113,7 @@ module _ (p : Program) (w : List ℕ) (m : Memory) (events : List (ℕ × Event)
         fits = ((fits.0.0, within), fits.1);
         placed = has_row;
         ahead = list_is;
+        front = passes;
         owes = sym idle;
         row = (r, found, (x, subst (λ k. slice_get r.team k ≡ Some x) same there, is));
         ended = tt;

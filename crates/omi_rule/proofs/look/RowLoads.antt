@@ -35,7 +35,7 @@ use Rattle.omi_rule.specs.Steps.{RecordWord, StepKeeps}
 use Rattle.omi_rule.proofs.Assembly.{Before}
 use Rattle.omi_rule.proofs.KeptObjects.{task_there}
 use Rattle.omi_rule.proofs.OwnRow.{is_open}
-use Rattle.omi_rule.proofs.barrier.AtCounter.{GoesTo, ahead_is, context_placed, fits_counter, here, is_context, keeps_region, load_quiet}
+use Rattle.omi_rule.proofs.barrier.AtCounter.{GoesTo, ahead_is, context_placed, fits_counter, here, is_context, keeps_region, load_quiet, front_is}
 
 module _ (p : Program) (w : List ℕ) (m : Memory) (events : List (ℕ × Event)) (s : State) (actors : ℕ → Actor)
     (i : ℕ) (before : Before p w m events s actors i) (v : Wait) (n : ℕ)
@@ -104,6 +104,7 @@ module _ (p : Program) (w : List ℕ) (m : Memory) (events : List (ℕ × Event)
     fits = (fits.0, subst (λ (q : Place). q.creator < p.threads) (sym read_back) maker);
     placed = subst (λ (q : Place). HasTaskPlace w q) (sym read_back) has_task;
     ahead = ahead_is p w m events s actors i before standing at tt;
+    front = front_is p w m events s actors i before standing at tt;
     owes = refl;
     row = (known.region, known.found, (member, member_there, sym read_back));
     ended = tt;

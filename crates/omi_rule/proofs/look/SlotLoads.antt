@@ -32,7 +32,7 @@ use Rattle.omi_rule.specs.Chains.{KeepsContext}
 use Rattle.omi_rule.specs.Rows.{IsRowOf, OfRegion, WasMade, place_of}
 use Rattle.omi_rule.specs.Steps.{KeepsRule, RecordWord, StepKeeps}
 use Rattle.omi_rule.proofs.Assembly.{Before}
-use Rattle.omi_rule.proofs.barrier.AtCounter.{GoesTo, ahead_is, fits_counter, here, load_quiet, placed_counter, row_is, sees}
+use Rattle.omi_rule.proofs.barrier.AtCounter.{GoesTo, ahead_is, fits_counter, here, load_quiet, placed_counter, row_is, sees, front_is}
 use Rattle.omi_model.proofs.NamesLive.{names_live}
 use Rattle.omi_model.proofs.Slots.{some_same}
 use Rattle.omi_rule.proofs.OwnRow.{is_open}
@@ -144,9 +144,9 @@ module _ (p : Program) (w : List ℕ) (m : Memory) (events : List (ℕ × Event)
   finds : (x : Wait) → LooksAt p a x n row
       → (here p w m events s actors i before standing at tt).task.list ≡ Ahead.waiting p (sees p w m events s actors i before standing at tt) a.stack x
       → code ≢ 0 → Goes (counter.Look (behind_code x n row code))
-  finds (wait.Barrier b) at_slot is some = record { fits = (at_slot, some); placed = has_row; ahead = is; owes = refl; row = (row_of, tt); ended = tt }
-  finds wait.Taskwait at_slot is some = record { fits = (at_slot, some, tt); placed = has_row; ahead = is; owes = refl; row = (row_of, was_made some); ended = tt }
-  finds wait.Taskyield at_slot is some = record { fits = (at_slot, some, tt); placed = has_row; ahead = is; owes = refl; row = (row_of, was_made some); ended = tt }
+  finds (wait.Barrier b) at_slot is some = record { fits = (at_slot, some); placed = has_row; ahead = is; front = front_is p w m events s actors i before standing at tt; owes = refl; row = (row_of, tt); ended = tt }
+  finds wait.Taskwait at_slot is some = record { fits = (at_slot, some, tt); placed = has_row; ahead = is; front = front_is p w m events s actors i before standing at tt; owes = refl; row = (row_of, was_made some); ended = tt }
+  finds wait.Taskyield at_slot is some = record { fits = (at_slot, some, tt); placed = has_row; ahead = is; front = front_is p w m events s actors i before standing at tt; owes = refl; row = (row_of, was_made some); ended = tt }
 
   by_slot : (d : Bool) → code == 0 ≡ d
       → KeepsRule p w m events s actors i (op.Load (of_slot w row n)) on_slot (if d then looking_on v n row a else to_look (behind_code v n row code) a, outcome.Quiet)

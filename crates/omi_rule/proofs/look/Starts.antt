@@ -1,5 +1,5 @@
 -- A task in the hand starts: it is scheduled from the current one, which waits under its body.
-use Rattle.std.proofs.Common.{◌≡◌, ◌+◌, inl, ℕ, zero, Bool, false, List, [], ◌∷◌, ◌++◌, Option, Some, refl, sym, ap, ◌∙◌, arith}
+use Rattle.std.proofs.Common.{◌≡◌, ◌+◌, inl, ℕ, zero, Bool, false, List, [], ◌∷◌, ◌++◌, Option, Some, refl, sym, ap, ◌∙◌, arith, subst}
 use Rattle.std.specs.Option.{option_and_then, option_map}
 use Rattle.omi_numbers.specs.Addresses.{exit_below, exit_frame}
 use Rattle.omi_word.specs.declared.op.Op.TheVariants as op
@@ -64,7 +64,7 @@ use Rattle.omi_task.specs.LookSteps.{body_begun, look_moved, look_next, look_out
 use Rattle.omi_task.specs.Starts.{task_context}
 use Rattle.omi_task.proofs.StartedBodies.{start_opens}
 use Rattle.omi_rule.specs.Ahead as Ahead
-use Rattle.omi_rule.specs.Chains.{IsSuspended, KeepsBodies, KeepsContext, RunsFunctions, encounter_of}
+use Rattle.omi_rule.specs.Chains.{IsSuspended, KeepsBodies, KeepsContext, RunsFunctions, encounter_of, IsPassable}
 use Rattle.omi_rule.specs.Rows.{HasPlaced, MayStartIn}
 use Rattle.omi_rule.specs.Rule.{KeepsThread}
 use Rattle.omi_rule.specs.Steps.{IsOn, KeepsRule, RecordWord, StepKeeps}
@@ -83,6 +83,7 @@ use Rattle.omi_rule.proofs.join.BodiesUnder.{LeavesUnder, under_kept}
 use Rattle.omi_rule.proofs.join.BodiesUnder as BodiesUnder
 use Rattle.omi_rule.proofs.look.ApartBodies.{are_below, other_task}
 use Rattle.omi_rule.proofs.plain.OwnEvents.{environment_stays}
+use Rattle.omi_rule.proofs.WaitingFronts.{waiting_passes}
 
 module _ (p : Program) (w : List ℕ) (m : Memory) (events : List (ℕ × Event)) (s : State) (actors : ℕ → Actor)
     (i : ℕ) (before : Before p w m events s actors i) (v : Wait) (n code : ℕ) (t : Tid) (f : ℕ) (final : Bool)
@@ -252,8 +253,12 @@ module _ (p : Program) (w : List ℕ) (m : Memory) (events : List (ℕ × Event)
   live_next : task_of next t ≡ Some New
   live_next = on_same listed.tasks t.0 (starting F) ∙ ap (option_map (starting F)) deferred.live
 
+  passes : IsPassable U.frees
+  passes =
+      waiting_passes p events s before.rule.reached t U hand.0.is.live (λ is. cc (sym hand.0.is.progress, is))
+
   leaves : LeavesUnder listed next t
-  leaves = record { environment = refl; others = λ k other x live. (x.frees, on_other listed.tasks t.0 (starting F) k.0 other ∙ live); regions = λ k r live. (r, live, refl, refl, refl) }
+  leaves = record { environment = refl; others = λ k other x live. (x.frees, on_other listed.tasks t.0 (starting F) k.0 other ∙ live); regions = λ k x live r found. (r, found, refl, refl, refl) }
 
   -- ---- the bodies
 
@@ -404,14 +409,16 @@ module _ (p : Program) (w : List ℕ) (m : Memory) (events : List (ℕ × Event)
       let o = own p w m events s actors i before standing at tt in
       leads_to (Moves.back_to_work p b) (works_owing_nothing p b frame a.stack refl)
       (works p w stored later next i b frame a.stack refl o.thread has (inl (refl, tt)) contexts_placed seen_debug now_current bodies runs
-      (λ x live. ap (λ (y : Task). y.list) (some_same live live_next) ∙ front U.list ∙ ap (working (encounter listed i)) list_is ∙ same_front (task_items p f)))
+      (λ x live. ap (λ (y : Task). y.list) (some_same live live_next) ∙ front U.list ∙ ap (working (encounter listed i)) list_is ∙ same_front (task_items p f))
+      (λ x live. subst (λ (y : Task). IsPassable y.frees) (some_same live_next live) passes))
 
   settles_now : ((xs : List Item) → F xs ≡ xs) → Goes (settled p b)
   settles_now front =
       let o = own p w m events s actors i before standing at tt in
       leads_to (settled p b) (settles_owing_nothing p b frame a.stack refl)
       (settles p w stored later next i b frame a.stack refl o.thread has contexts_placed seen_debug now_current bodies runs
-      (λ x live. ap (λ (y : Task). y.list) (some_same live live_next) ∙ front U.list ∙ list_is))
+      (λ x live. ap (λ (y : Task). y.list) (some_same live live_next) ∙ front U.list ∙ list_is)
+      (λ x live. subst (λ (y : Task). IsPassable y.frees) (some_same live_next live) passes))
 
   goes : (x : Wait) → ((xs : List Item) → F xs ≡ in_front x xs) → Goes (body_begun p x b)
   goes (wait.Barrier c) front = works_now front

@@ -41,7 +41,7 @@ use Rattle.omi_rule.proofs.Assembly.{Before, quiet_keeps, spares_task}
 use Rattle.omi_rule.proofs.KeptObjects.{task_there}
 use Rattle.omi_rule.proofs.Owing.{owed_after}
 use Rattle.omi_rule.proofs.RowsStay.{Spares}
-use Rattle.omi_rule.proofs.barrier.AtCounter.{StandsAt, ahead_is, at_counter, fits_counter, here, owes_now, placed_counter, row_is, same_quiet, sees, thread_with}
+use Rattle.omi_rule.proofs.barrier.AtCounter.{StandsAt, ahead_is, at_counter, fits_counter, here, owes_now, placed_counter, row_is, same_quiet, sees, thread_with, front_is}
 use Rattle.omi_rule.proofs.look.InHand.{hand_at}
 use Rattle.omi_rule.proofs.look.LooksOn.{goes_next}
 use Rattle.omi_rule.proofs.look.SlotLoads.{IsCoded, IsRowTask, code_back, code_there, row_task}
@@ -143,7 +143,7 @@ module _ (p : Program) (w : List ℕ) (m : Memory) (events : List (ℕ × Event)
         (slot_takes_keep w m s (all_owed actors) i o.name o.task (n % OWN_SLOTS) k before.rule.words before.rule.within before.valid before.known (owes_now p w m events s actors i before standing at tt) o.live o.implicit (omega arith) deferred (coded.is ∙ ap (slot_word w) named))
 
     stands_at : StandsAt p w m events s actors i before standing at tt taken to
-    stands_at = record { fits = (fits.0.0, subst (λ c. k.0.creator < c) (sym before.suits.threads) has_task.made_by); placed = has_task; ahead = list_is; row = hand_at s a to v k (λ u. Unit {0}) (λ u. Unit {0}) in_hand tt; ended = tt }
+    stands_at = record { fits = (fits.0.0, subst (λ c. k.0.creator < c) (sym before.suits.threads) has_task.made_by); placed = has_task; ahead = list_is; front = front_is p w m events s actors i before standing at tt; row = hand_at s a to v k (λ u. Unit {0}) (λ u. Unit {0}) in_hand tt; ended = tt }
 
     takes : KeepsRule p w m events s actors i (op.Cas (of_slot w row n) code 0) on_slot (at_counter to a, outcome.Quiet)
     takes =

@@ -40,7 +40,7 @@ use Rattle.omi_rule.specs.Rule.{Rule}
 use Rattle.omi_rule.specs.Steps.{KeepsRule, RecordWord, StepKeeps}
 use Rattle.omi_rule.proofs.Assembly.{Before, same_name}
 use Rattle.omi_rule.proofs.KeptObjects.{task_kept, task_there}
-use Rattle.omi_rule.proofs.barrier.AtCounter.{GoesTo, ahead_is, fits_counter, here, load_quiet, placed_counter, row_is, sees, wide}
+use Rattle.omi_rule.proofs.barrier.AtCounter.{GoesTo, ahead_is, fits_counter, here, load_quiet, placed_counter, row_is, sees, wide, front_is}
 use Rattle.omi_rule.proofs.look.LooksOn.{goes_next}
 
 -- whatever task a code names, the layout has its record
@@ -127,7 +127,7 @@ module _ (p : Program) (w : List ℕ) (m : Memory) (events : List (ℕ × Event)
   by_maker true same =
       load_quiet p w m events s actors i before standing at tt (of_task w k TaskGenerating) on_generating
       (counter.Look (look.Take v n row code))
-      (record { fits = (fits.0, fits.1); placed = has_row; ahead = list_is; owes = refl; row = (found_row.0, tested (eqb-true word (task_address w a.context.task) same) v fits.2); ended = tt })
+      (record { fits = (fits.0, fits.1); placed = has_row; ahead = list_is; front = front_is p w m events s actors i before standing at tt; owes = refl; row = (found_row.0, tested (eqb-true word (task_address w a.context.task) same) v fits.2); ended = tt })
   by_maker false other =
       load_quiet p w m events s actors i before standing at tt (of_task w k TaskGenerating) on_generating
       (next_look a v (n + 1) row)

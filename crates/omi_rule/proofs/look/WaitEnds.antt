@@ -43,7 +43,7 @@ use Rattle.omi_rule.specs.Waits.{Waits, children_next}
 use Rattle.omi_rule.proofs.Assembly.{Before, of_load, spares_none}
 use Rattle.omi_rule.proofs.OwnTask.{is_current}
 use Rattle.omi_rule.proofs.RowsStay.{Spares}
-use Rattle.omi_rule.proofs.barrier.AtCounter.{ahead_is, at_counter, body, context_placed, fits_counter, here, is_context, load_waits, sees, sees_debug, stands, wide}
+use Rattle.omi_rule.proofs.barrier.AtCounter.{ahead_is, at_counter, body, context_placed, fits_counter, here, is_context, load_waits, sees, sees_debug, stands, wide, front_is}
 use Rattle.omi_rule.proofs.barrier.Events.{IsReadyAt, event_leads_to, relisted_changes, relisted_state, relisted_words, steps}
 use Rattle.omi_rule.proofs.barrier.Constructs.{at_construct}
 use Rattle.omi_rule.proofs.plain.Loads.{native, native_on}
@@ -126,7 +126,7 @@ module _ (p : Program) (w : List ℕ) (m : Memory) (events : List (ℕ × Event)
         → Goes (if d then at_counter (counter.Plain plain.WorkState) a else worked p a)
     works none true e leaves ahead =
         done none (counter.Plain plain.WorkState)
-        (λ n. record { fits = inr (stmt.Taskwait, waits, tt); placed = tt; ahead = list_of true e ∙ ap (λ xs. item.State (work_state At.level) 0 ∷ xs) (sym ahead); owes = refl; row = tt; ended = tt })
+        (λ n. record { fits = inr (stmt.Taskwait, waits, tt); placed = tt; ahead = list_of true e ∙ ap (λ xs. item.State (work_state At.level) 0 ∷ xs) (sym ahead); front = tt; owes = refl; row = tt; ended = tt })
       where
         list_of : (d : Bool) → p.env.debug ≡ d
             → behind ≡ (if d then item.State (work_state At.level) 0 ∷ leaving p At a.stack else leaving p At a.stack)
@@ -137,7 +137,7 @@ module _ (p : Program) (w : List ℕ) (m : Memory) (events : List (ℕ × Event)
     works none false e leaves ahead =
         subst Goes (sym leaves)
         (done none (counter.Plain plain.Leave)
-        (λ n. record { fits = (stmt.Taskwait, waits, tt); placed = tt; ahead = ap (λ (x : Bool). if x then item.State (work_state At.level) 0 ∷ leaving p At a.stack else leaving p At a.stack) (sees_debug p w m events s actors i before standing at tt ∙ e); owes = refl; row = tt; ended = tt }))
+        (λ n. record { fits = (stmt.Taskwait, waits, tt); placed = tt; ahead = ap (λ (x : Bool). if x then item.State (work_state At.level) 0 ∷ leaving p At a.stack else leaving p At a.stack) (sees_debug p w m events s actors i before standing at tt ∙ e); front = tt; owes = refl; row = tt; ended = tt }))
 
     by_word : (d : Bool) → word == 0 ≡ d
         → KeepsRule p w m events s actors i (op.Load load) on_children (if d then back_to_work p a else to_look (look.LoadRow wait.Taskwait 0) a, if d then outcome.Event event.WaitDone else outcome.NotReady load word)
@@ -148,7 +148,7 @@ module _ (p : Program) (w : List ℕ) (m : Memory) (events : List (ℕ × Event)
     by_word false some =
         load_waits p w m events s actors i before standing at tt load on_children
         (counter.Look (look.LoadRow wait.Taskwait 0))
-        (record { fits = ((waits, some_slot), refl); placed = tt; ahead = list_is; owes = refl; row = tt; ended = tt })
+        (record { fits = ((waits, some_slot), refl); placed = tt; ahead = list_is; front = front_is p w m events s actors i before standing at tt; owes = refl; row = tt; ended = tt })
         (Waits.ForChildren (a.context.task, mine.task, current, (subst children_next (sym list_is) tt, refl, λ e. cc (sym some, eq-eqb word 0 e))))
 
     pub load_children_keeps : StepKeeps p w m events s actors i (look_next w (actors i) look.LoadChildren) (λ old. (look_moved p w (actors i) look.LoadChildren old, look_outcome w (actors i) look.LoadChildren old))
@@ -201,5 +201,5 @@ module _ (p : Program) (w : List ℕ) (m : Memory) (events : List (ℕ × Event)
               (subst (λ (k : Memory). KeepsWords w k after_yield (all_owed actors)) (sym same) (relisted_words p w m events s actors i before yielding at tt leaves))
               (λ j other. subst (λ (k : Memory). Spares m k s j (actors j)) (sym same) (spares_none m s j (actors j)))
               (relisted_changes p w m events s actors i before yielding at tt leaves) refl
-              (record { fits = (stmt.Taskyield, (fits_counter p w m events s actors i before yielding at tt).0, tt); placed = tt; ahead = refl; owes = refl; row = tt; ended = tt }),
+              (record { fits = (stmt.Taskyield, (fits_counter p w m events s actors i before yielding at tt).0, tt); placed = tt; ahead = refl; front = tt; owes = refl; row = tt; ended = tt }),
         )

@@ -65,5 +65,5 @@ module _ (p : Program) (w : List ℕ) (m : Memory) (events : List (ℕ × Event)
     is_on p w m events s actors i before standing at tt refl (wait_state v) behind (counter.Look (look.LoadRow v 0)),
     stores_state p w m events s actors i before standing at tt refl (wait_state v) behind
         (counter.Look (look.LoadRow v 0)) taken
-        (record { fits = ((fits.0, some_slot), refl); placed = tt; ahead = refl; owes = refl; row = tt; ended = tt }),
+        (record { fits = ((fits.0, some_slot), refl); placed = tt; ahead = refl; front = tt; owes = refl; row = tt; ended = tt }),
   )

@@ -78,6 +78,7 @@ module _ (p : Program) (w : List ℕ) (m : Memory) (events : List (ℕ × Event)
         bodies = λ u o. o;
         runs = λ u o. o;
         ahead = refl;
+        front = λ o may. may;
       } in (
         native p w m events s actors i before,
         native_on p w m events s actors i before,

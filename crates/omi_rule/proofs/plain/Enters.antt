@@ -24,6 +24,7 @@ use Rattle.omi_model.specs.State.{State}
 use Rattle.omi_model.proofs.members.ListOrder.{barriers_ordered}
 use Rattle.omi_model.proofs.ReachedStates.{leads_on}
 use Rattle.omi_model.proofs.Steps.{at_current, relisted}
+use Rattle.omi_model.specs.declared.freeable.Freeable.{Freeable}
 use Rattle.omi_layout.specs.declared.field.Field.TheVariants.{TaskEnter}
 use Rattle.omi_layout.specs.Field.{tasks}
 use Rattle.omi_layout.specs.Memory.{Memory}
@@ -42,7 +43,7 @@ use Rattle.omi_plain.proofs.StayPlaced.{steps_stay_placed}
 use Rattle.omi_rule_words.specs.Owes.{nothing, owed_at}
 use Rattle.omi_rep.specs.declared.outcome.Outcome.TheVariants as outcome
 use Rattle.omi_rule.specs.Ahead.{IsAhead, ahead, behind_leave, leaving, locking_in, lock_of, plain_ahead, task_item, wanting_in}
-use Rattle.omi_rule.specs.Chains.{KeepsContext}
+use Rattle.omi_rule.specs.Chains.{KeepsContext, IsPassable, IsFront}
 use Rattle.omi_rule.specs.Rows.{KeepsRow}
 use Rattle.omi_rule.specs.Rule.{HasEnded}
 use Rattle.omi_rule.specs.Steps.{StepKeeps}
@@ -167,36 +168,37 @@ record IsEntered (p : Program) (a : Actor) (x : Counter) : Type 0 where
   owes : (c : Context) (members : List (Tid × ℕ)) → owed_at c members x ≡ nothing
   row : (w : List ℕ) (m : Memory) (s : State) (i : ℕ) → KeepsContext s i a.context → KeepsRow p w m s i a x
   ended : (events : List (ℕ × Event)) (i : ℕ) → HasEnded events i x
+  front : (o : Option Freeable) → IsPassable o → IsFront x o
 
 entered_first : (p : Program) (a : Actor) (x : Counter) → IsFirst x → IsEntered p a x
-entered_first p a x first = record { owes = first.owes; row = λ w m s i o. first.row p w m s i a; ended = first.ended }
+entered_first p a x first = record { owes = first.owes; row = λ w m s i o. first.row p w m s i a; ended = first.ended; front = first.front }
 
 -- the making of a task begins with a look at the first slot where it may be deferred
 task_entered : (p : Program) (a : Actor) (f : ℕ) (undeferred given : Bool)
     → IsAt p a.stack (stmt.Task f undeferred given) → (b final : Bool) → undeferred ≡ b
     → a.context.is_final ≡ final → IsEntered p a (task_counter (b || final))
-task_entered p a f undeferred given is true final e q = record { owes = λ c ms. refl; row = λ w m s i o. (tt, (o.task, o.live, λ j below. absurd (omega (arith, below)))); ended = λ events i. tt }
-task_entered p a f undeferred given is false true e q = record { owes = λ c ms. refl; row = λ w m s i o. (tt, (o.task, o.live, λ j below. absurd (omega (arith, below)))); ended = λ events i. tt }
-task_entered p a f undeferred given is false false e q = record { owes = λ c ms. refl; row = λ w m s i o. (f, given, subst (λ (b : Bool). IsAt p a.stack (stmt.Task f b given)) e is, q); ended = λ events i. tt }
+task_entered p a f undeferred given is true final e q = record { owes = λ c ms. refl; row = λ w m s i o. (tt, (o.task, o.live, λ j below. absurd (omega (arith, below)))); ended = λ events i. tt; front = λ o may. may }
+task_entered p a f undeferred given is false true e q = record { owes = λ c ms. refl; row = λ w m s i o. (tt, (o.task, o.live, λ j below. absurd (omega (arith, below)))); ended = λ events i. tt; front = λ o may. may }
+task_entered p a f undeferred given is false false e q = record { owes = λ c ms. refl; row = λ w m s i o. (f, given, subst (λ (b : Bool). IsAt p a.stack (stmt.Task f b given)) e is, q); ended = λ events i. tt; front = λ o may. may }
 
 enter_first : (p : Program) (a : Actor) (d : Bool) (x : Stmt) → IsAt p a.stack x → Enters x
     → IsEntered p a (behind_enter d a.context.is_final (Some x))
 enter_first p a true (stmt.Parallel f num) is enters =
-    entered_first p a _ (record { owes = λ c ms. refl; row = λ q w m s i b. tt; ended = λ events i. tt })
+    entered_first p a _ (record { owes = λ c ms. refl; row = λ q w m s i b. tt; ended = λ events i. tt; front = λ o may. may })
 enter_first p a false (stmt.Parallel f num) is enters =
-    entered_first p a _ (record { owes = λ c ms. refl; row = λ q w m s i b. tt; ended = λ events i. tt })
+    entered_first p a _ (record { owes = λ c ms. refl; row = λ q w m s i b. tt; ended = λ events i. tt; front = λ o may. may })
 enter_first p a d (stmt.Task f undeferred given) is enters =
     task_entered p a f undeferred given is undeferred a.context.is_final refl refl
 enter_first p a true stmt.Taskwait is enters =
-    entered_first p a _ (record { owes = λ c ms. refl; row = λ q w m s i b. tt; ended = λ events i. tt })
+    entered_first p a _ (record { owes = λ c ms. refl; row = λ q w m s i b. tt; ended = λ events i. tt; front = λ o may. may })
 enter_first p a false stmt.Taskwait is enters =
-    entered_first p a _ (record { owes = λ c ms. refl; row = λ q w m s i b. tt; ended = λ events i. tt })
+    entered_first p a _ (record { owes = λ c ms. refl; row = λ q w m s i b. tt; ended = λ events i. tt; front = λ o may. may })
 enter_first p a d stmt.Taskyield is enters =
-    entered_first p a _ (record { owes = λ c ms. refl; row = λ q w m s i b. tt; ended = λ events i. tt })
+    entered_first p a _ (record { owes = λ c ms. refl; row = λ q w m s i b. tt; ended = λ events i. tt; front = λ o may. may })
 enter_first p a true stmt.Barrier is enters =
-    entered_first p a _ (record { owes = λ c ms. refl; row = λ q w m s i b. tt; ended = λ events i. tt })
+    entered_first p a _ (record { owes = λ c ms. refl; row = λ q w m s i b. tt; ended = λ events i. tt; front = λ o may. may })
 enter_first p a false stmt.Barrier is enters =
-    entered_first p a _ (record { owes = λ c ms. refl; row = λ q w m s i b. tt; ended = λ events i. tt })
+    entered_first p a _ (record { owes = λ c ms. refl; row = λ q w m s i b. tt; ended = λ events i. tt; front = λ o may. may })
 enter_first p a true (stmt.Critical l f) is enters = entered_first p a _ (plain_first plain.LockState tt)
 enter_first p a false (stmt.Critical l f) is enters = entered_first p a _ (plain_first plain.Lock tt)
 enter_first p a d _ is enters = absurd enters
@@ -287,6 +289,7 @@ module _ (p : Program) (w : List ℕ) (m : Memory) (events : List (ℕ × Event)
       (λ P laws all. all)
       (subst (λ (q : Option Stmt). IsAhead p at a.stack (behind_enter p.env.debug a.context.is_final q) (zs x)) (sym is)
       (enter_ahead p at a.stack p.env.debug (at_debug p w m events s actors i before plain.Enter at_counter) a.context.is_final final x is enters))
+      first.front
 
   pub enter_keeps : StepKeeps p w m events s actors i (plain_next p w (actors i) plain.Enter) (λ old. (plain_moved p (actors i) plain.Enter old, plain_outcome p w (actors i) plain.Enter old))
   enter_keeps =
@@ -303,7 +306,7 @@ module _ (p : Program) (w : List ℕ) (m : Memory) (events : List (ℕ × Event)
         task_event p w m events s actors i before plain.Enter at_counter
             (zs x) TaskEnter word shown refl enter_of_task
             (λ v. record { implicit = refl; region = refl; thread = refl; number = refl; scheduling = refl; exit = refl; final = refl; progress = refl })
-            (λ v. refl)
+            (λ v. (refl, refl))
             (record { implicit = refl; region = refl; thread = refl; generating = refl; progress = refl; place = refl })
             (enter_stored w (m (actors i).context.task.0.creator tasks (actors i).context.task.0.slot) t word (enter_frame t.exit) (zs x) word_is (has_codes p w m events s actors i before plain.Enter at_counter))
             (past_enter p a) (outcome.Event event.Enter) event.Enter item.Enter refl (λ q. q)

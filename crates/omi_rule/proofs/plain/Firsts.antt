@@ -1,9 +1,10 @@
 -- The counter behind a move between statements owes nothing, its row says nothing, and its thread has not ended; and some body is open.
-use Rattle.std.proofs.Common.{◌≡◌, ◌<◌, ℕ, inl, inr, List, [], ◌∷◌, length, refl, arith}
+use Rattle.std.proofs.Common.{◌≡◌, ◌<◌, ℕ, inl, inr, List, [], ◌∷◌, length, Option, refl, arith}
 use Rattle.omi_script.specs.declared.program.Program.{Program}
 use Rattle.omi_script.specs.declared.statement.Stmt.{Stmt}
 use Rattle.omi_script.specs.declared.statement.Stmt.TheVariants as stmt
 use Rattle.omi_model.specs.declared.event.Event.{Event}
+use Rattle.omi_model.specs.declared.freeable.Freeable.{Freeable}
 use Rattle.omi_model.specs.declared.id.Tid.{Tid}
 use Rattle.omi_model.specs.State.{State}
 use Rattle.omi_layout.specs.Memory.{Memory}
@@ -21,6 +22,7 @@ use Rattle.omi_pc.specs.OpenBodies.{AreOpen, IsAt, IsCalled, StandsOn}
 use Rattle.omi_pc.specs.Settle.{settled}
 use Rattle.omi_pc.proofs.NextCounters.{HoldsNext, IsBefore, returned_next, settled_next, worked_next, working_next}
 use Rattle.omi_rule_words.specs.Owes.{nothing, owed_at}
+use Rattle.omi_rule.specs.Chains.{IsFront, IsPassable}
 use Rattle.omi_rule.specs.Rows.{KeepsRow}
 use Rattle.omi_rule.specs.Rule.{HasEnded}
 use Rattle.omi_rule.proofs.BodyMoves.{IsOfBodies}
@@ -31,29 +33,30 @@ pub record IsFirst (x : Counter) : Type 0 where
   pub owes : (c : Context) (members : List (Tid × ℕ)) → owed_at c members x ≡ nothing
   pub row : (p : Program) (w : List ℕ) (m : Memory) (s : State) (i : ℕ) (a : Actor) → KeepsRow p w m s i a x
   pub ended : (events : List (ℕ × Event)) (i : ℕ) → HasEnded events i x
+  pub front : (o : Option Freeable) → IsPassable o → IsFront x o
 
 pub plain_first : (c : PlainCounter) → IsBefore c → IsFirst (counter.Plain c)
-plain_first plain.Work b = record { owes = λ c ms. refl; row = λ p w m s i a. tt; ended = λ events i. tt }
-plain_first plain.Call b = record { owes = λ c ms. refl; row = λ p w m s i a. tt; ended = λ events i. tt }
-plain_first plain.Skip b = record { owes = λ c ms. refl; row = λ p w m s i a. tt; ended = λ events i. tt }
-plain_first plain.Return b = record { owes = λ c ms. refl; row = λ p w m s i a. tt; ended = λ events i. tt }
-plain_first plain.Set b = record { owes = λ c ms. refl; row = λ p w m s i a. tt; ended = λ events i. tt }
-plain_first plain.Tool b = record { owes = λ c ms. refl; row = λ p w m s i a. tt; ended = λ events i. tt }
-plain_first plain.Enter b = record { owes = λ c ms. refl; row = λ p w m s i a. tt; ended = λ events i. tt }
-plain_first plain.Leave b = record { owes = λ c ms. refl; row = λ p w m s i a. tt; ended = λ events i. tt }
-plain_first plain.WorkState b = record { owes = λ c ms. refl; row = λ p w m s i a. tt; ended = λ events i. tt }
-plain_first plain.LockState b = record { owes = λ c ms. refl; row = λ p w m s i a. tt; ended = λ events i. tt }
-plain_first plain.Lock b = record { owes = λ c ms. refl; row = λ p w m s i a. tt; ended = λ events i. tt }
-plain_first plain.Unlock b = record { owes = λ c ms. refl; row = λ p w m s i a. tt; ended = λ events i. tt }
-plain_first plain.Done b = record { owes = λ c ms. refl; row = λ p w m s i a. tt; ended = λ events i. tt }
+plain_first plain.Work b = record { owes = λ c ms. refl; row = λ p w m s i a. tt; ended = λ events i. tt; front = λ o may. may }
+plain_first plain.Call b = record { owes = λ c ms. refl; row = λ p w m s i a. tt; ended = λ events i. tt; front = λ o may. may }
+plain_first plain.Skip b = record { owes = λ c ms. refl; row = λ p w m s i a. tt; ended = λ events i. tt; front = λ o may. may }
+plain_first plain.Return b = record { owes = λ c ms. refl; row = λ p w m s i a. tt; ended = λ events i. tt; front = λ o may. may }
+plain_first plain.Set b = record { owes = λ c ms. refl; row = λ p w m s i a. tt; ended = λ events i. tt; front = λ o may. may }
+plain_first plain.Tool b = record { owes = λ c ms. refl; row = λ p w m s i a. tt; ended = λ events i. tt; front = λ o may. may }
+plain_first plain.Enter b = record { owes = λ c ms. refl; row = λ p w m s i a. tt; ended = λ events i. tt; front = λ o may. may }
+plain_first plain.Leave b = record { owes = λ c ms. refl; row = λ p w m s i a. tt; ended = λ events i. tt; front = λ o may. may }
+plain_first plain.WorkState b = record { owes = λ c ms. refl; row = λ p w m s i a. tt; ended = λ events i. tt; front = λ o may. may }
+plain_first plain.LockState b = record { owes = λ c ms. refl; row = λ p w m s i a. tt; ended = λ events i. tt; front = λ o may. may }
+plain_first plain.Lock b = record { owes = λ c ms. refl; row = λ p w m s i a. tt; ended = λ events i. tt; front = λ o may. may }
+plain_first plain.Unlock b = record { owes = λ c ms. refl; row = λ p w m s i a. tt; ended = λ events i. tt; front = λ o may. may }
+plain_first plain.Done b = record { owes = λ c ms. refl; row = λ p w m s i a. tt; ended = λ events i. tt; front = λ o may. may }
 plain_first plain.Ended b = absurd b
 
 first_next : HoldsNext IsFirst
 first_next = record {
   plain = plain_first;
-  state = record { owes = λ c ms. refl; row = λ p w m s i b. tt; ended = λ events i. tt };
-  arrive = record { owes = λ c ms. refl; row = λ p w m s i b. tt; ended = λ events i. tt };
-  finish = record { owes = λ c ms. refl; row = λ p w m s i b. tt; ended = λ events i. tt };
+  state = record { owes = λ c ms. refl; row = λ p w m s i b. tt; ended = λ events i. tt; front = λ o may. may };
+  arrive = record { owes = λ c ms. refl; row = λ p w m s i b. tt; ended = λ events i. tt; front = λ o may. may };
+  finish = record { owes = λ c ms. refl; row = λ p w m s i b. tt; ended = λ events i. tt; front = λ o may. may };
 }
 
 module _ (p : Program) where

@@ -1,5 +1,5 @@
 -- The plain steps that need no word: work, calls, statements that are passed over, and returns. Each loads the thread's native id.
-use Rattle.std.proofs.Common.{◌≡◌, ◌<◌, ℕ, Bool, true, List, [], ◌∷◌, ◌++◌, length, Some, None, refl, sym, ap, ◌∙◌, subst, arith, if◌then◌else◌}
+use Rattle.std.proofs.Common.{◌≡◌, ◌<◌, ℕ, Bool, true, List, [], ◌∷◌, ◌++◌, length, Some, None, refl, sym, ap, ◌∙◌, subst, arith, if◌then◌else◌, Option}
 use Rattle.omi_word.specs.declared.op.Op.TheVariants as op
 use Rattle.omi_script.specs.declared.program.Program.{Program}
 use Rattle.omi_script.specs.declared.statement.Stmt.TheVariants as stmt
@@ -13,6 +13,7 @@ use Rattle.omi_model.specs.Lists.{fits, may_drop, opened, stays, take_item}
 use Rattle.omi_model.specs.Rules.{Rule, effect}
 use Rattle.omi_model.specs.State.{State}
 use Rattle.omi_model.proofs.Steps.{relisted}
+use Rattle.omi_model.specs.declared.freeable.Freeable.{Freeable}
 use Rattle.omi_layout.specs.declared.field.Field.TheVariants.{ThreadNative}
 use Rattle.omi_layout.specs.Memory.{Memory}
 use Rattle.omi_pc.specs.declared.actor.Actor.{Actor}
@@ -36,7 +37,7 @@ use Rattle.omi_rule_words.proofs.ListMoves.{list_moves_keep}
 use Rattle.omi_step_words.specs.Placed.{IsPlaced}
 use Rattle.omi_step_words.specs.Words.{of_thread}
 use Rattle.omi_rule.specs.Ahead.{IsAhead, ahead, plain_ahead}
-use Rattle.omi_rule.specs.Chains.{KeepsBodies, KeepsContext, RunsFunctions, StandsInTask, encounter_of}
+use Rattle.omi_rule.specs.Chains.{KeepsBodies, KeepsContext, RunsFunctions, StandsInTask, encounter_of, IsPassable, IsFront}
 use Rattle.omi_rule.specs.Commits.{CommitsAt}
 use Rattle.omi_rule.specs.Rule.{HasEnded}
 use Rattle.omi_rule.specs.Steps.{IsOn, KeepsRule, RecordWord, StepKeeps, left_in}
@@ -44,7 +45,7 @@ use Rattle.omi_rule.proofs.OwnWords.{load_on, thread_word}
 use Rattle.omi_rule.proofs.Assembly.{Before, of_load, spares_none}
 use Rattle.omi_rule.proofs.BodyMoves.{settled_of}
 use Rattle.omi_rule.proofs.NothingNew.{Makes}
-use Rattle.omi_rule.proofs.OwnTask.{bodies_are_of_bodies, list_moved, own_changes, relisted_ahead, relisted_alike}
+use Rattle.omi_rule.proofs.OwnTask.{bodies_are_of_bodies, list_moved, own_changes, relisted_both, relisted_alike}
 use Rattle.omi_rule.proofs.RowsStay.{Spares}
 use Rattle.omi_rule.proofs.Settling.{in_work_is, settled_ahead}
 use Rattle.omi_rule.proofs.plain.Firsts.{IsFirst, IsGrounded, grounded, grounds_are_of_bodies, plain_first, settled_first}
@@ -105,7 +106,7 @@ module _ (p : Program) (w : List ℕ) (m : Memory) (events : List (ℕ × Event)
         (list_moves_keep w m s (all_owed actors) i zs before.rule.words before.known)))
         (λ j other. subst (λ (n : Memory). Spares m n s j (actors j)) (sym same) (spares_none m s j (actors j)))
         (own_changes p s i (actors i) here (relisted zs) u (λ t live. relisted_alike zs t) refl refl refl refl)
-        (relisted_ahead p s i (actors i) here zs u refl (λ xs. xs ≡ zs) refl) goes ended
+        (relisted_both p s i (actors i) here zs u refl) goes ended
 
     -- ---- where the thread goes on
 
@@ -133,8 +134,9 @@ module _ (p : Program) (w : List ℕ) (m : Memory) (events : List (ℕ × Event)
 
     pub goes_to_row : (b : Actor) (list : List Item) → DifferInBodies (actors i) b → Fits p b → IsPlaced w b
         → IsGrounded b.stack → owed b ≡ nothing
-        → ((n : Memory) (u : State) → KeepsContext u i (actors i).context → KeepsRow p w n u i b b.counter) → MovesTo b → IsAhead p sees b.stack b.counter list → GoesOn p w i sees (actors i) b list
-    goes_to_row b list differs fits placed ground owes row all is = record {
+        → ((n : Memory) (u : State) → KeepsContext u i (actors i).context → KeepsRow p w n u i b b.counter) → MovesTo b → IsAhead p sees b.stack b.counter list
+        → ((o : Option Freeable) → IsPassable o → IsFront b.counter o) → GoesOn p w i sees (actors i) b list
+    goes_to_row b list differs fits placed ground owes row all is front = record {
       differs = differs;
       fits = fits;
       placed = placed;
@@ -144,6 +146,7 @@ module _ (p : Program) (w : List ℕ) (m : Memory) (events : List (ℕ × Event)
       bodies = λ u o. subst (λ (d : Context). KeepsBodies p u i d b.stack) differs.context (all (KeepsBodies p u i) (bodies_are_of_bodies p u i) o);
       runs = λ u o. subst (λ (d : Context). RunsFunctions u d b.stack) differs.context (all (RunsFunctions u) (runs_are_of_bodies u) o);
       ahead = is;
+      front = front;
     }
 
     pub goes_on : (b : Actor) (list : List Item) → DifferInBodies (actors i) b → Fits p b → IsPlaced w b
@@ -151,7 +154,7 @@ module _ (p : Program) (w : List ℕ) (m : Memory) (events : List (ℕ × Event)
         → GoesOn p w i sees (actors i) b list
     goes_on b list differs fits placed ground first all is =
         goes_to_row b list differs fits placed ground (first.owes b.context b.gathered.team)
-        (λ n u o. first.row p w n u i b) all is
+        (λ n u o. first.row p w n u i b) all is first.front
 
     pub settled_goes : IsBefore c → IsPlaced w (settled p (actors i))
         → GoesOn p w i sees (actors i) (settled p (actors i)) (ahead p sees (actors i).stack)

@@ -68,7 +68,7 @@ use Rattle.omi_rule.specs.Waits.Waits.{ForLock}
 use Rattle.omi_rule.proofs.Assembly.{Before, spares_runtime, waits_stay}
 use Rattle.omi_rule.proofs.BodyMoves.{working_of}
 use Rattle.omi_rule.proofs.NothingNew.{Makes}
-use Rattle.omi_rule.proofs.OwnTask.{own_changes, relisted_ahead, relisted_alike}
+use Rattle.omi_rule.proofs.OwnTask.{own_changes, relisted_both, relisted_alike}
 use Rattle.omi_rule.proofs.RowsStay.{Spares}
 use Rattle.omi_rule.proofs.Settling.{in_work_is, working_ahead}
 use Rattle.omi_rule.proofs.plain.Firsts.{IsGrounded, grounds_are_of_bodies, settled_first, working_first}
@@ -128,7 +128,7 @@ module _ (p : Program) (w : List ℕ) (m : Memory) (events : List (ℕ × Event)
       (runtime_stores_keep w m z (all_owed actors) max_active locks f place word (middle_words p w m events s actors i before c at_counter zs) runtime_is))
       (λ j other. subst (λ (n : Memory). Spares m n s j (actors j)) (sym stored) (spares_runtime m s f place word j (actors j)))
       (own_changes p s i (actors i) stand (relisted zs) u (λ t live. relisted_alike zs t) refl refl refl refl)
-      (relisted_ahead p s i (actors i) stand zs u refl (λ xs. xs ≡ zs) refl) goes ended
+      (relisted_both p s i (actors i) stand zs u refl) goes ended
 
   -- ---- the lock of the construct in work
 

@@ -35,7 +35,7 @@ use Rattle.omi_rule_words.specs.Words.{KeepsWords}
 use Rattle.omi_rule_words.proofs.Moves.{moves_keep}
 use Rattle.omi_step_words.specs.Placed.{IsPlaced}
 use Rattle.omi_rule.specs.Ahead.{IsAhead, plain_ahead}
-use Rattle.omi_rule.specs.Chains.{KeepsBodies, KeepsContext, RunsFunctions, StandsInTask, encounter_of}
+use Rattle.omi_rule.specs.Chains.{KeepsBodies, KeepsContext, RunsFunctions, StandsInTask, encounter_of, IsFront, IsPassable}
 use Rattle.omi_rule.specs.Commits.{CommitsAt}
 use Rattle.omi_rule.specs.Rows.{KeepsRow}
 use Rattle.omi_rule.specs.Rule.{AreNewMembers, HasEnded, KeepsThread}
@@ -45,11 +45,12 @@ use Rattle.omi_rule.proofs.NewMembers.{waiting_step}
 use Rattle.omi_rule.proofs.NothingNew.{Makes}
 use Rattle.omi_rule.proofs.Others.{step_environment}
 use Rattle.omi_rule.proofs.Own.{ChangesTask, context_kept}
-use Rattle.omi_rule.proofs.OwnTask.{in_task, list_moved, own_ahead, own_encounter, own_taken, own_stands, top}
+use Rattle.omi_rule.proofs.OwnTask.{in_task, list_moved, own_ahead, own_encounter, own_taken, own_stands, top, own_front}
 use Rattle.omi_rule.proofs.RowsStay.{Spares}
 use Rattle.omi_rule.proofs.plain.Firsts.{IsGrounded, some_frame}
 use Rattle.omi_model.specs.LawStays.{Stays}
 use Rattle.omi_model.proofs.StaysKept.{stays_step}
+use Rattle.omi_model.specs.declared.freeable.Freeable.{Freeable}
 use Rattle.omi_rule.proofs.Runs.{stack_runs}
 
 -- the environment of a reached state is the program's
@@ -71,6 +72,7 @@ pub record GoesOn (p : Program) (w : List ℕ) (i : ℕ) (at : Encounter) (a b :
   pub bodies : (u : State) → KeepsBodies p u i a.context a.stack → KeepsBodies p u i a.context b.stack
   pub runs : (u : State) → RunsFunctions u a.context a.stack → RunsFunctions u a.context b.stack
   pub ahead : IsAhead p at b.stack b.counter list
+  pub front : (o : Option Freeable) → IsPassable o → IsFront b.counter o
 
 module _ (p : Program) (w : List ℕ) (m : Memory) (events : List (ℕ × Event)) (s : State) (actors : ℕ → Actor)
     (i : ℕ) (before : Before p w m events s actors i) (c : PlainCounter)
@@ -117,7 +119,8 @@ module _ (p : Program) (w : List ℕ) (m : Memory) (events : List (ℕ × Event)
       → take_item p at e (plain_ahead p at a.stack c) ≡ Some (y, zs) → taken_by p s i e ≡ Some (y, zs)
   takes e y zs taken =
       ap (λ (x : Encounter). take_item p x e (ahead_of s i)) (own_encounter p s i a stands)
-      ∙ own_taken p s i a stands events before.rule.reached at e y zs
+      ∙ own_taken p s i a stands events before.rule.reached
+      (subst (λ (d : Counter). IsFront d (top p s i a stands).task.frees) at_counter (own_front p s i a stands)) at e y zs
       (ap (λ (xs : List Item). take_item p at e xs) list_is ∙ taken)
 
   pub steps : (e : Event) (y : Item) (zs : List Item) (u : State)
@@ -146,7 +149,7 @@ module _ (p : Program) (w : List ℕ) (m : Memory) (events : List (ℕ × Event)
   -- ---- the thread afterwards
 
   pub own_after : (n : Memory) (later : List (ℕ × Event)) (u : State) (b : Actor) (zs : List Item) → Stays s u
-      → ChangesTask s u i a.context.task → ((t : Task) → task_of u a.context.task ≡ Some t → t.list ≡ zs)
+      → ChangesTask s u i a.context.task → ((t : Task) → task_of u a.context.task ≡ Some t → (t.list ≡ zs) × IsPassable t.frees)
       → GoesOn p w i at a b zs → HasEnded later i b.counter → KeepsThread p w n later u i b
   own_after n later u b zs stay changes list goes ended =
       let (f, fs, is_open) = some_frame b.stack goes.grounded in
@@ -157,7 +160,8 @@ module _ (p : Program) (w : List ℕ) (m : Memory) (events : List (ℕ × Event)
         stands =
             own_stands p s i a stands events before.rule.reached u changes b f fs is_open goes.differs.context
             (λ o. subst (λ (d : Context). KeepsBodies p u i d b.stack) (sym goes.differs.context) (goes.bodies u o))
-            (λ t live. subst (IsAhead p at b.stack b.counter) (sym (list t live)) goes.ahead);
+            (λ t live. subst (IsAhead p at b.stack b.counter) (sym (list t live).0) goes.ahead)
+            (λ t live. goes.front t.frees (list t live).1);
         runs = subst (λ (d : Context). RunsFunctions u d b.stack) (sym goes.differs.context) (goes.runs u (stack_runs p s u i stay a own.stands own.runs));
         row = goes.row n u (context_kept p s u i a.context.task changes a.context (top p s i a stands));
         ended = ended;
@@ -168,7 +172,7 @@ module _ (p : Program) (w : List ℕ) (m : Memory) (events : List (ℕ × Event)
   pub own_event : (o : Op) (x : RecordWord) (b : Actor) (out : Outcome) (e : Event) (y : Item) (zs : List Item) (u : State)
       → out ≡ outcome.Event e → (Makes e → ⊥) → ((f : ℕ) → y ≡ item.Fork f → ⊥)
       → take_item p at e (plain_ahead p at a.stack c) ≡ Some (y, zs) → Step p s i e u → CommitsAt w s i e o → KeepsWords w (left_in m o x) u (all_owed actors)
-      → ((j : ℕ) → j ≢ i → Spares m (left_in m o x) s j (actors j)) → ChangesTask s u i a.context.task → ((t : Task) → task_of u a.context.task ≡ Some t → t.list ≡ zs)
+      → ((j : ℕ) → j ≢ i → Spares m (left_in m o x) s j (actors j)) → ChangesTask s u i a.context.task → ((t : Task) → task_of u a.context.task ≡ Some t → (t.list ≡ zs) × IsPassable t.frees)
       → GoesOn p w i at a b zs → HasEnded (events ++ (i, e) ∷ []) i b.counter → KeepsRule p w m events s actors i o x (b, out)
   own_event o x b out e y zs u is not none taken step commits words spares changes list goes ended =
       plain_event_keeps p w m events s actors i before o x (b, out) e u not is step commits

@@ -61,7 +61,7 @@ use Rattle.omi_rule.specs.Steps.{RecordWord, StepKeeps}
 use Rattle.omi_rule.proofs.OwnWords.{store_on}
 use Rattle.omi_rule.proofs.Assembly.{Before, spares_threads}
 use Rattle.omi_rule.proofs.BodyMoves.{worked_of}
-use Rattle.omi_rule.proofs.OwnTask.{own_changes, relisted_ahead, relisted_alike}
+use Rattle.omi_rule.proofs.OwnTask.{own_changes, relisted_both, relisted_alike}
 use Rattle.omi_rule.proofs.Settling.{in_work_is, worked_ahead}
 use Rattle.omi_rule.proofs.plain.Firsts.{IsGrounded, grounds_are_of_bodies, plain_first, worked_first}
 use Rattle.omi_rule.proofs.plain.OwnEvents.{GoesOn, at_debug, body, fits_counter, own_event, steps}
@@ -155,7 +155,7 @@ module _ (p : Program) (w : List ℕ) (m : Memory) (events : List (ℕ × Event)
             (state_stored w i (m i threads 0) (thread_told (s.threads i)) (before.rule.words.made i before.known).thread state wait))
             (λ j other. spares_threads m s i ThreadState (state_word state wait) j (actors j) (λ q. absurd (omega (arith, q))))
             (own_changes p s i (actors i) stand (relisted zs) u (λ v live. relisted_alike zs v) refl (ap (λ (x : Thread). x.current) (put_same s.threads i h)) refl refl)
-            (relisted_ahead p s i (actors i) stand zs u refl (λ xs. xs ≡ zs) refl) goes ended,
+            (relisted_both p s i (actors i) stand zs u refl) goes ended,
       )
 
 module _ (p : Program) (w : List ℕ) (m : Memory) (events : List (ℕ × Event)) (s : State) (actors : ℕ → Actor)

@@ -42,7 +42,7 @@ use Rattle.omi_rule_words.proofs.Shown.{found_generations}
 use Rattle.omi_rule_words.proofs.TaskStores.{task_stores_keep}
 use Rattle.omi_step_words.specs.Words.{of_task}
 use Rattle.omi_rule.specs.Ahead.{plain_ahead}
-use Rattle.omi_rule.specs.Chains.{KeepsContext}
+use Rattle.omi_rule.specs.Chains.{KeepsContext, IsPassable}
 use Rattle.omi_rule.specs.Commits.{CommitsAt}
 use Rattle.omi_rule.specs.Rule.{HasEnded}
 use Rattle.omi_rule.specs.Steps.{IsOn, KeepsRule, RecordWord, left_in}
@@ -147,7 +147,7 @@ module _ (p : Program) (w : List ℕ) (m : Memory) (events : List (ℕ × Event)
   }
 
   pub task_event : (zs : List Item) (f : Field) (word : ℕ) (g : Task → Task) → kind_of (number f) ≡ tasks
-      → IsOfTask f → ((v : Task) → IsAlike v (g (relisted zs v))) → ((v : Task) → (g v).list ≡ v.list)
+      → IsOfTask f → ((v : Task) → IsAlike v (g (relisted zs v))) → ((v : Task) → ((g v).list ≡ v.list) × ((g v).frees ≡ v.frees))
       → IsSameTask (relisted zs own_task.task) (g (relisted zs own_task.task))
       → HasCodes (task_code w (task_told (g (relisted zs own_task.task))))
       (with_word_in (m k.0.creator tasks k.0.slot) (number f) 0 word)
@@ -166,4 +166,7 @@ module _ (p : Program) (w : List ℕ) (m : Memory) (events : List (ℕ × Event)
       (task_stores_keep w m (middle zs) (all_owed actors) k (relisted zs own_task.task) g f 0 word (middle_words zs) (middle_current zs).live same of codes))
       (λ j other. subst (λ (n : Memory). Spares m n s j (actors j)) (sym stored) (spares_begun m s k own_task.task f 0 word i j (actors j) own_task.live own_task.begun own_task.thread other))
       (changes_task zs g alike)
-      (λ t live. ap (λ (x : Task). x.list) (some_same live (twice zs g own_task.task own_task.live)) ∙ list (relisted zs own_task.task)) goes ended
+      (λ t live.
+      let same = some_same live (twice zs g own_task.task own_task.live) in
+      let (list_is, frees_is) = list (relisted zs own_task.task) in
+      (ap (λ (x : Task). x.list) same ∙ list_is, subst IsPassable (sym (ap (λ (x : Task). x.frees) same ∙ frees_is)) tt)) goes ended

@@ -40,7 +40,7 @@ use Rattle.omi_rule_words.specs.Words.{KeepsWords}
 use Rattle.omi_step_words.specs.Placed.{HasTask}
 use Rattle.omi_task.specs.MakingSteps.{made_function, makes_final, making_moved, making_next, making_outcome, of_own_slot}
 use Rattle.omi_rule.specs.Ahead.{leaving, task_ahead}
-use Rattle.omi_rule.specs.Chains.{Stands, StandsWith, encounter_of}
+use Rattle.omi_rule.specs.Chains.{Stands, StandsWith, encounter_of, IsPassable}
 use Rattle.omi_rule.specs.Commits.{defers_next}
 use Rattle.omi_rule.specs.Rows.{Defers, HasFilledTask}
 use Rattle.omi_rule.specs.Rule.{KeepsThread}
@@ -183,6 +183,7 @@ module _ (p : Program) (w : List ℕ) (m : Memory) (events : List (ℕ × Event)
       (record {
         current = (stands p w m events s actors i before C at).current;
         bodies = bodies_grown p w m s (all_owed actors) i (actors i) t Maker Z ready New U refl refl refl;
+        front = λ x live. subst (λ (y : Task). IsPassable y.frees) (some_same ((larger p w m s (all_owed actors) i (actors i) t Maker Z ready New U refl refl refl).tasks K Maker ready.current.live) live) tt;
         ahead = λ x live. ap (λ (y : Task). y.list) (some_same live ((larger p w m s (all_owed actors) i (actors i) t Maker Z ready New U refl refl refl).tasks K Maker ready.current.live)) ∙ ap (λ (e : Encounter). leaving p e (actors i).stack) (sym (sees_grown p w m s (all_owed actors) i (actors i) t Maker Z ready New U refl refl refl));
       })
 

@@ -21,15 +21,16 @@ use Rattle.omi_pc.specs.declared.counter.Counter.TheVariants as counter
 use Rattle.omi_pc.specs.declared.frame.Frame.{Frame}
 use Rattle.omi_pc.specs.declared.task_counter.TaskCounter.{TaskCounter}
 use Rattle.omi_pc.specs.OpenBodies.{IsAt}
+use Rattle.omi_pc.specs.declared.counter.Counter.{Counter}
 use Rattle.omi_rule_words.specs.Owes.{all_owed}
 use Rattle.omi_rule_words.specs.Words.{KeepsWords}
 use Rattle.omi_rule_words.proofs.ListMoves.{list_moves_keep}
 use Rattle.omi_rule.specs.Ahead.{leaving, making, task_ahead, task_item}
-use Rattle.omi_rule.specs.Chains.{encounter_of}
+use Rattle.omi_rule.specs.Chains.{encounter_of, IsPassable, IsFront}
 use Rattle.omi_rule.specs.Rule.{AreNewMembers}
 use Rattle.omi_rule.proofs.Assembly.{Before}
 use Rattle.omi_rule.proofs.NewMembers.{waiting_step}
-use Rattle.omi_rule.proofs.OwnTask.{list_moved, own_encounter, own_taken}
+use Rattle.omi_rule.proofs.OwnTask.{list_moved, own_encounter, own_taken, top, own_front}
 use Rattle.omi_rule.proofs.Settling.{in_work_is}
 use Rattle.omi_rule.proofs.task.Within.{context, list_is, stands}
 
@@ -58,13 +59,18 @@ module _ (p : Program) (w : List ℕ) (m : Memory) (events : List (ℕ × Event)
 
   -- ---- the event is legal
 
+  passes : IsPassable (top p s i (actors i) (stands p w m events s actors i before c at)).task.frees
+  passes =
+      subst (λ (d : Counter). IsFront d (top p s i (actors i) (stands p w m events s actors i before c at)).task.frees) at
+      (own_front p s i (actors i) (stands p w m events s actors i before c at))
+
   pub takes : (e : Event) (y : Item) (ys : List Item)
       → take_item p (encounter_of s (actors i).context) e (task_ahead p (encounter_of s (actors i).context) (actors i).stack c) ≡ Some (y, ys)
       → taken_by p s i e ≡ Some (y, ys)
   takes e y ys taken =
       ap (λ (x : Encounter). take_item p x e (ahead_of s i))
       (own_encounter p s i (actors i) (stands p w m events s actors i before c at))
-      ∙ own_taken p s i (actors i) (stands p w m events s actors i before c at) events before.rule.reached At e y ys
+      ∙ own_taken p s i (actors i) (stands p w m events s actors i before c at) events before.rule.reached passes At e y ys
       (ap (λ (xs : List Item). take_item p At e xs) (list_is p w m events s actors i before c at) ∙ taken)
 
   pub step : (e : Event) (y : Item) (ys zs : List Item) (u : State)

@@ -35,6 +35,7 @@ use Rattle.omi_step_words.specs.Placed.{IsPlacedTask}
 use Rattle.omi_step_words.specs.Plan.{task_plan}
 use Rattle.omi_step_words.specs.Words.{of_region, of_task}
 use Rattle.omi_task.specs.MakingSteps.{behind_raises, making_moved, making_next, making_outcome, new_task}
+use Rattle.omi_rule.proofs.OthersStand.{begun_unfinished}
 use Rattle.omi_rule.specs.Ahead as Ahead
 use Rattle.omi_rule.specs.Ahead.{task_ahead}
 use Rattle.omi_rule.specs.Chains.{encounter_of}
@@ -206,7 +207,8 @@ module _ (p : Program) (w : List ℕ) (m : Memory) (events : List (ℕ × Event)
         let few : word_of_task m k TaskReferences < MOST_EVENTS = omega (arith, counts, most) in
         owed_after w Referred s actors i b (with_reference (actors i).context t) is
         (subst (λ (x : Owed). KeepsWords w Referred s (replace_at (all_owed actors) i (record x { referred = Some k }))) owed_there
-        (references_add_keep w m s (all_owed actors) i k before.rule.words before.known (ap (λ (x : Owed). x.referred) owed_there) (subst IsSome (sym here.live) refl) few))
+        (references_add_keep w m s (all_owed actors) i k here.task before.rule.words before.known (ap (λ (x : Owed). x.referred) owed_there) here.live (begun_unfinished here.task here.begun)
+        (ap (λ (x : Owed). x.pending) owed_there ∙ ap Some (sym here.region_is)) few))
 
     pub references_keep : StepKeeps p w m events s actors i (making_next p w (actors i) E) (λ old. (making_moved p w (actors i) E old, making_outcome w (actors i) E old))
     references_keep = (

@@ -41,14 +41,14 @@ use Rattle.omi_step_words.specs.Placed.{IsPlacedTask}
 use Rattle.omi_step_words.specs.Moving.{to_task}
 use Rattle.omi_task.specs.MakingSteps.{making_moved, making_next, making_outcome, of_own_slot}
 use Rattle.omi_rule.specs.Ahead.{leaving, making, task_ahead}
-use Rattle.omi_rule.specs.Chains.{encounter_of}
+use Rattle.omi_rule.specs.Chains.{encounter_of, IsPassable}
 use Rattle.omi_rule.specs.Rows.{Defers, KeepsTaskRow}
 use Rattle.omi_rule.specs.Rule.{KeepsThread}
 use Rattle.omi_rule.specs.Steps.{KeepsRule, RecordWord, StepKeeps, found_in, left_in}
 use Rattle.omi_rule.proofs.Assembly.{Before, load_stays, of_load, plain_event_keeps, spares_none}
 use Rattle.omi_rule.proofs.KeptObjects.{task_kept}
 use Rattle.omi_rule.proofs.Own.{ChangesTask, context_kept}
-use Rattle.omi_rule.proofs.OwnTask.{is_current, own_changes, own_stands, relisted_ahead, relisted_alike}
+use Rattle.omi_rule.proofs.OwnTask.{is_current, own_changes, own_stands, relisted_ahead, relisted_alike, relisted_front}
 use Rattle.omi_rule.proofs.RowsStay.{Spares}
 use Rattle.omi_rule.proofs.Runs.{stack_runs}
 use Rattle.omi_rule.proofs.task.Events.{making_is, none_new, sees_final, step, words_moved}
@@ -194,7 +194,8 @@ module _ (p : Program) (w : List ℕ) (m : Memory) (events : List (ℕ × Event)
             own_stands p s i (actors i)
             (stands p w m events s actors i before C at) events before.rule.reached u changes
             (to_task d (actors i)) g gs stack refl (λ b. b)
-            (relisted_ahead p s i (actors i) (stands p w m events s actors i before C at) zs u refl (λ xs. xs ≡ task_ahead p At (actors i).stack d) next);
+            (relisted_ahead p s i (actors i) (stands p w m events s actors i before C at) zs u refl (λ xs. xs ≡ task_ahead p At (actors i).stack d) next)
+            (λ t live. subst IsPassable (sym (relisted_front p s i (actors i) (stands p w m events s actors i before C at) zs u refl t live)) tt);
         runs = stack_runs p s u i (stays_step p s i (event.Seen place) u (done some)) (actors i) mine.stands mine.runs;
         row = row_there;
         ended = tt;

@@ -1,5 +1,5 @@
 -- A new task starts at once: its record is stored as the current task's, and its thread goes on in its body.
-use Rattle.std.proofs.Common.{◌≡◌, ◌||◌, ℕ, Bool, true, false, List, [], ◌∷◌, ◌++◌, Option, Some, None, refl, sym, ap, ◌∙◌, arith, if◌then◌else◌}
+use Rattle.std.proofs.Common.{◌≡◌, ◌||◌, ℕ, Bool, true, false, List, [], ◌∷◌, ◌++◌, Option, Some, None, refl, sym, ap, ◌∙◌, arith, if◌then◌else◌, subst}
 use Rattle.omi_word.specs.declared.op.Op.TheVariants as op
 use Rattle.omi_script.specs.declared.env.Env.{Env}
 use Rattle.omi_script.specs.declared.program.Program.{Program}
@@ -49,7 +49,7 @@ use Rattle.omi_task.specs.Starts.{task_context}
 use Rattle.omi_task.proofs.StartedBodies.{start_now_opens}
 use Rattle.omi_rule.specs.Ahead as Ahead
 use Rattle.omi_rule.specs.Ahead.{leaving, task_ahead}
-use Rattle.omi_rule.specs.Chains.{KeepsBodies, KeepsContext, RunsFunctions, encounter_of}
+use Rattle.omi_rule.specs.Chains.{KeepsBodies, KeepsContext, RunsFunctions, encounter_of, IsPassable}
 use Rattle.omi_rule.specs.Rows.{HasFilledTask}
 use Rattle.omi_rule.specs.Rule.{KeepsThread}
 use Rattle.omi_rule.specs.Steps.{RecordWord, StepKeeps}
@@ -247,6 +247,9 @@ module _ (p : Program) (w : List ℕ) (m : Memory) (events : List (ℕ × Event)
       → x.list ≡ Ahead.ahead p (encounter_of U c) (frame ∷ (actors i).stack)
   ahead x live = ap (λ (y : Task). y.list) (some_same live new_lives) ∙ ap (λ g. task_items p g) (sym made_is)
 
+  front : (x : Task) → task_of U t ≡ Some x → IsPassable x.frees
+  front x live = subst (λ (y : Task). IsPassable y.frees) (some_same new_lives live) tt
+
   -- ---- the thread afterwards
 
   abbrev Later : List (ℕ × Event)
@@ -266,7 +269,7 @@ module _ (p : Program) (w : List ℕ) (m : Memory) (events : List (ℕ × Event)
   thread_now =
       let mine = own p w m events s actors i before C at in
       settles p w N Later U i b frame (actors i).stack refl mine.thread
-      (record { thread = mine.fits.thread; variables = mine.fits.variables; bodies = open_bodies; some = omega arith }) contexts_placed debug current bodies runs ahead
+      (record { thread = mine.fits.thread; variables = mine.fits.variables; bodies = open_bodies; some = omega arith }) contexts_placed debug current bodies runs ahead front
 
   -- ---- the step
 

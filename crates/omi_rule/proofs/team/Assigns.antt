@@ -44,7 +44,7 @@ use Rattle.omi_step_words.specs.Words.{of_thread}
 use Rattle.omi_fork.specs.TeamParts.{team_size}
 use Rattle.omi_fork.specs.TeamSteps.{team_moved, team_next, team_outcome}
 use Rattle.omi_rule.specs.Ahead.{IsAhead}
-use Rattle.omi_rule.specs.Chains.{encounter_of}
+use Rattle.omi_rule.specs.Chains.{encounter_of, IsFront}
 use Rattle.omi_rule.specs.Rows.{KeepsRow}
 use Rattle.omi_rule.specs.Rule.{KeepsThread}
 use Rattle.omi_rule.specs.Steps.{KeepsRule, RecordWord, StepKeeps}
@@ -184,6 +184,7 @@ module _ (p : Program) (w : List ℕ) (m : Memory) (events : List (ℕ × Event)
       (ap (λ (x : Option Model). (encounter_by s x).debug) (top p s i (actors i) o).live ∙ ap (λ (e : Env). e.debug) (environment_stays p events s before.rule.reached))
       o.current o.bodies mine.runs
       (λ t live. subst (λ (x : Counter). IsAhead p (encounter_of s (actors i).context) (actors i).stack x t.list) at (o.ahead t live))
+      (λ t live. subst (λ (x : Counter). IsFront x t.frees) at (o.front t live))
 
   pub assign_keeps : StepKeeps p w m events s actors i (team_next p w (actors i) C) (λ old. (team_moved p w (actors i) C old, team_outcome p w (actors i) C old))
   assign_keeps = (

@@ -30,7 +30,7 @@ use Rattle.omi_rule_words.proofs.ListMoves.{list_moves_keep}
 use Rattle.omi_rule_words.proofs.Moves.{moves_keep}
 use Rattle.omi_step_words.specs.Placed.{IsPlacedTeam}
 use Rattle.omi_rule.specs.Ahead.{IsAhead, team_ahead}
-use Rattle.omi_rule.specs.Chains.{StandsInTask, encounter_of}
+use Rattle.omi_rule.specs.Chains.{StandsInTask, encounter_of, IsPassable, IsFront}
 use Rattle.omi_rule.specs.Commits.{CommitsAt}
 use Rattle.omi_rule.specs.Rows.{KeepsTeamRow}
 use Rattle.omi_rule.specs.Rule.{AreNewMembers}
@@ -39,7 +39,7 @@ use Rattle.omi_rule.proofs.Assembly.{Before, plain_event_keeps}
 use Rattle.omi_rule.proofs.NewMembers.{waiting_step}
 use Rattle.omi_rule.proofs.NothingNew.{Makes}
 use Rattle.omi_rule.proofs.Own.{ChangesTask}
-use Rattle.omi_rule.proofs.OwnTask.{list_moved, own_encounter, own_taken, own_stands, relisted_ahead, top}
+use Rattle.omi_rule.proofs.OwnTask.{list_moved, own_encounter, own_taken, own_stands, relisted_ahead, top, relisted_front, own_front}
 use Rattle.omi_rule.proofs.RowsStay.{Spares}
 use Rattle.omi_rule.proofs.team.Within.{going, own, standing}
 use Rattle.omi_model.proofs.StaysKept.{stays_step}
@@ -66,12 +66,16 @@ module _ (p : Program) (w : List ℕ) (m : Memory) (events : List (ℕ × Event)
       subst (λ (d : Counter). IsAhead p At (actors i).stack d (top p s i (actors i) stands).task.list) at
       (stands.ahead (top p s i (actors i) stands).task (top p s i (actors i) stands).live)
 
+  passes : IsPassable (top p s i (actors i) stands).task.frees
+  passes =
+      subst (λ (d : Counter). IsFront d (top p s i (actors i) stands).task.frees) at (own_front p s i (actors i) stands)
+
   pub takes : (e : Event) (y : Item) (ys : List Item)
       → take_item p (encounter_of s (actors i).context) e (team_ahead p (encounter_of s (actors i).context) (actors i).stack c) ≡ Some (y, ys)
       → taken_by p s i e ≡ Some (y, ys)
   takes e y ys taken =
       ap (λ (x : Encounter). take_item p x e (ahead_of s i)) (own_encounter p s i (actors i) stands)
-      ∙ own_taken p s i (actors i) stands events before.rule.reached At e y ys
+      ∙ own_taken p s i (actors i) stands events before.rule.reached passes At e y ys
       (ap (λ (xs : List Item). take_item p At e xs) list_is ∙ taken)
 
   pub step : (e : Event) (y : Item) (ys zs : List Item) (u : State)
@@ -125,7 +129,8 @@ module _ (p : Program) (w : List ℕ) (m : Memory) (events : List (ℕ × Event)
         stands =
             own_stands p s i (actors i) stands events before.rule.reached u changes
             (going d g (actors i)) f fs stack refl (λ b. b)
-            (relisted_ahead p s i (actors i) stands zs u tasks (λ xs. xs ≡ team_ahead p At (actors i).stack d) next);
+            (relisted_ahead p s i (actors i) stands zs u tasks (λ xs. xs ≡ team_ahead p At (actors i).stack d) next)
+            (λ t live. subst IsPassable (sym (relisted_front p s i (actors i) stands zs u tasks t live)) tt);
         runs = stack_runs p s u i (stays_step p s i e u done) (actors i) mine.stands mine.runs;
         row = ready.row;
         ended = tt;

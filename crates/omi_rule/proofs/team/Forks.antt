@@ -56,7 +56,7 @@ use Rattle.omi_fork.specs.TeamParts.{master_context, region_function, team_size}
 use Rattle.omi_fork.specs.TeamSteps.{team_moved, team_next, team_outcome}
 use Rattle.omi_fork.proofs.Forks.{fork_opens}
 use Rattle.omi_rule.specs.Ahead as Ahead
-use Rattle.omi_rule.specs.Chains.{KeepsBodies, KeepsContext, encounter_of}
+use Rattle.omi_rule.specs.Chains.{KeepsBodies, KeepsContext, encounter_of, IsPassable}
 use Rattle.omi_rule.specs.Rule.{AreNewMembers, KeepsThread}
 use Rattle.omi_rule.specs.Steps.{KeepsRule, RecordWord, StepKeeps}
 use Rattle.omi_rule.proofs.Assembly.{Before, event_keeps, spares_threads}
@@ -253,6 +253,9 @@ module _ (p : Program) (w : List ℕ) (m : Memory) (events : List (ℕ × Event)
       let mine = own p w m events s actors i before C at in
       fork_opens p w (actors i) r before.suits.threads body_opens mine.fits mine.placed at
 
+  front : (t : Task) → task_of U First ≡ Some t → IsPassable t.frees
+  front t live = subst (λ (x : Task). IsPassable x.frees) (some_same live_first live) tt
+
   contexts_placed : AreContextsPlaced w context (at_start (region_function p (actors i)) (opened.Master (actors i).context) ∷ (actors i).stack)
   contexts_placed =
       let there = placed p w m events s actors i before C at in
@@ -264,7 +267,7 @@ module _ (p : Program) (w : List ℕ) (m : Memory) (events : List (ℕ × Event)
       works p w N Later U i b (at_start (region_function p (actors i)) (opened.Master (actors i).context))
       (actors i).stack refl mine.thread
       (record { thread = mine.fits.thread; variables = mine.fits.variables; bodies = open_bodies; some = omega arith })
-      (inl (refl, tt)) contexts_placed (ap (λ (e : Encounter). e.debug) seen) current bodies runs ahead
+      (inl (refl, tt)) contexts_placed (ap (λ (e : Encounter). e.debug) seen) current bodies runs ahead front
 
   assigns_now : 1 < length Members → KeepsThread p w N Later U i (to_team (team.Assign 1) b)
   assigns_now more =
@@ -280,7 +283,7 @@ module _ (p : Program) (w : List ℕ) (m : Memory) (events : List (ℕ × Event)
             (filled p w m events s actors i before r at).slots,
           );
         };
-        stands = record { current = current; bodies = bodies; ahead = ahead };
+        stands = record { current = current; bodies = bodies; ahead = ahead; front = front };
         runs = runs;
         row = tt;
         ended = tt;

@@ -24,7 +24,7 @@ use Rattle.omi_rule_words.specs.Objects.{KeepsEnvironment, KeepsRegion}
 use Rattle.omi_rule_words.specs.Owes.{all_owed, by_team, owed, owed_at}
 use Rattle.omi_step_words.specs.Placed.{AreContextsPlaced, IsContextPlaced, IsPlacedCounter, IsPlacedTeam}
 use Rattle.omi_rule.specs.Ahead.{IsAhead, team_ahead}
-use Rattle.omi_rule.specs.Chains.{KeepsContext, StandsInTask, encounter_of}
+use Rattle.omi_rule.specs.Chains.{KeepsContext, StandsInTask, encounter_of, IsFront}
 use Rattle.omi_rule.specs.Rows.{KeepsRow, KeepsTeamRow}
 use Rattle.omi_rule.specs.Rule.{KeepsThread}
 use Rattle.omi_rule.proofs.Assembly.{Before}
@@ -93,7 +93,8 @@ module _ (p : Program) (w : List ℕ) (m : Memory) (events : List (ℕ × Event)
       let (f, fs, stack, o) = standing in
       same_bodies p w m events s i (actors i) own f fs stack o n
       (counter.Team d) g variables fits_there placed_there
-      (λ t live. subst (λ (x : Counter). IsAhead p (encounter_of s (actors i).context) (actors i).stack x t.list) at (o.ahead t live) ∙ sym same) row_there tt
+      (λ t live. subst (λ (x : Counter). IsAhead p (encounter_of s (actors i).context) (actors i).stack x t.list) at (o.ahead t live) ∙ sym same)
+      (λ t live. subst (λ (x : Counter). IsFront x t.frees) at (o.front t live)) row_there tt
 
   -- ---- records
 

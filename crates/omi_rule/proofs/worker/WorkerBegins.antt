@@ -55,7 +55,7 @@ use Rattle.omi_step_words.specs.Placed.{AreContextsPlaced}
 use Rattle.omi_step_words.specs.Words.{of_thread}
 use Rattle.omi_fork.specs.WorkerSteps.{member_context, worker_moved, worker_next, worker_outcome}
 use Rattle.omi_rule.specs.Ahead as Ahead
-use Rattle.omi_rule.specs.Chains.{KeepsBodies, KeepsContext, encounter_of}
+use Rattle.omi_rule.specs.Chains.{KeepsBodies, KeepsContext, encounter_of, IsPassable}
 use Rattle.omi_rule.specs.Rows.{HasSize}
 use Rattle.omi_rule.specs.Rule.{IsNewMember, KeepsThread}
 use Rattle.omi_rule.specs.Steps.{KeepsRule, StepKeeps}
@@ -70,6 +70,7 @@ use Rattle.omi_rule.proofs.plain.OwnEvents.{environment_stays}
 use Rattle.omi_rule.proofs.worker.WorkerEvents.{fits_worker, owes_now, row_is, stands_alone, taken_list}
 use Rattle.omi_rule.proofs.worker.WorkerLoads.{implicit_is, one_waits}
 use Rattle.omi_rule.specs.Chains.{RunsFunctions}
+use Rattle.omi_rule.proofs.WaitingFronts.{waiting_passes}
 
 module _ (p : Program) (w : List ℕ) (m : Memory) (events : List (ℕ × Event)) (s : State) (actors : ℕ → Actor)
     (i : ℕ) (before : Before p w m events s actors i)
@@ -124,6 +125,10 @@ module _ (p : Program) (w : List ℕ) (m : Memory) (events : List (ℕ × Event)
       (λ t live. ap (λ (x : Task). x.implicit) (sym (some_same o.live live)) ∙ implicit_is p w m events s actors i before k o)
 
   -- ---- the task afterwards
+
+  passes : IsPassable o.task.frees
+  passes =
+      waiting_passes p events s before.rule.reached k o.task o.live (λ is. cc (sym o.progress, is))
 
   abbrev begun : Task
   begun = record o.task { progress = progress.Begun }
@@ -277,6 +282,7 @@ module _ (p : Program) (w : List ℕ) (m : Memory) (events : List (ℕ × Event)
       (subst (KeepsBodies p u i context) (sym stack) (kept, tt, kept))
       (subst (RunsFunctions u context) (sym stack) (λ opens t now. ap (λ (x : Task). x.function) (some_same now live) ∙ f_is, tt))
       (λ t now. ap (λ (x : Task). x.list) (some_same now live) ∙ list)
+      (λ t now. subst (λ (x : Task). IsPassable x.frees) (some_same live now) passes)
 
   pub begins_task : KeepsRule p w m events s actors i (op.Store (of_thread w (actors i).thread ThreadCurrent) (task_address w k)) (thread_word i ThreadCurrent) (Moves.back_to_work p b, outcome.Event (event.ImplicitBegin k))
   begins_task =

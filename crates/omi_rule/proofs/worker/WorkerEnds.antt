@@ -58,8 +58,9 @@ use Rattle.omi_step_words.specs.Moving.{to_worker}
 use Rattle.omi_step_words.specs.Placed.{AreContextsPlaced}
 use Rattle.omi_step_words.specs.Words.{of_region, of_thread}
 use Rattle.omi_fork.specs.WorkerSteps.{idle_counter, worker_moved, worker_next, worker_outcome}
+use Rattle.omi_pc.specs.declared.counter.Counter.{Counter}
 use Rattle.omi_rule.specs.Ahead.{IsAhead}
-use Rattle.omi_rule.specs.Chains.{KeepsContext, StandsInTask, StandsWith, encounter_of, idling, offering, worker_ahead}
+use Rattle.omi_rule.specs.Chains.{KeepsContext, StandsInTask, StandsWith, encounter_of, idling, offering, worker_ahead, IsFront}
 use Rattle.omi_rule.specs.Rule.{KeepsThread}
 use Rattle.omi_rule.specs.Steps.{KeepsRule, StepKeeps, left_in}
 use Rattle.omi_rule.proofs.OwnWords.{own_thread, store_on, thread_word}
@@ -67,7 +68,7 @@ use Rattle.omi_rule.proofs.Assembly.{Before, plain_event_keeps, quiet_keeps, spa
 use Rattle.omi_rule.proofs.KeptObjects.{region_kept, region_there}
 use Rattle.omi_rule.proofs.NewMembers.{waiting_step}
 use Rattle.omi_rule.proofs.Owing.{owed_after, step_of}
-use Rattle.omi_rule.proofs.OwnTask.{is_current, list_moved, own_ahead, own_taken, top}
+use Rattle.omi_rule.proofs.OwnTask.{is_current, list_moved, own_ahead, own_taken, top, own_front}
 use Rattle.omi_rule.proofs.WorkerLists.{worker_lists}
 use Rattle.omi_rule.proofs.plain.OwnEvents.{environment_stays}
 use Rattle.omi_rule.proofs.join.Departures.{ended_few}
@@ -244,7 +245,8 @@ module _ (p : Program) (w : List ℕ) (m : Memory) (events : List (ℕ × Event)
 
   taken : take_item p (encounter s i) (event.ImplicitEnd k) (ahead_of s i) ≡ Some ends_last
   taken =
-      own_taken p s i (actors i) stands events before.rule.reached (encounter s i) (event.ImplicitEnd k) item.ImplicitEnd []
+      own_taken p s i (actors i) stands events before.rule.reached
+      (subst (λ (c : Counter). IsFront c t.frees) at (own_front p s i (actors i) stands)) (encounter s i) (event.ImplicitEnd k) item.ImplicitEnd []
       (ap (take_item p (encounter s i) (event.ImplicitEnd k)) list)
 
   step : Step p s i (event.ImplicitEnd k) u

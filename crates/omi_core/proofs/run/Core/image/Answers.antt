@@ -5,4 +5,4 @@ use Rattle.omi_core.proofs.Stepping.{shows_state}
 use Rattle.omi_core.proofs.run.Core.image.Goals as goal
 
 pub returns-clause-shown : goal.returns-clause-shown
-returns-clause-shown c = subst (λ (z : Run). ShowsState z) c.self.view_is (shows_state _ c.self.invariant.run)
+returns-clause-shown c = subst (λ (z : Run). ShowsState z) c.self.view_is (shows_state _ c.self.invariant)

@@ -5,4 +5,4 @@ use Rattle.omi_core.proofs.Histories.{history}
 use Rattle.omi_core.proofs.run.Core.made.Goals as goal
 
 pub returns-clause-history : goal.returns-clause-history
-returns-clause-history c = subst (λ (z : Run). HasHistory z) c.self.view_is (history _ c.self.invariant.run)
+returns-clause-history c = subst (λ (z : Run). HasHistory z) c.self.view_is (history _ c.self.invariant)

@@ -5,4 +5,4 @@ use Rattle.omi_core.proofs.run.Core.rule_holds.Goals as goal
 
 pub returns : goal.returns
 returns c =
-    subst (λ (z : Run). RuleHolds z) c.self.view_is (c.self.invariant.run.state, c.self.invariant.run.rule)
+    subst (λ (z : Run). RuleHolds z) c.self.view_is (c.self.invariant.state, c.self.invariant.rule)

@@ -8,14 +8,12 @@ use Rattle.omi_rep.specs.declared.outcome.Outcome.{Outcome}
 use Rattle.omi_step_words.specs.Outcomes.{outcome_of}
 use Rattle.omi_step_words.specs.Placed.{IsPlaced}
 use Rattle.omi_actor.specs.Steps.{next_of, resumed_at}
-use Rattle.omi_rule.specs.StepsKeep.{IsKept}
 use Rattle.omi_core.specs.Runs.{Run, actors_in, spare_in}
 use Rattle.omi_core.specs.declared.entry.Entry.{Entry}
 use Rattle.omi_core.specs.RunSteps.{IsRight, IsStep, event_of, seats_of, turn_of}
 use Rattle.omi_run_lists.specs.declared.made.Turn.{Turn}
 use Rattle.std.proofs.lemmas.List.{length-append}
 use Rattle.omi_core.specs.Kept.{KeepsRun}
-use Rattle.omi_core.proofs.KeptCounters.{step_kept}
 use Rattle.omi_core.proofs.Stepping.{actor_is, few_seats, inside, own, right, run_after, seats_for, spare_after}
 use Rattle.omi_core.proofs.run.Core.step.Goals as goal
 
@@ -34,56 +32,54 @@ module _ (a : Run) (keeps : KeepsRun a) (i : ℕ) (thread : i < a.program.thread
 pub next-op-requires-clause-fits : goal.next-op-requires-clause-fits
 next-op-requires-clause-fits c =
     let thread = subst (λ (z : Run). c.args.i < z.program.threads) (sym c.self.view_is) c.requires.thread in
-    fits_read _ c.self.invariant.run c.args.i thread c.index-actor.result.now c.index-actor.ensures
+    fits_read _ c.self.invariant c.args.i thread c.index-actor.result.now c.index-actor.ensures
 
 pub next-op-requires-clause-placed : goal.next-op-requires-clause-placed
 next-op-requires-clause-placed c =
     let thread = subst (λ (z : Run). c.args.i < z.program.threads) (sym c.self.view_is) c.requires.thread in
-    placed_read _ c.self.invariant.run c.args.i thread c.index-actor.result.now c.index-actor.ensures
+    placed_read _ c.self.invariant c.args.i thread c.index-actor.result.now c.index-actor.ensures
 
 pub apply-found-requires : goal.apply-found-requires
 apply-found-requires c =
     let thread = subst (λ (z : Run). c.args.i < z.program.threads) (sym c.self.view_is) c.requires.thread in
     let spare = subst (λ (z : Run). 1 ≤ spare_in z) (sym c.self.view_is) c.requires.spare in
-    let kept = c.self.invariant.goes_on c.args.i thread in
-    let here = read_is _ c.self.invariant.run c.args.i thread c.index-actor.result.now c.index-actor.ensures in
+    let here = read_is _ c.self.invariant c.args.i thread c.index-actor.result.now c.index-actor.ensures in
     subst (λ (o : Op). IsWordOf c.self.inside.image (address_of o))
     (sym (c.next-op.ensures ∙ ap (λ (b : Actor). next_of c.self.inside.program c.self.inside.layout.table b) here))
-    (inside _ c.self.invariant.run c.args.i thread spare kept)
+    (inside _ c.self.invariant c.args.i thread spare)
 
 pub outcome-came-requires-clause-fits : goal.outcome-came-requires-clause-fits
 outcome-came-requires-clause-fits c =
     let thread = subst (λ (z : Run). c.args.i < z.program.threads) (sym c.self.view_is) c.requires.thread in
-    fits_read _ c.self.invariant.run c.args.i thread c.index-actor.result.now c.index-actor.ensures
+    fits_read _ c.self.invariant c.args.i thread c.index-actor.result.now c.index-actor.ensures
 
 pub outcome-came-requires-clause-placed : goal.outcome-came-requires-clause-placed
 outcome-came-requires-clause-placed c =
     let thread = subst (λ (z : Run). c.args.i < z.program.threads) (sym c.self.view_is) c.requires.thread in
-    placed_read _ c.self.invariant.run c.args.i thread c.index-actor.result.now c.index-actor.ensures
+    placed_read _ c.self.invariant c.args.i thread c.index-actor.result.now c.index-actor.ensures
 
 pub advance-requires-clause-fits : goal.advance-requires-clause-fits
 advance-requires-clause-fits c =
     let thread = subst (λ (z : Run). c.args.i < z.program.threads) (sym c.self.view_is) c.requires.thread in
-    fits_read _ c.self.invariant.run c.args.i thread c.index_mut.result.now c.index_mut.ensures.value
+    fits_read _ c.self.invariant c.args.i thread c.index_mut.result.now c.index_mut.ensures.value
 
 pub advance-requires-clause-placed : goal.advance-requires-clause-placed
 advance-requires-clause-placed c =
     let thread = subst (λ (z : Run). c.args.i < z.program.threads) (sym c.self.view_is) c.requires.thread in
-    placed_read _ c.self.invariant.run c.args.i thread c.index_mut.result.now c.index_mut.ensures.value
+    placed_read _ c.self.invariant c.args.i thread c.index_mut.result.now c.index_mut.ensures.value
 
 pub list_event-requires-clause-seats : goal.list_event-requires-clause-seats
 list_event-requires-clause-seats c =
     let thread = subst (λ (z : Run). c.args.i < z.program.threads) (sym c.self.view_is) c.requires.thread in
     let spare = subst (λ (z : Run). 1 ≤ spare_in z) (sym c.self.view_is) c.requires.spare in
-    let kept = c.self.invariant.goes_on c.args.i thread in
-    let within = subst (λ n. c.args.i < n) (sym c.self.invariant.run.actors) thread in
+    let within = subst (λ n. c.args.i < n) (sym c.self.invariant.actors) thread in
     let found =
     c.apply-found.ensures.old
     ∙ ap (λ (o : Op). word_at c.self.inside.image (address_of o))
     (c.next-op.ensures
     ∙ ap (λ (b : Actor). next_of c.self.inside.program c.self.inside.layout.table b)
     (c.index-actor.ensures ∙ actor_is c.self.inside.actors.items c.args.i c.index-actor.result.now within)) in
-    seats_for _ c.self.invariant.run c.args.i thread spare kept (outcome_of c.index-actor.result.now c.outcome-came.result)
+    seats_for _ c.self.invariant c.args.i thread spare (outcome_of c.index-actor.result.now c.outcome-came.result)
     (c.outcome-came.ensures
     ∙ ap
     (λ (b : Actor). (resumed_at c.self.inside.program c.self.inside.layout.table b b.counter c.apply-found.result.old).1)
@@ -99,11 +95,8 @@ some_spare : (c : goal.After-self-1)
     → 1 ≤ spare_in (record { program = c.self.inside.program; table = c.self.inside.layout.table; words = c.self.inside.image; actors = c.self.inside.actors.items; events = c.self.inside.events; made = c.self.inside.made })
 some_spare c = subst (λ (z : Run). 1 ≤ spare_in z) (sym c.self.view_is) c.requires.spare
 
-is_kept : (c : goal.After-self-1) → IsKept (actors_in c.self.inside.actors.items c.args.i).counter
-is_kept c = c.self.invariant.goes_on c.args.i (threads_known c)
-
 in_list : (c : goal.After-self-1) → c.args.i < length c.self.inside.actors.items
-in_list c = subst (λ n. c.args.i < n) (sym c.self.invariant.run.actors) (threads_known c)
+in_list c = subst (λ n. c.args.i < n) (sym c.self.invariant.actors) (threads_known c)
 
 -- the operation, and the word that it found
 op_is : (c : goal.After-self-1)
@@ -199,15 +192,12 @@ actors_are c =
 keeps_run : (c : goal.After-self-1) → KeepsRun (run_now c)
 keeps_run c =
     let step = is_step c in
-    run_after (run_before c) c.self.invariant.run c.args.i (threads_known c) (some_spare c) (is_kept c) _
+    run_after (run_before c) c.self.invariant c.args.i (threads_known c) (some_spare c) _
     (entry_of c) (op_is c) (found_is c) (outcome_found c) refl refl step.words
     (actors_are c) step.made step.events
 
 pub invariant_of-self : goal.invariant_of-self
-invariant_of-self c = record {
-  run = keeps_run c;
-  goes_on = step_kept (run_before c) (run_now c) c.args.i _ (threads_known c) c.self.invariant.run.actors c.self.invariant.goes_on refl (is_step c).actors;
-}
+invariant_of-self c = keeps_run c
 
 pub returns-clause-entry : goal.returns-clause-entry
 returns-clause-entry c =
@@ -218,7 +208,7 @@ returns-clause-right c =
     subst
     (λ (z : Run). IsRight z c.args.i (record { op = c.next-op.result; old = c.apply-found.result.old; outcome = c.with_team-outcome.result })) c.self.view_is
     (right (record { program = c.self.inside.program; table = c.self.inside.layout.table; words = c.self.inside.image; actors = c.self.inside.actors.items; events = c.self.inside.events; made = c.self.inside.made })
-    c.self.invariant.run c.args.i (threads_known c) (some_spare c) (is_kept c) _ (op_is c) (found_is c) (outcome_found c))
+    c.self.invariant c.args.i (threads_known c) (some_spare c) _ (op_is c) (found_is c) (outcome_found c))
 
 pub returns-clause-rule : goal.returns-clause-rule
 returns-clause-rule c = let run = keeps_run c in (run.state, run.rule)
@@ -228,7 +218,7 @@ returns-clause-spare c =
     let teams : seats_of (outcome_of c.index-actor.result.now c.outcome-came.result) ≤ c.self.inside.program.threads =
     subst (λ (o : Outcome). seats_of o ≤ c.self.inside.program.threads)
     (sym (sym c.with_team-outcome.ensures ∙ outcome_found c))
-    (few_seats (run_before c) c.self.invariant.run c.args.i (threads_known c) (some_spare c) (is_kept c)) in
+    (few_seats (run_before c) c.self.invariant c.args.i (threads_known c) (some_spare c)) in
     let room = c.list_event.ensures.seats in
     subst (λ (z : Run). spare_in z ≤ spare_in (run_now c) + 1) c.self.view_is
     (spare_after (run_before c) (run_now c) refl (let known = threads_known c in omega (arith, known)) c.push_reserved.ensures.spare c.list_event.ensures.spare (omega (arith, room, teams))

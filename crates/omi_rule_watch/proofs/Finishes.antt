@@ -1,0 +1,200 @@
+-- The steps of the end of an explicit task, and those that give the records of tasks back: the look behind them has not begun.
+use Rattle.std.proofs.Common.{◌≡◌, ◌==◌, ◌&&◌, ℕ, Bool, true, false, List, Option, Some, None, refl, if◌then◌else◌}
+use Rattle.omi_script.specs.declared.program.Program.{Program}
+use Rattle.omi_model.specs.declared.event.Event.{Event}
+use Rattle.omi_model.specs.State.{State}
+use Rattle.omi_layout.specs.declared.field.Field.{Field}
+use Rattle.omi_layout.specs.declared.field.Field.TheVariants.{RegionLife, TaskGenerating, TaskImplicit, TaskLife}
+use Rattle.omi_layout.specs.Field.{kind_of, tasks}
+use Rattle.omi_layout.specs.Memory.{IsRecordWord, Memory}
+use Rattle.omi_layout.specs.Named.{number}
+use Rattle.omi_pc.specs.declared.actor.Actor.{Actor}
+use Rattle.omi_pc.specs.declared.counter.Counter.TheVariants as counter
+use Rattle.omi_pc.specs.declared.frame.Wait.{Wait}
+use Rattle.omi_pc.specs.declared.frame.Wait.TheVariants as wait
+use Rattle.omi_pc.specs.declared.place.Place.{Place}
+use Rattle.omi_pc.specs.declared.task_counter.Ancestor.{Ancestor}
+use Rattle.omi_pc.specs.declared.task_counter.FinishCounter.{FinishCounter}
+use Rattle.omi_pc.specs.declared.task_counter.FinishCounter.TheVariants as finish
+use Rattle.omi_pc.specs.declared.task_counter.LookCounter.TheVariants as look
+use Rattle.omi_rep.specs.declared.outcome.Outcome.TheVariants as outcome
+use Rattle.omi_rep.specs.Records.{task_word}
+use Rattle.omi_step_words.specs.Placed.{HasTaskPlace, IsPlacedFinish}
+use Rattle.omi_step_words.specs.Words.{is_free, task_place}
+use Rattle.omi_task.specs.FinishSteps.{behind_finish, behind_references, finish_moved, finish_next, finish_outcome}
+use Rattle.omi_rule.specs.Rows.{IsAbove, place_of}
+use Rattle.omi_rule.specs.Steps.{IsOn, RecordWord, found_in}
+use Rattle.omi_rule.proofs.Assembly.{Before}
+use Rattle.omi_rule.proofs.barrier.AtCounter.{placed_counter, row_is}
+use Rattle.omi_rule_watch.specs.Given.{Has, IsFinishGivenBy, IsLookGiven, IsSearchGiven, region_found, task_found}
+use Rattle.omi_rule_watch.specs.Watch.{SlotLook, Watch, finds, is_load, is_own, is_slot, no_look}
+use Rattle.omi_rule_watch.proofs.Cases.{one_of}
+use Rattle.omi_rule_watch.proofs.Parts.{IsCalm, KeepsParts, PartsKeep, calm_at, event_parts, look_stays, quiet_parts}
+use Rattle.omi_rule_watch.proofs.Standing.{life_taken, record_word, some_word, word_of}
+use Rattle.omi_rule_watch.proofs.Workers.{not_found}
+
+-- ---- the next counter
+
+-- one of two counters at which the look has not begun
+begins_two : (b : Bool) (x y : FinishCounter) (l : SlotLook) → IsFinishGivenBy x l → IsFinishGivenBy y l
+    → IsFinishGivenBy (if b then x else y) l
+begins_two b x y l one other = one_of (λ (c : FinishCounter). IsFinishGivenBy c l) b x y one other
+
+begins_behind : (w : List ℕ) (v : Option Wait) (explicit : Option Ancestor) (old : ℕ) (l : SlotLook) → Has l 0 None
+    → IsFinishGivenBy (behind_references w v explicit old) l
+begins_behind w v None old l has = has
+begins_behind w v (Some x) old l has =
+    begins_two (old == 1) (finish.Free v x.task (task_place w x.generating)) (finish.SubtractPending v) l has has
+
+-- the wait goes on, with a new look
+back_calm : (p : Program) (v : Option Wait)
+    → (region_found (behind_finish p v) ≡ None) × (task_found (behind_finish p v) ≡ None)
+back_calm p None = (refl, refl)
+back_calm p (Some wait.Taskyield) = (refl, refl)
+back_calm p (Some wait.Taskwait) = (refl, refl)
+back_calm p (Some (wait.Barrier b)) = (refl, refl)
+
+back_given : (p : Program) (b : Actor) (l : SlotLook) → Has l 0 None → (v : Option Wait)
+    → IsLookGiven b (behind_finish p v) l
+back_given p b l has None = tt
+back_given p b l has (Some wait.Taskyield) = tt
+back_given p b l has (Some wait.Taskwait) = go p.env.debug
+  where
+    go : (d : Bool)
+        → IsLookGiven b (counter.Look (if d then look.State wait.Taskwait else look.LoadRow wait.Taskwait 0)) l
+    go true = tt
+    go false = has
+back_given p b l has (Some (wait.Barrier k)) = go p.env.debug
+  where
+    go : (d : Bool)
+        → IsLookGiven b (counter.Look (if d then look.State (wait.Barrier k) else look.LoadRow (wait.Barrier k) 0)) l
+    go true = tt
+    go false = has
+
+module _ (p : Program) (w : List ℕ) (m : Memory) (events : List (ℕ × Event)) (s : State) (actors : ℕ → Actor)
+    (i : ℕ) (before : Before p w m events s actors i) (h : Watch) where
+  abbrev a : Actor
+  a = actors i
+
+  -- the step at this counter keeps its parts
+  abbrev Keeps : FinishCounter → Type 0
+  Keeps c = PartsKeep w m s i (finish_next w a c) (λ old. (finish_moved p w a c old, finish_outcome a c)) h
+
+  -- ---- any step
+
+  module _ (c : FinishCounter) (at : (actors i).counter ≡ counter.Finish c)
+      (given : IsSearchGiven (actors i) (counter.Finish c) h.search) where
+    calm : IsCalm h.search
+    calm = calm_at a (counter.Finish c) h.search refl refl refl given
+
+    placed : IsPlacedFinish w c
+    placed = placed_counter p w m events s actors i before (counter.Finish c) at tt
+
+    some : (x : RecordWord) × IsOn w (finish_next w (actors i) c) x
+    some = some_word p w m events s actors i before (counter.Finish c) at
+
+    -- an event, behind which a look may begin
+    event_to : (e : Event) (b : Actor) → region_found b.counter ≡ None → task_found b.counter ≡ None
+        → ((l : SlotLook) → Has l 0 None → IsLookGiven b b.counter l)
+        → (x : RecordWord) × IsOn w (finish_next w a c) x × KeepsParts w m s i (finish_next w a c) x (b, outcome.Event e) h
+    event_to e b no_region no_task begins =
+        let (x, on) = some in
+        (x, on, event_parts w m s i (finish_next w a c) x b h calm e no_region no_task (begins no_look (record { looked = refl; seen = refl })))
+
+    -- a quiet step that loads no slot and finds no free record
+    quiet_to : Has h.look 0 None → (x : RecordWord) (b : Actor)
+        → finds RegionLife i x (finish_next w a c) (found_in m x) outcome.Quiet ≡ false
+        → finds TaskLife i x (finish_next w a c) (found_in m x) outcome.Quiet ≡ false
+        → ((k : ℕ) → is_load (finish_next w a c) && is_slot s i k x ≡ false)
+        → region_found b.counter ≡ None → task_found b.counter ≡ None
+        → ((l : SlotLook) → Has l 0 None → IsLookGiven b b.counter l)
+        → KeepsParts w m s i (finish_next w a c) x (b, outcome.Quiet) h
+    quiet_to has x b none_region none_task no_slot no_region no_task begins =
+        quiet_parts w m s i (finish_next w a c) x b h calm none_region none_task no_region no_task
+        (begins _ (look_stays w s i x (finish_next w a c) (found_in m x) 0 h.look has no_slot))
+
+  -- the first word of a field of a task's record
+  task_word_there : (q : Place) (f : Field) → kind_of (number f) ≡ tasks → HasTaskPlace w q
+      → IsRecordWord w q.creator q.slot (number f) 0
+  task_word_there q f kind placed = record_word p w m events s actors i before tasks q.creator q.slot f kind placed
+
+  -- ---- the life word of a task above
+
+  module _ (v : Option Wait) (q : Place) (next : ℕ) (at : (actors i).counter ≡ counter.Finish (finish.LoadLife v q next))
+      (given : IsSearchGiven (actors i) (counter.Finish (finish.LoadLife v q next)) h.search)
+      (has : Has h.look 0 None) where
+    abbrev on_life : RecordWord
+    on_life = word_of q.creator q.slot TaskLife
+
+    -- the task above lives
+    taken : is_free (found_in m on_life) ≡ false
+    taken = go (row_is p w m events s actors i before (counter.Finish (finish.LoadLife v q next)) at tt)
+      where
+        go : IsAbove s a q (λ k g. (g.implicit ≡ false) × (task_word w g.generating ≡ next)) → is_free (found_in m on_life) ≡ false
+        go above = life_taken p w m events s actors i before above.name above.task q above.live above.there
+
+    loads_life : Keeps (finish.LoadLife v q next)
+    loads_life = (
+      on_life,
+      record { there = task_word_there q TaskLife refl (placed (finish.LoadLife v q next) at given); address = refl },
+      quiet_to (finish.LoadLife v q next) at given has on_life _ refl
+          (not_found (is_own TaskLife i on_life) (is_free (found_in m on_life)) taken) (λ k. refl) refl refl (λ l begins. begins),
+    )
+
+  -- ---- all of them
+
+  pub finish_parts : (c : FinishCounter) (at : (actors i).counter ≡ counter.Finish c)
+      → IsSearchGiven (actors i) (counter.Finish c) h.search
+      → IsLookGiven (actors i) (counter.Finish c) h.look
+      → PartsKeep w m s i (finish_next w (actors i) c)
+      (λ old. (finish_moved p w (actors i) c old, finish_outcome (actors i) c)) h
+  finish_parts finish.Finish at given has =
+      event_to finish.Finish at given _ _ refl refl (λ l begins. begins)
+  finish_parts (finish.LoadGenerating v t) at given has =
+      let x = word_of t.0.creator t.0.slot TaskGenerating in (
+        x,
+        record { there = task_word_there (place_of t.0) TaskGenerating refl (placed (finish.LoadGenerating v t) at given); address = refl },
+        quiet_to (finish.LoadGenerating v t) at given has x _ refl refl (λ k. refl) refl refl (λ l begins. begins),
+      )
+  finish_parts (finish.SubtractChildren v t generating) at given has =
+      let (x, on) = some (finish.SubtractChildren v t generating) at given in
+      (x, on, quiet_to (finish.SubtractChildren v t generating) at given has x _ refl refl (λ k. refl) refl refl (λ l begins. begins))
+  finish_parts (finish.SubtractReferences v t generating) at given has =
+      let (x, on) = some (finish.SubtractReferences v t generating) at given in (
+        x,
+        on,
+        quiet_to (finish.SubtractReferences v t generating) at given has x _ refl refl (λ k. refl) refl refl
+            (λ l begins. begins_two (found_in m x == 1) (finish.Free v t generating) (finish.SubtractPending v) l begins begins),
+      )
+  finish_parts (finish.Free v t generating) at given has =
+      event_to (finish.Free v t generating) at given _ _ refl refl (λ l begins. begins)
+  finish_parts (finish.LoadImplicit v generating) at given has =
+      let x = word_of generating.creator generating.slot TaskImplicit in (
+        x,
+        record { there = task_word_there generating TaskImplicit refl (placed (finish.LoadImplicit v generating) at given); address = refl },
+        quiet_to (finish.LoadImplicit v generating) at given has x _ refl refl (λ k. refl) refl refl
+            (λ l begins. begins_two (found_in m x == 0) (finish.LoadNext v generating)
+            (finish.SubtractGenerating v generating None) l begins begins),
+      )
+  finish_parts (finish.LoadNext v generating) at given has =
+      let x = word_of generating.creator generating.slot TaskGenerating in (
+        x,
+        record { there = task_word_there generating TaskGenerating refl (placed (finish.LoadNext v generating) at given); address = refl },
+        quiet_to (finish.LoadNext v generating) at given has x _ refl refl (λ k. refl) refl refl (λ l begins. begins),
+      )
+  finish_parts (finish.LoadLife v generating next) at given has = loads_life v generating next at given has
+  finish_parts (finish.SubtractGenerating v generating explicit) at given has =
+      let (x, on) = some (finish.SubtractGenerating v generating explicit) at given in (
+        x,
+        on,
+        quiet_to (finish.SubtractGenerating v generating explicit) at given has x _ refl refl (λ k. refl) refl refl
+            (begins_behind w v explicit (found_in m x)),
+      )
+  finish_parts (finish.SubtractPending v) at given has =
+      let (x, on) = some (finish.SubtractPending v) at given in
+      let (no_region, no_task) = back_calm p v in (
+        x,
+        on,
+        quiet_to (finish.SubtractPending v) at given has x (record a { counter = behind_finish p v }) refl refl
+            (λ k. refl) no_region no_task (λ l begins. back_given p (record a { counter = behind_finish p v }) l begins v),
+      )
