@@ -31,5 +31,6 @@ pub mod RangesKept
 pub mod ReachedRanges
 pub mod ReachedRecords
 pub mod ReachedClear
--- What is answered.
+-- What is answered, and what the verdict gives.
 pub mod Answered
+pub mod Verdicts

@@ -18,6 +18,7 @@ use Rattle.omi_session.specs.Tells.{Tells}
 use Rattle.omi_audit.specs.declared.verdict.AuditFault.{AuditFault}
 use Rattle.omi_audit.specs.declared.verdict.Verdict.{Verdict}
 use Rattle.omi_audit.specs.declared.verdict.Verdict.TheVariants.{Yes, No}
+use Rattle.omi_audit.specs.Verdicts.{verdict}
 use Rattle.omi_audit.specs.Search.{runtime_places, thread_places, record_places, first_ones, current_tasks, named_by, reached}
 
 -- ---- the verdict
@@ -84,3 +85,11 @@ GivesState w words (No addr field clause) = Unit {0}
 abbrev pub RefusesNoReached : List ℕ → Words → Verdict → Type 0
 RefusesNoReached w words (Yes records) = Unit {0}
 RefusesNoReached w words (No addr field clause) = ShowReached w words → ⊥
+
+-- so it is of the verdict on any words
+abbrev pub VerdictsGiveStates : Type 0
+VerdictsGiveStates = (w : List ℕ) (words : Words) → IsValid w → GivesState w words (verdict w words)
+
+abbrev pub VerdictsRefuseNoReached : Type 0
+VerdictsRefuseNoReached = (w : List ℕ) (words : Words) → IsValid w
+    → RefusesNoReached w words (verdict w words)

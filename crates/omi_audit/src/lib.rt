@@ -14,5 +14,5 @@ mod stop;
 mod verdict;
 
 pub use auditing::audit;
-pub use laws::search_reaches;
+pub use laws::{search_reaches, verdicts_give};
 pub use verdict::{AuditFault, Verdict};

@@ -1,7 +1,9 @@
-//! Tests of `show` and `recode` through the top call: reports of cores in many layouts and sizes and in either order, how much of a core is
-//! read, and the refusals.
+//! Tests of `show`, `recode` and `audit` through the top call: reports of cores in many layouts and sizes and in either order, verdicts, how much of
+//! a core is read, and the refusals.
 #![tactic(auto)]
 
+#[cfg(test)]
+mod audit_tests;
 #[cfg(test)]
 mod counted;
 #[cfg(test)]

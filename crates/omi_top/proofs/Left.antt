@@ -4,8 +4,8 @@ use Rattle.std.specs.Global.{Vec}
 use Rattle.omi_outside.specs.Outside.{Told, IsPutCut, put_on}
 use Rattle.omi_outside.specs.declared.status.Status.{Status}
 use Rattle.omi_outside.specs.declared.status.Status.TheVariants as status
-use Rattle.omi_top.specs.Command.{Command, Stop, Make, Show, Run, Recode, Faulty, core_name, script_name, written_name}
-use Rattle.omi_top.specs.Answer.{Answer, Gives, AreTold, IsAnswer, IsStopAnswer, IsMakeAnswer, IsRecodeAnswer, IsRunAnswer, IsShowAnswer, IsAnswered, IsLeft}
+use Rattle.omi_top.specs.Command.{Command, Stop, Make, Show, Run, Recode, Audit, Faulty, core_name, script_name, written_name}
+use Rattle.omi_top.specs.Answer.{Answer, Gives, AreTold, IsAnswer, IsAuditAnswer, IsStopAnswer, IsMakeAnswer, IsRecodeAnswer, IsRunAnswer, IsShowAnswer, IsAnswered, IsLeft}
 use Rattle.omi_verbs.specs.Said.{IsSaid}
 use Rattle.omi_top.specs.declared.plan.Plan.{Plan}
 use Rattle.omi_layout.specs.declared.fault.LayoutFault.TheVariants.{Version, Overlap, OutOfRecord, BadArena}
@@ -14,7 +14,8 @@ use Rattle.omi_layout.specs.declared.reading.LayoutError.TheVariants as layout
 use Rattle.omi_rep.specs.declared.fault.LookFault.{LookFault}
 use Rattle.omi_rep.specs.declared.fault.LookFault.TheVariants as look
 use Rattle.omi_verbs.specs.Refusal.{refusal_line, status_of}
-use Rattle.omi_top.specs.Shown.{refusal_of_layout, refusal_of_look}
+use Rattle.omi_top.specs.Questions.{refusal_of_layout}
+use Rattle.omi_top.specs.Shown.{refusal_of_look}
 use Rattle.omi_verbs.specs.Statuses.{IsPrinting}
 use Rattle.omi_verbs.specs.declared.refusal.Refusal.{Refusal}
 use Rattle.omi_verbs.specs.declared.refusal.Refusal.TheVariants as refusal
@@ -77,6 +78,15 @@ recode_proper order (Some bytes) None r fault (at, why, refused, is) = another r
 recode_proper order None (Some copy) r fault is = is
 recode_proper order (Some bytes) (Some copy) r fault is = is
 
+audit_proper : (content core : Option (List ℕ)) (r : Refusal) → is_fault r ≡ true
+    → IsAuditAnswer content (Gives core (Err r)) → ⊥
+audit_proper None None r fault is = another r _ fault is refl
+audit_proper (Some bytes) None r fault (inl (at, why, refused, is)) = another r _ fault is refl
+audit_proper (Some bytes) None r fault (inr (core, spelled, (e, none, is))) =
+    another r (refusal_of_layout e) fault is (layout_proper e)
+audit_proper None (Some core) r fault is = is
+audit_proper (Some bytes) (Some core) r fault is = is
+
 -- what the answer to refused words says
 abbrev said_of : Answer → Refusal
 said_of (Gives core (Ok text)) = refusal.Usage
@@ -92,6 +102,7 @@ proper (Run plan script written) told core r fault (text, here, content, is, ans
     run_proper plan text content core r fault answer
 proper (Recode order read copy) told core r fault (content, is, answer) =
     recode_proper order content core r fault answer
+proper (Audit written) told core r fault (content, is, answer) = audit_proper content core r fault answer
 proper Faulty told core r fault is = another r refusal.Usage fault (ap said_of is) refl
 
 module _ (command : Command) (told : List ℕ → Told) (old new : Told) (counted : Type 0)

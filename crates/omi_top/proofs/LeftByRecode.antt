@@ -10,7 +10,8 @@ use Rattle.omi_verbs.specs.Refusal.{status_of}
 use Rattle.omi_verbs.specs.Statuses.{IsFaultStatus, ComesWhere}
 use Rattle.omi_top.specs.Answer.{Answer, Gives, IsAnswer, IsDoneOrFailed, IsLeft, IsRecodeAnswer}
 use Rattle.omi_top.specs.Command.{Recode}
-use Rattle.omi_top.specs.Recode.{IsCoreRefusal, IsRecoded, recoded_line}
+use Rattle.omi_top.specs.Questions.{IsCoreRefusal}
+use Rattle.omi_top.specs.Recode.{IsRecoded, recoded_line}
 use Rattle.omi_top.proofs.ShowVerdicts.{HasFault}
 use Rattle.omi_top.proofs.Statuses.{DidMore, DoesMore, IsDoneStatus, one_content, comes_where, never_refused, written_more}
 

@@ -10,12 +10,16 @@ pub mod Left
 pub mod LeftByStop
 pub mod LeftByMake
 pub mod LeftByRecode
+pub mod Asking
 pub mod Showing
 pub mod Opening
 pub mod ImageWords
 pub mod ShowVerdicts
 pub mod Recoded
 pub mod LeftByShow
+pub mod Auditing
+pub mod AuditVerdicts
+pub mod LeftByAudit
 pub mod RunAnswers
 pub mod LeftByRun
 pub mod Promised

@@ -19,7 +19,8 @@ use Rattle.omi_session.specs.Tells.{Tells}
 use Rattle.omi_session.specs.declared.rc.Rc.{Rc}
 use Rattle.omi_session.specs.declared.rc.Rc.TheVariants as code
 use Rattle.omi_top.specs.Cores.{IsLooked, words_of_core}
-use Rattle.omi_top.specs.Shown.{ComesOfWords, IsRefusedCore, IsUnopened, IsViewed, handed_on, refusal_of_code, refusal_of_layout}
+use Rattle.omi_top.specs.Questions.{ComesOfWords, IsLayoutRefusal, IsUnopened, refusal_of_code, refusal_of_layout}
+use Rattle.omi_top.specs.Shown.{IsViewed, handed_on}
 use Rattle.omi_verbs.specs.Refusal.{IsReadFault}
 use Rattle.omi_verbs.specs.declared.refusal.Refusal.{Refusal}
 use Rattle.omi_walk.specs.Gives.{Gives}
@@ -49,9 +50,9 @@ pub open_refused : (core : CoreImage) (told : Told) (rc : Rc) → told ≡ told_
 open_refused core told rc is words =
     go rc (words (words_of_core core) (tells_core core told is) (ap (λ (t : Told). t.sizes) is))
   where
-    by_cause : (r : Rc) → IsCause (words_of_core core) r → IsRefusedCore core (refusal_of_code r)
+    by_cause : (r : Rc) → IsCause (words_of_core core) r → IsLayoutRefusal core (refusal_of_code r)
     by_cause r cause =
-        inl (cause.error, cause.gives_none, ap refusal_of_code cause.is ∙ code_refusal cause.error)
+        (cause.error, cause.gives_none, ap refusal_of_code cause.is ∙ code_refusal cause.error)
 
     go : (r : Rc) → Refuses (words_of_core core) r → IsUnopened core (refusal_of_code r)
     go code.Incompatible refuses = inl (by_cause code.Incompatible (refuses (λ failed. cc failed)))
@@ -61,7 +62,7 @@ open_refused core told rc is words =
 
 -- a core over which there is no session has no view
 pub unopened_viewed : (core : CoreImage) (r : Refusal) → IsUnopened core r → IsViewed core (Err r)
-unopened_viewed core r (inl refused) = inl refused
+unopened_viewed core r (inl refused) = inl (inl refused)
 unopened_viewed core r (inr failed) = inr (inl failed)
 
 pub code_of_words : (rc : Rc) → ComesOfWords (refusal_of_code rc)

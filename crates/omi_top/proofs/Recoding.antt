@@ -13,7 +13,8 @@ use Rattle.omi_corefile.specs.declared.fault.CoreError.TheVariants as error
 use Rattle.omi_corefile.proofs.Fronts.{front_core, front_enough}
 use Rattle.omi_top.specs.Answer.{Gives, IsAnswer, IsAnswered, IsEarly}
 use Rattle.omi_top.specs.Command.{Recode}
-use Rattle.omi_top.specs.Recode.{IsCopied, IsCoreRefusal, IsOfCoreFile, IsRecoded, recoded_line}
+use Rattle.omi_top.specs.Questions.{IsCoreRefusal}
+use Rattle.omi_top.specs.Recode.{IsCopied, IsOfCoreFile, IsRecoded, recoded_line}
 use Rattle.omi_top.specs.declared.limits.TheConstants.{CORE_FRONT}
 use Rattle.omi_verbs.specs.Refusal.{IsReadFault, IsUnread, refusal_of_core, refusal_of_write, status_of}
 use Rattle.omi_verbs.specs.Statuses.{IsOfCore}

@@ -18,7 +18,8 @@ use Rattle.omi_rep.specs.declared.fault.LookFault.{LookFault}
 use Rattle.omi_rep.specs.declared.fault.LookFault.TheVariants as look
 use Rattle.omi_top.specs.Answer.{IsShowRefusal}
 use Rattle.omi_top.specs.Cores.{IsDamaged, IsIncompatible, IsLooked, IsWrongTable, LacksTable, Spells, words_of_core}
-use Rattle.omi_top.specs.Shown.{refusal_of_layout, refusal_of_look, IsRefusedCore}
+use Rattle.omi_top.specs.Questions.{refusal_of_layout}
+use Rattle.omi_top.specs.Shown.{refusal_of_look, IsRefusedCore}
 use Rattle.omi_verbs.specs.Refusal.{status_of}
 use Rattle.omi_verbs.specs.declared.refusal.Input.TheVariants as input
 use Rattle.omi_verbs.specs.declared.refusal.Refusal.{Refusal}
@@ -96,7 +97,7 @@ look_status : (fault : LookFault) → status_of (refusal_of_look fault) ≡ stat
 look_status (look.Damaged addr field) = refl
 look_status (look.Cycle addr) = refl
 
-lacking_status : (e : LayoutError) → LacksTable e → status_of (refusal_of_layout e) ≡ status.Incompatible
+pub lacking_status : (e : LayoutError) → LacksTable e → status_of (refusal_of_layout e) ≡ status.Incompatible
 lacking_status error.NoSymbol lacks = refl
 lacking_status (error.Unmapped addr) lacks = absurd lacks
 lacking_status (error.Refused addr (Version v)) lacks = refl
@@ -104,7 +105,7 @@ lacking_status (error.Refused addr (Overlap f g)) lacks = absurd lacks
 lacking_status (error.Refused addr (OutOfRecord f)) lacks = absurd lacks
 lacking_status (error.Refused addr (BadArena p)) lacks = absurd lacks
 
-wrong_status : (e : LayoutError) → IsWrongTable e → status_of (refusal_of_layout e) ≡ status.Damaged
+pub wrong_status : (e : LayoutError) → IsWrongTable e → status_of (refusal_of_layout e) ≡ status.Damaged
 wrong_status error.NoSymbol wrong = absurd wrong
 wrong_status (error.Unmapped addr) wrong = refl
 wrong_status (error.Refused addr (Version v)) wrong = absurd wrong
@@ -112,7 +113,7 @@ wrong_status (error.Refused addr (Overlap f g)) wrong = refl
 wrong_status (error.Refused addr (OutOfRecord f)) wrong = refl
 wrong_status (error.Refused addr (BadArena p)) wrong = refl
 
-either_table : (e : LayoutError) → LacksTable e ⊎ IsWrongTable e
+pub either_table : (e : LayoutError) → LacksTable e ⊎ IsWrongTable e
 either_table error.NoSymbol = inl tt
 either_table (error.Unmapped addr) = inr tt
 either_table (error.Refused addr (Version v)) = inl tt

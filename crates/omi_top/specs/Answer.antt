@@ -21,14 +21,18 @@ use Rattle.omi_verbs.specs.declared.refusal.Input.{Input}
 use Rattle.omi_verbs.specs.declared.refusal.Input.TheVariants as input
 use Rattle.omi_verbs.specs.declared.refusal.Refusal.{Refusal}
 use Rattle.omi_verbs.specs.declared.refusal.Refusal.TheVariants as refusal
-use Rattle.omi_top.specs.Command.{Command, Stop, Make, Show, Run, Recode, Faulty, ReadsBack, ReadsFirst, WritesLast, core_name, script_name}
+use Rattle.omi_top.specs.Command.{Command, Stop, Make, Show, Run, Recode, Audit, Faulty, ReadsBack, ReadsFirst, WritesLast, core_name, script_name}
 use Rattle.omi_text.specs.Report.{report}
 use Rattle.omi_verbs.specs.Cores.{IsCoreOf, thread_ids}
+use Rattle.omi_audit.specs.declared.verdict.Verdict.{Verdict}
+use Rattle.omi_audit.specs.declared.verdict.Verdict.TheVariants.{Yes}
 use Rattle.omi_top.specs.Cores.{IsLooked, Spells}
+use Rattle.omi_top.specs.Questions.{IsCoreRefusal, IsLayoutRefusal}
 use Rattle.omi_top.specs.Shown.{IsRefusedCore}
+use Rattle.omi_top.specs.Audit.{IsAudited, audit_line}
 use Rattle.omi_top.specs.Lines.{run_text}
 use Rattle.omi_top.specs.Make.{IsMade, make_text}
-use Rattle.omi_top.specs.Recode.{IsCoreRefusal, IsRecoded, recoded_line}
+use Rattle.omi_top.specs.Recode.{IsRecoded, recoded_line}
 use Rattle.omi_verbs.specs.Refusal.{IsLate, refusal_line, status_of}
 use Rattle.omi_verbs.specs.Said.{IsSaid}
 use Rattle.omi_verbs.specs.Scripts.{IsScriptRefusal}
@@ -108,6 +112,23 @@ IsRecodeAnswer order (Some bytes) (Gives (Some copy) (Ok line)) =
     IsRecoded order bytes copy × (line ≡ recoded_line order)
 IsRecodeAnswer order content answer = ⊥
 
+-- why `audit` refuses, by the content of the core's file: there is none, its bytes are no core, or the core's words give no layout
+abbrev pub IsAuditRefusal : Option (List ℕ) → Refusal → Type 0
+IsAuditRefusal None r = IsCoreRefusal None r
+IsAuditRefusal (Some bytes) r =
+    IsCoreRefusal (Some bytes) r ⊎ Spells bytes (λ core. IsLayoutRefusal core r)
+
+-- the line on the verdict on the words of a file's core
+abbrev pub IsAuditOf : List ℕ → List ℕ → Type 0
+IsAuditOf bytes text =
+    (v : Verdict) × Spells bytes (λ core. IsAudited core v) × (text ≡ audit_line v)
+
+-- an answer of `audit`, by the content of the core's file: a refusal, or the line on the verdict
+abbrev pub IsAuditAnswer : Option (List ℕ) → Answer → Type 0
+IsAuditAnswer content (Gives None (Err r)) = IsAuditRefusal content r
+IsAuditAnswer (Some bytes) (Gives None (Ok text)) = IsAuditOf bytes text
+IsAuditAnswer content answer = ⊥
+
 -- the content of each file that a command reads is told
 abbrev pub AreTold : Command → (List ℕ → Told) → Type 0
 AreTold (Stop plan script core) told = (content : Option (List ℕ)) × (told script ≡ Some content)
@@ -116,6 +137,7 @@ AreTold (Show core) told = (content : Option (List ℕ)) × (told core ≡ Some 
 AreTold (Run plan script core) told = ((content : Option (List ℕ)) × (told script ≡ Some content))
     × ((content : Option (List ℕ)) × (told core ≡ Some content))
 AreTold (Recode order core copy) told = (content : Option (List ℕ)) × (told core ≡ Some content)
+AreTold (Audit core) told = (content : Option (List ℕ)) × (told core ≡ Some content)
 AreTold Faulty told = ⊤
 
 -- an answer of a command, by what is told of the files that it reads
@@ -129,6 +151,8 @@ IsAnswer (Run plan script core) told answer = (text : Option (List ℕ)) × (tol
     × (content : Option (List ℕ)) × (told core ≡ Some content) × IsRunAnswer plan text content answer
 IsAnswer (Recode order core copy) told answer = (content : Option (List ℕ))
     × (told core ≡ Some content) × IsRecodeAnswer order content answer
+IsAnswer (Audit core) told answer = (content : Option (List ℕ)) × (told core ≡ Some content)
+    × IsAuditAnswer content answer
 IsAnswer Faulty told answer = answer ≡ Gives None (Err refusal.Usage)
 
 -- a fault before anything is written, of a file that the command reads or of memory; one while its file is written; and one after that,
@@ -285,6 +309,15 @@ IsReported text status.ReadFault out after = ⊤
 IsReported text status.WriteFault out after = ⊤
 IsReported text status.OutOfMemory out after = ⊤
 IsReported text other out after = ⊥
+
+-- what `audit` makes of a core whose words show a state that events of a program reach: the verdict is Yes, unless a file or the output fails or
+-- memory runs out
+abbrev pub IsApproved : Status → Option (List ℕ) → Option (List ℕ) → Type 0
+IsApproved status.Success out after = (records : ℕ) × (after ≡ put_on out (audit_line (Yes records)))
+IsApproved status.ReadFault out after = ⊤
+IsApproved status.WriteFault out after = ⊤
+IsApproved status.OutOfMemory out after = ⊤
+IsApproved other out after = ⊥
 
 -- what `run` makes of a script where it reads back the core that it left: the lines of a run of its program and the report of the state
 -- that the run's events reach. The core is never refused

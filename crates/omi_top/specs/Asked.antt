@@ -2,7 +2,7 @@
 use Rattle.std.specs.Prelude.{◌≡◌, ◌≤◌, ℕ, List, IfSome, ⊤}
 use Rattle.omi_verbs.specs.declared.limits.TheConstants.{MOST_LAYOUT}
 use Rattle.omi_top.specs.declared.limits.TheConstants.{MOST_NODES}
-use Rattle.omi_top.specs.Command.{Command, Stop, Make, Show, Run, Recode, Faulty}
+use Rattle.omi_top.specs.Command.{Command, Stop, Make, Show, Run, Recode, Audit, Faulty}
 use Rattle.omi_top.specs.Make.{make_text}
 use Rattle.omi_top.specs.declared.plan.Plan.{Plan}
 use Rattle.omi_top.specs.declared.command.Request.{Request}
@@ -14,6 +14,7 @@ asked (request.Make n script) = Make n script.now
 asked (request.Show core) = Show core.now
 asked (request.Run plan script core) = Run plan script.now core.now
 asked (request.Recode order core copy) = Recode order core.now copy.now
+asked (request.Audit core) = Audit core.now
 asked request.Faulty = Faulty
 
 -- The layout is one of the families, and the event at which the run stops is the first of its kind or a later one
@@ -37,4 +38,5 @@ IsBounded (request.Make n script) = IsNodes n
 IsBounded (request.Show core) = ⊤
 IsBounded (request.Run plan script core) = IsPossible plan
 IsBounded (request.Recode order core copy) = order ≤ 1
+IsBounded (request.Audit core) = ⊤
 IsBounded request.Faulty = ⊤

@@ -20,6 +20,7 @@ pub data Command : Type 0 where
   Show : (core : List ℕ) → Command
   Run : (plan : Plan) (script core : List ℕ) → Command
   Recode : (order : ℕ) (core copy : List ℕ) → Command
+  Audit : (core : List ℕ) → Command
   Faulty : Command
 
 -- the line has an option
@@ -59,6 +60,11 @@ recode_by (order ∷ core ∷ copy ∷ []) line =
     else option_map_or (λ o. Recode o core copy) (number_between order 0 1) Faulty
 recode_by names line = Faulty
 
+-- `audit CORE`, without options
+abbrev pub audit_by : List (List ℕ) → Line → Command
+audit_by (core ∷ []) line = if has_option line then Faulty else Audit core
+audit_by names line = Faulty
+
 -- a verb and the names behind it
 abbrev pub verb_by : List (List ℕ) → Line → Command
 verb_by [] line = Faulty
@@ -67,7 +73,8 @@ verb_by (verb ∷ names) line =
     else (if bytes_eq verb (codes "make") then make_by names line
     else (if bytes_eq verb (codes "show") then show_by names line
     else (if bytes_eq verb (codes "run") then run_by names line
-    else (if bytes_eq verb (codes "recode") then recode_by names line else Faulty))))
+    else (if bytes_eq verb (codes "recode") then recode_by names line
+    else (if bytes_eq verb (codes "audit") then audit_by names line else Faulty)))))
 
 -- the command of a line, if words make one: its positional words are a verb and names
 abbrev pub command_by : Option Line → Command
@@ -88,6 +95,7 @@ ReadsFirst (Stop plan script core) input.Script = ⊤
 ReadsFirst (Show core) input.Core = ⊤
 ReadsFirst (Run plan script core) input.Script = ⊤
 ReadsFirst (Recode order core copy) input.Core = ⊤
+ReadsFirst (Audit core) input.Core = ⊤
 ReadsFirst command read = ⊥
 
 -- a command reads this after it wrote
@@ -100,11 +108,12 @@ abbrev pub WritesLast : Command → Type 0
 WritesLast (Run plan script core) = ⊥
 WritesLast command = ⊤
 
--- a command may refuse a core with this status: one that prints a report for any cause, and `recode` for its bytes alone
+-- a command may refuse a core with this status: one that looks at its words for any cause, and `recode` for its bytes alone
 abbrev pub RefusesCore : Command → Status → Type 0
 RefusesCore (Show core) s = ⊤
 RefusesCore (Run plan script core) s = ⊤
 RefusesCore (Recode order core copy) s = s ≡ status.Core
+RefusesCore (Audit core) s = ⊤
 RefusesCore command s = ⊥
 
 -- the names that a command gives to a script and to a core, which are empty where it gives none
@@ -114,6 +123,7 @@ script_name (Make n script) = script
 script_name (Show core) = []
 script_name (Run plan script core) = script
 script_name (Recode order core copy) = []
+script_name (Audit core) = []
 script_name Faulty = []
 
 abbrev pub core_name : Command → List ℕ
@@ -122,6 +132,7 @@ core_name (Make n script) = []
 core_name (Show core) = core
 core_name (Run plan script core) = core
 core_name (Recode order core copy) = core
+core_name (Audit core) = core
 core_name Faulty = []
 
 -- the name of the file that a command writes
@@ -131,6 +142,7 @@ written_name (Make n script) = script
 written_name (Show core) = []
 written_name (Run plan script core) = core
 written_name (Recode order core copy) = copy
+written_name (Audit core) = []
 written_name Faulty = []
 
 -- a command writes the file of this name
@@ -140,4 +152,5 @@ Writes (Make n script) name = name ≡ script
 Writes (Show core) name = ⊥
 Writes (Run plan script core) name = name ≡ core
 Writes (Recode order core copy) name = name ≡ copy
+Writes (Audit core) name = ⊥
 Writes Faulty name = ⊥

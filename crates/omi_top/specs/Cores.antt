@@ -53,10 +53,17 @@ IsWrongTable other = ⊤
 abbrev pub IsIncompatible : CoreImage → Type 0
 IsIncompatible core = (cause : LayoutError) × GivesNone (words_of_core core) cause × LacksTable cause
 
--- the layout table in the words of a core is wrong, or the look at them has a fault
+-- the layout table in the words of a core is wrong
+abbrev pub HasWrongTable : CoreImage → Type 0
+HasWrongTable core = (cause : LayoutError) × GivesNone (words_of_core core) cause × IsWrongTable cause
+
+-- this, or the look at them has a fault
 abbrev pub IsDamaged : CoreImage → Type 0
-IsDamaged core = ((cause : LayoutError) × GivesNone (words_of_core core) cause × IsWrongTable cause)
-    ⊎ ((fault : LookFault) × IsLooked core (Err fault))
+IsDamaged core = HasWrongTable core ⊎ ((fault : LookFault) × IsLooked core (Err fault))
+
+-- the words of a core give a layout
+abbrev pub HasLayout : CoreImage → Type 0
+HasLayout core = (w : List ℕ) × IsValid w × GivesLayout (words_of_core core) w
 
 -- a file is a core of which this holds
 abbrev pub Spells : List ℕ → (CoreImage → Type 0) → Type 0

@@ -6,7 +6,9 @@ pub mod Plan
 pub mod Command
 pub mod Answer
 pub mod Cores
+pub mod Questions
 pub mod Shown
+pub mod Audit
 pub mod Run
 pub mod Lines
 pub mod Make

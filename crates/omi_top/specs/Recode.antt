@@ -1,10 +1,8 @@
 -- What `recode` makes of a core, what it prints, and why it refuses.
 use Rattle.std.specs.Prelude.{◌≡◌, ℕ, List, [], ◌∷◌, ◌++◌, Option, Some, None, codes, ⊤}
 use Rattle.std.specs.Fmt.{decimal}
-use Rattle.omi_corefile.specs.Refusals.{CoreRefused}
 use Rattle.omi_corefile.specs.Spelling.{Core}
 use Rattle.omi_corefile.specs.declared.core_image.CoreImage.{CoreImage}
-use Rattle.omi_corefile.specs.declared.fault.CoreFault.{CoreFault}
 use Rattle.omi_verbs.specs.declared.refusal.Input.TheVariants as input
 use Rattle.omi_verbs.specs.declared.refusal.Refusal.{Refusal}
 use Rattle.omi_verbs.specs.declared.refusal.Refusal.TheVariants as refusal
@@ -18,12 +16,6 @@ pub record IsRecoded (order : ℕ) (bytes copy : List ℕ) : Type 0 where
   pub order_is : other.order ≡ order
   pub contexts_are : other.contexts ≡ core.contexts
   pub segments_are : other.segments ≡ core.segments
-
--- why a core's file is refused, by its content: there is none, or the grammar of core files refuses its bytes
-abbrev pub IsCoreRefusal : Option (List ℕ) → Refusal → Type 0
-IsCoreRefusal None r = r ≡ refusal.NoFile input.Core
-IsCoreRefusal (Some bytes) r =
-    (at : ℕ) × (why : CoreFault) × CoreRefused bytes at why × (r ≡ refusal.Core at why)
 
 -- the core's file holds a core, and this is the core in this order
 abbrev pub IsCopied : ℕ → Option (List ℕ) → List ℕ → Type 0

@@ -4,7 +4,7 @@ ghost use Rattle.std.specs.Prelude.{◌≡◌, IfSome};
 ghost use Rattle.std.specs.List.{All};
 ghost use Rattle.std.specs.Str.{IsUtf8};
 ghost use Rattle.omi_line.specs.Line.{IsText};
-ghost use Rattle.omi_top.specs.Command.{command_by, core_name, has_option, make_by, recode_by, run_by, script_name, show_by, stop_by, verb_by};
+ghost use Rattle.omi_top.specs.Command.{audit_by, command_by, core_name, has_option, make_by, recode_by, run_by, script_name, show_by, stop_by, verb_by};
 ghost use Rattle.omi_top.specs.Asked.{asked, IsBounded};
 
 use crate::limits::MOST_NODES;
@@ -36,6 +36,9 @@ pub enum Request<'a> {
         order: u8,
         core: &'a str,
         copy: &'a str,
+    },
+    Audit {
+        core: &'a str,
     },
     Faulty,
 }
@@ -131,6 +134,20 @@ fn recode_by<'a>(names: &'a [Text], line: &Line) -> Request<'a>
     }
 }
 
+/// What `audit` is asked for, by the names behind it.
+fn audit_by<'a>(names: &'a [Text], line: &Line) -> Request<'a>
+    requires { All IsUtf8 names.now }
+    ensures asked { asked result ≡ audit_by names.entry.now line.now }
+    ensures bounded { IsBounded result }
+{
+    match names {
+        [core] if !has_option(line) => Request::Audit {
+            core: text_of(core),
+        },
+        _ => Request::Faulty,
+    }
+}
+
 /// What a line asks for, by its verb: its first positional word.
 fn verb_by(line: &Line) -> Request<'_>
     requires { IsText line.now }
@@ -146,6 +163,7 @@ fn verb_by(line: &Line) -> Request<'_>
         "show" => show_by(names, line),
         "run" => run_by(names, line),
         "recode" => recode_by(names, line),
+        "audit" => audit_by(names, line),
         _ => Request::Faulty,
     }
 }
@@ -172,7 +190,9 @@ pub fn names_of(request: Request<'_>) -> Names<'_>
             Names { script, core }
         }
         Request::Make { script, .. } => Names { script, core: "" },
-        Request::Show { core } | Request::Recode { core, .. } => Names { script: "", core },
+        Request::Show { core } | Request::Recode { core, .. } | Request::Audit { core } => {
+            Names { script: "", core }
+        }
         Request::Faulty => Names {
             script: "",
             core: "",

@@ -1,12 +1,15 @@
 //! All that the program `ompdi` does: a command line, files to read, files to write, and where to print.
 #![tactic(auto)]
 
+mod audit;
 mod command;
 mod laws;
 mod limits;
 mod lines;
 mod make;
+mod opened;
 mod plan;
+mod question;
 mod recode;
 mod run;
 mod run_and_show;

@@ -8,20 +8,22 @@ ghost use Rattle.omi_corefile.specs.declared.fault.CoreFault.{CoreFault};
 ghost use Rattle.omi_script.specs.Grammar.{Grammar, Refused as RefusedScript};
 ghost use Rattle.omi_script.specs.declared.fault.ScriptFault.{ScriptFault};
 ghost use Rattle.omi_script.specs.declared.program.Program.{Program};
-ghost use Rattle.omi_top.specs.Command.{Stop, Make, Show, Run, Recode, Faulty, RefusesCore, command_in, core_name, script_name, written_name, Writes};
+ghost use Rattle.omi_top.specs.Command.{Stop, Make, Show, Run, Recode, Audit, Faulty, RefusesCore, command_in, core_name, script_name, written_name, Writes};
 ghost use Rattle.omi_top.specs.declared.plan.Plan.{Plan};
 ghost use Rattle.omi_top.specs.Asked.{asked, IsBounded};
 ghost use Rattle.omi_top.specs.Causes.{Concluded, Performed};
 ghost use Rattle.omi_verbs.specs.Seen.{files_seen, output_seen};
 ghost use Rattle.omi_verbs.specs.Refusal.{HasRoom, status_of};
-ghost use Rattle.omi_top.specs.Answer.{AreTold, IsStopped, IsLeft, IsUnwritten, ComesBehind, IsDoneOrFailed, IsReadBackStatus, IsReported, IsReportOf, IsRunShown, IsShown, IsWritingStatus};
+ghost use Rattle.omi_top.specs.Answer.{AreTold, IsApproved, IsStopped, IsLeft, IsUnwritten, ComesBehind, IsDoneOrFailed, IsReadBackStatus, IsReported, IsReportOf, IsRunShown, IsShown, IsWritingStatus};
 ghost use Rattle.omi_top.specs.Promise.{IsPromised};
 ghost use Rattle.omi_verbs.specs.Said.{IsSaid, IsCounted};
 ghost use Rattle.omi_verbs.specs.Statuses.{ComesWhere, IsOfCore};
 ghost use Rattle.omi_verbs.specs.Scripts.{HoldsProgram};
 ghost use Rattle.omi_top.specs.Make.{IsMade, make_text};
 ghost use Rattle.omi_top.specs.Recode.{IsRecoded, recoded_line};
-ghost use Rattle.omi_top.specs.Cores.{IsDamaged, IsIncompatible, IsLooked, ShowsState, Spells};
+ghost use Rattle.omi_audit.specs.declared.verdict.Verdict.{Verdict};
+ghost use Rattle.omi_top.specs.Audit.{IsAudited, ShowsWhereYes, audit_line};
+ghost use Rattle.omi_top.specs.Cores.{HasLayout, HasWrongTable, IsDamaged, IsIncompatible, IsLooked, ShowsState, Spells};
 ghost use Rattle.omi_verbs.specs.Cores.{IsReachedCore, thread_ids};
 ghost use Rattle.omi_corefile.specs.Spelling.{Core};
 ghost use Rattle.omi_corefile.specs.declared.core_image.CoreImage.{CoreImage};
@@ -30,6 +32,7 @@ ghost use Rattle.omi_model.specs.Views.{IsViewOf};
 ghost use Rattle.omi_model.specs.declared.view.View.{View};
 ghost use Rattle.omi_text.specs.Report.{report as report_of};
 
+use crate::audit::audit;
 use crate::command::{Request, names_of, request_of};
 use crate::make::make;
 use crate::recode::recode;
@@ -66,6 +69,7 @@ fn perform<F: Files, W: Files>(
             run_and_show(alloc, plan, script, core, files, dest)
         }
         Request::Recode { order, core, copy } => recode(alloc, order, core, copy, files, dest),
+        Request::Audit { core } => audit(alloc, core, files),
         Request::Faulty => Err(Refusal::Usage),
     }
 }
@@ -133,7 +137,8 @@ fn carry_out<F: Files, W: Files, K: Sink>(
 /// say which threads make the steps, at which event they stop and in which layout; `make N SCRIPT`
 /// writes a workload, runs it and prints how many tasks started; `show CORE` prints the report of a
 /// core; `run STEPS SCRIPT CORE` does what `stop` does, reads CORE back and prints its report as well;
-/// `recode ORDER CORE CORE2` writes a core anew, with the bytes of each word in the order 0 or 1.
+/// `recode ORDER CORE CORE2` writes a core anew, with the bytes of each word in the order 0 or 1;
+/// `audit CORE` prints whether a core's words show a well-formed state, or the first failure.
 /// It reads from `files` alone, writes to `dest` alone and prints to `out`.
 pub fn run_top<F: Files, W: Files, K: Sink>(
     alloc: Global,
@@ -270,6 +275,37 @@ pub fn run_top<F: Files, W: Files, K: Sink>(
         → command_in words.now ≡ Show core → F.told files.old core ≡ Some (Some bytes)
         → (order : ℕ) (other text : List ℕ) → IsRecoded order other bytes → IsReportOf other text
         → IsReported text result (K.told out.old) (K.told out.new) }
+
+    // With success of `audit` what is put is the line on the verdict on the core's words. Yes is that
+    // they show a state. Whatever the words are, a core that gives a layout has a verdict.
+    ensures audited { (core bytes : List ℕ)
+        → command_in words.now ≡ Audit core → F.told files.old core ≡ Some (Some bytes)
+        → result ≡ Status.Success
+        → (image : CoreImage) × (v : Verdict) × Core bytes image × IsAudited image v
+        × (K.told out.new ≡ put_on (K.told out.old) (audit_line v)) × ShowsWhereYes image v }
+    ensures audits { (core bytes : List ℕ)
+        → command_in words.now ≡ Audit core → F.told files.old core ≡ Some (Some bytes)
+        → Spells bytes HasLayout → IsDoneOrFailed result }
+
+    // Where a core's words show a state that events of a program reach, the verdict is Yes.
+    ensures audit_reached { (core bytes : List ℕ)
+        → command_in words.now ≡ Audit core → F.told files.old core ≡ Some (Some bytes)
+        → (p : Program) (ids : List ℕ) (s : State) → IsReachedCore p ids bytes s
+        → IsApproved result (K.told out.old) (K.told out.new) }
+
+    // It refuses a file as `show` does, and of the words the layout table alone.
+    ensures audit_no_core { (core : List ℕ) (content : Option (List ℕ))
+        → command_in words.now ≡ Audit core → F.told files.old core ≡ Some content
+        → ComesWhere Status.NoFile result (content ≡ None) }
+    ensures audit_core { (core bytes : List ℕ)
+        → command_in words.now ≡ Audit core → F.told files.old core ≡ Some (Some bytes)
+        → ComesWhere Status.Core result ((at : ℕ) × (why : CoreFault) × CoreRefused bytes at why) }
+    ensures audit_incompatible { (core bytes : List ℕ)
+        → command_in words.now ≡ Audit core → F.told files.old core ≡ Some (Some bytes)
+        → ComesWhere Status.Incompatible result (Spells bytes IsIncompatible) }
+    ensures audit_damaged { (core bytes : List ℕ)
+        → command_in words.now ≡ Audit core → F.told files.old core ≡ Some (Some bytes)
+        → ComesWhere Status.Damaged result (Spells bytes HasWrongTable) }
 
     // With `run` the core is written as with `stop`, and then the bytes under CORE in `files` are
     // read and judged as with `show`. The script is judged first.

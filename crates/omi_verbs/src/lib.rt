@@ -25,6 +25,6 @@ pub use program::{handed_over, words_of};
 pub use put::{print, refuse, refuse_words};
 pub use reading::load;
 pub use refusal::{Input, Refusal};
-pub use refusal_line::room_for;
+pub use refusal_line::{field_text, room_for};
 pub use script::program_of;
 pub use words::{line_in, text_of};

@@ -82,7 +82,7 @@ fn push_digits(room: &mut String, number: u64, most: u8)
 }
 
 /// The name of a field, `layout` for 0, and no text where no field has the number.
-fn name_of(field: u8) -> &'static str
+pub fn field_text(field: u8) -> &'static str
     ensures name { result.now ≡ field_text field }
     ensures short { length result.now ≤ 32 }
 {
@@ -100,7 +100,7 @@ fn push_damaged(room: &mut String, addr: u64, field: u8)
 {
     push_all(room, &["damaged ", "0x"]);
     push_digits(room, addr, 16);
-    push_all(room, &[" ", name_of(field), "\n"]);
+    push_all(room, &[" ", field_text(field), "\n"]);
 }
 
 /// Adds the line on a byte address that a chain meets a second time.

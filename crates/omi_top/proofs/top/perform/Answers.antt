@@ -51,6 +51,17 @@ returns-in-Recode-clause-performed g c = rw c.in-Recode.is c.recode.ensures.perf
 pub returns-in-Recode-clause-of_core : goal.returns-in-Recode-clause-of_core
 returns-in-Recode-clause-of_core g c = rw c.in-Recode.is c.recode.ensures.of_core
 
+pub returns-in-Audit-clause-performed : goal.returns-in-Audit-clause-performed
+returns-in-Audit-clause-performed g c =
+    rw c.in-Audit.is
+    (record {
+      answer = λ told. c.audit.ensures.answer (g.W.Files.told c.args.dest.now []) told;
+      read = c.audit.ensures.read;
+      write = record { later = omega arith; failed = λ is. absurd (c.audit.ensures.write is) };
+      unwritten = same_told _ _ c.audit.result;
+      stays = record { files_told = c.audit.ensures.files_told; files_writes = c.audit.ensures.files_writes; dest_reads = refl; others = λ other not. refl };
+    })
+
 pub returns-in-Faulty-clause-performed : goal.returns-in-Faulty-clause-performed
 returns-in-Faulty-clause-performed g c =
     rw c.in-Faulty.is
@@ -62,7 +73,7 @@ returns-in-Faulty-clause-performed g c =
       stays = record { files_told = refl; files_writes = refl; dest_reads = refl; others = λ other not. refl };
     })
 
--- whatever the result is, the command prints a report
+-- whatever the result is, the command looks at the core's words
 by_show : {C : Type 0} (r : Result (Vec ℕ) Refusal) → ((x : Refusal) → IsOfCore (status_of x) → C)
     → IfErr r (λ x. IsOfCore (status_of x) → C)
 by_show (Ok text) one = tt
@@ -70,6 +81,9 @@ by_show (Err x) one = one x
 
 pub returns-in-Show-clause-of_core : goal.returns-in-Show-clause-of_core
 returns-in-Show-clause-of_core g c = rw c.in-Show.is (by_show c.show.result (λ x of_core. tt))
+
+pub returns-in-Audit-clause-of_core : goal.returns-in-Audit-clause-of_core
+returns-in-Audit-clause-of_core g c = rw c.in-Audit.is (by_show c.audit.result (λ x of_core. tt))
 
 pub returns-in-Run-clause-of_core : goal.returns-in-Run-clause-of_core
 returns-in-Run-clause-of_core g c = rw c.in-Run.is (by_show c.run_and_show.result (λ x of_core. tt))

@@ -6,12 +6,13 @@ use Rattle.omi_verbs.specs.Statuses.{IsOfCore}
 use Rattle.omi_top.specs.Asked.{asked}
 use Rattle.omi_top.specs.Answer.{AreTold, IsLeft, IsUnwritten}
 use Rattle.omi_verbs.specs.Said.{IsCounted}
-use Rattle.omi_top.specs.Command.{Command, Stop, Make, Show, Run, Recode, Faulty, RefusesCore, Writes, command_by, command_in, written_name}
+use Rattle.omi_top.specs.Command.{Command, Stop, Make, Show, Run, Recode, Audit, Faulty, RefusesCore, Writes, command_by, command_in, written_name}
 use Rattle.omi_top.proofs.Left.{left_by}
 use Rattle.omi_top.proofs.LeftByShow.{no_file as no_core, core_refused, incompatible, damaged, put_report as put_shown, report_put, shown, shows, shown_again, shown_reached}
 use Rattle.omi_top.proofs.LeftByRun.{core_refused as run_core_refused, damaged as run_damaged, incompatible as run_incompatible, no_file as run_no_file, put_report, runs, script_refused as run_script_refused, shown as run_shown, wrote}
 use Rattle.omi_top.proofs.LeftByMake.{success as made, writing}
 use Rattle.omi_top.proofs.LeftByRecode.{core_refused as recode_core_refused, no_file as recode_no_file, recodes, success as recoded}
+use Rattle.omi_top.proofs.LeftByAudit.{approved, audits, core_refused as audit_core_refused, damaged as audit_damaged, incompatible as audit_incompatible, judged, no_file as audit_no_file}
 use Rattle.omi_top.proofs.Recoded.{copy_reported}
 use Rattle.omi_top.proofs.LeftByStop.{no_file, script_refused, stops, success}
 use Rattle.omi_top.proofs.Promised.{promised}
@@ -79,6 +80,10 @@ of_recode : (g : given.Over) (c : Joined-line g) (order : ℕ) (core copy : List
     → Leaves g c (Recode order core copy)
 of_recode g c order core copy content command told =
     left_of g c (Recode order core copy) (asked_is g c ∙ command) (content, told)
+
+of_audit : (g : given.Over) (c : Joined-line g) (core : List ℕ) (content : Option (List ℕ))
+    → command_in c.args.words.now ≡ Audit core → files g c core ≡ Some content → Leaves g c (Audit core)
+of_audit g c core content command told = left_of g c (Audit core) (asked_is g c ∙ command) (content, told)
 
 -- ---- the clauses
 
@@ -159,6 +164,41 @@ pub returns-in-Ok-clause-shown_reached : goal.returns-in-Ok-clause-shown_reached
 returns-in-Ok-clause-shown_reached g c core bytes command told p ids s reached =
     shown_reached core (files g c) _ _ _ _ _ _ bytes told p ids s reached
     (of_show g c core (Some bytes) command told)
+
+pub returns-in-Ok-clause-audited : goal.returns-in-Ok-clause-audited
+returns-in-Ok-clause-audited g c core bytes command told done =
+    judged core (files g c) _ _ _ _ _ _ bytes told done
+    (of_audit g c core (Some bytes) command told)
+
+pub returns-in-Ok-clause-audits : goal.returns-in-Ok-clause-audits
+returns-in-Ok-clause-audits g c core bytes command told gives =
+    audits core (files g c) _ _ _ _ _ _ bytes told gives
+    (of_audit g c core (Some bytes) command told)
+
+pub returns-in-Ok-clause-audit_reached : goal.returns-in-Ok-clause-audit_reached
+returns-in-Ok-clause-audit_reached g c core bytes command told p ids s reached =
+    approved core (files g c) _ _ _ _ _ bytes told p ids s reached _
+    (of_audit g c core (Some bytes) command told)
+
+pub returns-in-Ok-clause-audit_no_core : goal.returns-in-Ok-clause-audit_no_core
+returns-in-Ok-clause-audit_no_core g c core content command told =
+    audit_no_file core (files g c) _ _ _ _ _ _ content told
+    (of_audit g c core content command told)
+
+pub returns-in-Ok-clause-audit_core : goal.returns-in-Ok-clause-audit_core
+returns-in-Ok-clause-audit_core g c core bytes command told =
+    audit_core_refused core (files g c) _ _ _ _ _ _ bytes told
+    (of_audit g c core (Some bytes) command told)
+
+pub returns-in-Ok-clause-audit_incompatible : goal.returns-in-Ok-clause-audit_incompatible
+returns-in-Ok-clause-audit_incompatible g c core bytes command told =
+    audit_incompatible core (files g c) _ _ _ _ _ _ bytes told
+    (of_audit g c core (Some bytes) command told)
+
+pub returns-in-Ok-clause-audit_damaged : goal.returns-in-Ok-clause-audit_damaged
+returns-in-Ok-clause-audit_damaged g c core bytes command told =
+    audit_damaged core (files g c) _ _ _ _ _ _ bytes told
+    (of_audit g c core (Some bytes) command told)
 
 pub returns-in-Ok-clause-recoded : goal.returns-in-Ok-clause-recoded
 returns-in-Ok-clause-recoded g c order core copy bytes command told done =

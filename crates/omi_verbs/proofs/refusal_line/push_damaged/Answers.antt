@@ -15,7 +15,7 @@ returns c =
     c.push_digits.ensures.added ∙ ap (λ (xs : List ℕ). xs ++ digits) first in
     let third : string_bytes c.push_all-2.new.room ≡ ((old ++ front) ++ digits) ++ tail =
     c.push_all-2.ensures.added
-    ∙ ap (λ (xs : List ℕ). string_bytes c.push_digits.new.room ++ 32 ∷ (xs ++ 10 ∷ [])) c.name_of.ensures.name
+    ∙ ap (λ (xs : List ℕ). string_bytes c.push_digits.new.room ++ 32 ∷ (xs ++ 10 ∷ [])) c.field_text.ensures.name
     ∙ ap (λ (xs : List ℕ). xs ++ tail) second in
     third
     ∙ append_assoc (old ++ front) digits tail

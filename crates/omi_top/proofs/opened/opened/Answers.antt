@@ -4,7 +4,7 @@ use Rattle.omi_calls.specs.Memory.{told_by}
 use Rattle.omi_calls.specs.Told.{Told}
 use Rattle.omi_top.proofs.Opening.{open_refused, tells_core}
 use Rattle.omi_top.specs.Cores.{words_of_core}
-use Rattle.omi_top.proofs.show.opened.Goals as goal
+use Rattle.omi_top.proofs.opened.opened.Goals as goal
 
 pub returns-in-Ok-process_initialize-clause-layout : goal.returns-in-Ok-process_initialize-clause-layout
 returns-in-Ok-process_initialize-clause-layout g c = λ core is.

@@ -1,8 +1,8 @@
-use Rattle.omi_top.proofs.show.show.Given as goal
+use Rattle.omi_top.proofs.question.ask_file.Given as goal
 
 -- the files that are lent, as they are then
-abbrev pub ghosts-view_of : goal.ghosts-view_of
-ghosts-view_of g a = record {
+abbrev pub ghosts-ask_pages : goal.ghosts-ask_pages
+ghosts-ask_pages g a = record {
   lending = record {
     reference = a.pages.files.ghost_name;
     told = g.F.Files.told a.pages.files.now;

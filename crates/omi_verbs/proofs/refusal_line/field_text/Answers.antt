@@ -1,6 +1,6 @@
 use Rattle.std.proofs.Common.{ℕ, List, length, ◌≤◌, sym, subst, arith}
 use Rattle.omi_verbs.proofs.FieldNames.{no_name, short}
-use Rattle.omi_verbs.proofs.refusal_line.name_of.Goals as goal
+use Rattle.omi_verbs.proofs.refusal_line.field_text.Goals as goal
 
 pub returns-then-field-le-FIELDS-clause-short : goal.returns-then-field-le-FIELDS-clause-short
 returns-then-field-le-FIELDS-clause-short c =

@@ -1,0 +1,118 @@
+-- The exits of a question that is asked of the core in a file: what each result is an answer to.
+use Rattle.std.proofs.Common.{◌≡◌, inl, inr, ℕ, List, Option, Some, None, Ok, Err, refl, subst, ◌∙◌}
+use Rattle.std.specs.Prelude.{Result}
+use Rattle.omi_outside.specs.Outside.{Told}
+use Rattle.omi_calls.specs.Memory.{told_by}
+use Rattle.omi_corefile.specs.Outcomes.{IsCore}
+use Rattle.omi_corefile.specs.Spelling.{Core}
+use Rattle.omi_corefile.specs.declared.core_image.CoreImage.{CoreImage}
+use Rattle.omi_outside.specs.declared.status.Status.TheVariants as status
+use Rattle.omi_page.proofs.OpenedFiles.{tells_core}
+use Rattle.omi_page.specs.Outcomes.{IsFaultOf, UnlessFreeError}
+use Rattle.omi_page.specs.Told.{told_by_file}
+use Rattle.omi_page.specs.declared.fault.PageError.{PageError}
+use Rattle.omi_page.specs.declared.fault.PageError.TheVariants as page
+use Rattle.omi_top.specs.Questions.{ComesOfFile, ComesOfWords, IsAnswerOf, refusal_of_page}
+use Rattle.omi_verbs.specs.Refusal.{IsReadFault, status_of}
+use Rattle.omi_verbs.specs.declared.refusal.Input.TheVariants as input
+use Rattle.omi_verbs.specs.declared.refusal.Refusal.{Refusal}
+use Rattle.omi_verbs.specs.declared.refusal.Refusal.TheVariants as refusal
+
+-- ---- what comes of a file
+
+pub page_of_file : (e : PageError) → ComesOfFile (refusal_of_page e)
+page_of_file (page.Fault at why) = tt
+page_of_file page.NoFile = tt
+page_of_file page.Failed = inl refl
+page_of_file page.OutOfMemory = inr refl
+
+pub words_of_file : (r : Refusal) → ComesOfWords r → ComesOfFile r
+words_of_file refusal.Incompatible comes = comes
+words_of_file (refusal.Damaged addr field) comes = comes
+words_of_file (refusal.Cycle addr) comes = comes
+words_of_file (refusal.Script fault) comes = comes
+words_of_file refusal.Usage comes = comes
+words_of_file (refusal.NoFile input.Script) comes = comes
+words_of_file (refusal.NoFile input.Core) comes = tt
+words_of_file (refusal.ReadFault read) comes = comes
+words_of_file refusal.WriteFault comes = comes
+words_of_file (refusal.Core at why) comes = tt
+words_of_file refusal.OutOfMemory comes = comes
+
+-- only a read that failed is a read fault
+pub page_failed : (e : PageError) → IsReadFault (refusal_of_page e) → e ≡ page.Failed
+page_failed (page.Fault at why) read = absurd read
+page_failed page.NoFile read = absurd read
+page_failed page.Failed read = refl
+page_failed page.OutOfMemory read = absurd read
+
+-- neither the words of the command line nor a script is refused, and nothing is written
+pub record IsOfCommand (r : Refusal) : Type 0 where
+  pub no_usage : r ≡ refusal.Usage → ⊥
+  pub no_write : r ≡ refusal.WriteFault → ⊥
+  pub no_script : status_of r ≡ status.Script → ⊥
+
+pub file_of_command : (r : Refusal) → ComesOfFile r → IsOfCommand r
+file_of_command r comes = record { no_usage = usage r comes; no_write = write r comes; no_script = script r comes }
+  where
+    usage : (r : Refusal) → ComesOfFile r → r ≡ refusal.Usage → ⊥
+    usage r comes is =
+        let P : Refusal → Type 0 = ComesOfFile in elim (subst P is comes) [ inl e ↦ cc e | inr e ↦ cc e ]
+
+    write : (r : Refusal) → ComesOfFile r → r ≡ refusal.WriteFault → ⊥
+    write r comes is =
+        let P : Refusal → Type 0 = ComesOfFile in elim (subst P is comes) [ inl e ↦ cc e | inr e ↦ cc e ]
+
+    script : (r : Refusal) → ComesOfFile r → status_of r ≡ status.Script → ⊥
+    script refusal.Incompatible comes is = cc is
+    script (refusal.Damaged addr field) comes is = cc is
+    script (refusal.Cycle addr) comes is = cc is
+    script (refusal.Script fault) comes is = elim comes [ inl e ↦ cc e | inr e ↦ cc e ]
+    script refusal.Usage comes is = cc is
+    script (refusal.NoFile read) comes is = cc is
+    script (refusal.ReadFault read) comes is = cc is
+    script refusal.WriteFault comes is = cc is
+    script (refusal.Core at why) comes is = cc is
+    script refusal.OutOfMemory comes is = cc is
+
+-- ---- the answers
+
+-- an error is that there is no file
+abbrev pub IsNoFile : (X : Type 0) → PageError → Type 0
+IsNoFile X e =
+    let error : Result X PageError = Err e in let none : Result X PageError = Err page.NoFile in error ≡ none
+
+module _ {A : Type 0} (answers : CoreImage → Result A Refusal → Type 0) where
+  -- the file isn't opened
+  pub unopened_answer : (X : Type 0) (told : Told) (content : Option (List ℕ)) (e : PageError)
+      → told ≡ Some content
+      → (told ≡ Some None → UnlessFreeError e (IsNoFile X e)) → ((bytes : List ℕ) → told ≡ Some (Some bytes) → IsFaultOf bytes e) → IsAnswerOf answers content (Err (refusal_of_page e))
+  unopened_answer X told (Some bytes) (page.Fault at why) is missing fault =
+      inl (at, why, fault bytes is, refl)
+  unopened_answer X told (Some bytes) page.NoFile is missing fault = absurd (fault bytes is)
+  unopened_answer X told (Some bytes) page.Failed is missing fault = inr (inl (inl refl))
+  unopened_answer X told (Some bytes) page.OutOfMemory is missing fault = inr (inl (inr refl))
+  unopened_answer X told None (page.Fault at why) is missing fault = let never = missing is in absurd cc
+  unopened_answer X told None page.NoFile is missing fault = inl refl
+  unopened_answer X told None page.Failed is missing fault = inr (inl refl)
+  unopened_answer X told None page.OutOfMemory is missing fault = inr (inr refl)
+
+  -- it is opened, and memory runs out
+  pub stopped_answer : (content : Option (List ℕ)) → IsAnswerOf answers content (Err refusal.OutOfMemory)
+  stopped_answer None = inr (inr refl)
+  stopped_answer (Some bytes) = inr (inl (inr refl))
+
+  -- it is opened, so it is a core, and its pages tell what the core tells
+  pub opened_answer : (told pages : Told) (content : Option (List ℕ)) (contexts : List ℕ) (result : Result A Refusal)
+      → told ≡ Some content → pages ≡ told
+      → (told ≡ Some None → ⊥) → ((bytes : List ℕ) → told ≡ Some (Some bytes) → IsCore bytes)
+      →
+      ((bytes : List ℕ) (core : CoreImage) → told ≡ Some (Some bytes) → Core bytes core → contexts ≡ core.contexts)
+      → ((core : CoreImage) → told_by_file pages ≡ told_by core → contexts ≡ core.contexts → answers core result) → IsAnswerOf answers content result
+  opened_answer told pages None contexts result is same there cores ids answered = absurd (there is)
+  opened_answer told pages (Some bytes) contexts (Ok a) is same there cores ids answered =
+      let (core, spelled) = cores bytes is in
+      (core, spelled, answered core (tells_core pages bytes core (same ∙ is) spelled) (ids bytes core is spelled))
+  opened_answer told pages (Some bytes) contexts (Err r) is same there cores ids answered =
+      let (core, spelled) = cores bytes is in
+      inr (inr (core, spelled, answered core (tells_core pages bytes core (same ∙ is) spelled) (ids bytes core is spelled)))

@@ -1,0 +1,82 @@
+-- What a command is answered that asks something of the core in a file, and why it gets no answer.
+use Rattle.std.specs.Prelude.{◌≡◌, ◌⊎◌, ℕ, List, Option, Some, None, Result, Ok, Err, ⊤}
+use Rattle.omi_corefile.specs.Refusals.{CoreRefused}
+use Rattle.omi_corefile.specs.declared.core_image.CoreImage.{CoreImage}
+use Rattle.omi_corefile.specs.declared.fault.CoreFault.{CoreFault}
+use Rattle.omi_layout.specs.NoLayout.{GivesNone}
+use Rattle.omi_layout.specs.declared.fault.LayoutFault.TheVariants.{Version}
+use Rattle.omi_layout.specs.declared.reading.LayoutError.{LayoutError}
+use Rattle.omi_layout.specs.declared.reading.LayoutError.TheVariants as layout
+use Rattle.omi_page.specs.declared.fault.PageError.{PageError}
+use Rattle.omi_page.specs.declared.fault.PageError.TheVariants as page
+use Rattle.omi_session.specs.declared.rc.Rc.{Rc}
+use Rattle.omi_session.specs.declared.rc.Rc.TheVariants as code
+use Rattle.omi_top.specs.Cores.{Spells, words_of_core}
+use Rattle.omi_verbs.specs.Refusal.{IsUnread}
+use Rattle.omi_verbs.specs.declared.refusal.Input.TheVariants as input
+use Rattle.omi_verbs.specs.declared.refusal.Refusal.{Refusal}
+use Rattle.omi_verbs.specs.declared.refusal.Refusal.TheVariants as refusal
+
+-- ---- what an error is handed on as. A callback that fails is a read that failed
+
+-- the error of opening a core's file
+abbrev pub refusal_of_page : PageError → Refusal
+refusal_of_page (page.Fault at why) = refusal.Core at why
+refusal_of_page page.NoFile = refusal.NoFile input.Core
+refusal_of_page page.Failed = refusal.ReadFault input.Core
+refusal_of_page page.OutOfMemory = refusal.OutOfMemory
+
+-- that of the layout in a core's words
+abbrev pub refusal_of_layout : LayoutError → Refusal
+refusal_of_layout layout.NoSymbol = refusal.Incompatible
+refusal_of_layout (layout.Unmapped addr) = refusal.Damaged addr 0
+refusal_of_layout (layout.Refused addr (Version v)) = refusal.Incompatible
+refusal_of_layout (layout.Refused addr other) = refusal.Damaged addr 0
+
+-- and the code of a session that doesn't open
+abbrev pub refusal_of_code : Rc → Refusal
+refusal_of_code code.Incompatible = refusal.Incompatible
+refusal_of_code (code.Error addr field) = refusal.Damaged addr field
+refusal_of_code other = refusal.ReadFault input.Core
+
+-- ---- why there is no answer
+
+-- there is no file, or the grammar of core files refuses its bytes
+abbrev pub IsCoreRefusal : Option (List ℕ) → Refusal → Type 0
+IsCoreRefusal None r = r ≡ refusal.NoFile input.Core
+IsCoreRefusal (Some bytes) r =
+    (at : ℕ) × (why : CoreFault) × CoreRefused bytes at why × (r ≡ refusal.Core at why)
+
+-- a core's words give no layout
+abbrev pub IsLayoutRefusal : CoreImage → Refusal → Type 0
+IsLayoutRefusal core r =
+    (cause : LayoutError) × GivesNone (words_of_core core) cause × (r ≡ refusal_of_layout cause)
+
+-- there is no session over the core's words, and this is why: they give no layout, or a read failed
+abbrev pub IsUnopened : CoreImage → Refusal → Type 0
+IsUnopened core r = IsLayoutRefusal core r ⊎ (r ≡ refusal.ReadFault input.Core)
+
+-- a refusal of words that are read one at a time
+abbrev pub ComesOfWords : Refusal → Type 0
+ComesOfWords refusal.Incompatible = ⊤
+ComesOfWords (refusal.Damaged addr field) = ⊤
+ComesOfWords (refusal.Cycle addr) = ⊤
+ComesOfWords r = IsUnread input.Core r
+
+-- a refusal of a file, or of the words of the core in it
+abbrev pub ComesOfFile : Refusal → Type 0
+ComesOfFile (refusal.NoFile input.Core) = ⊤
+ComesOfFile (refusal.Core at why) = ⊤
+ComesOfFile r = ComesOfWords r
+
+-- ---- an answer
+
+-- What is answered by the content of a file, where `answers` says what is of a core: it holds a core, and this is answered of it; or it is refused.
+abbrev pub IsAnswerOf : {A : Type 0} → (CoreImage → Result A Refusal → Type 0) → Option (List ℕ)
+    → Result A Refusal → Type 0
+IsAnswerOf answers None (Ok a) = ⊥
+IsAnswerOf answers (Some bytes) (Ok a) = Spells bytes (λ core. answers core (Ok a))
+IsAnswerOf answers None (Err r) = IsCoreRefusal None r ⊎ IsUnread input.Core r
+IsAnswerOf answers (Some bytes) (Err r) =
+    IsCoreRefusal (Some bytes) r
+    ⊎ (IsUnread input.Core r ⊎ Spells bytes (λ core. answers core (Err r)))

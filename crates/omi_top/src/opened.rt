@@ -1,0 +1,67 @@
+//! A session over the words of a core.
+
+ghost use Rattle.std.specs.Prelude.{◌≡◌, ◌≤◌, IfOk, IfErr, MatchResult};
+ghost use Rattle.omi_calls.specs.Kept.{GivesNumbers, IsOrderOf, TakesAll};
+ghost use Rattle.omi_calls.specs.Memory.{told_by};
+ghost use Rattle.omi_corefile.specs.declared.core_image.CoreImage.{CoreImage};
+ghost use Rattle.omi_layout.specs.Given.{GivesLayout};
+ghost use Rattle.omi_layout.specs.Valid.{IsValid};
+ghost use Rattle.omi_outside.specs.Outside.{HasCause};
+ghost use Rattle.omi_session.specs.Opened.{IsFresh};
+ghost use Rattle.omi_top.specs.Cores.{words_of_core};
+ghost use Rattle.omi_top.specs.Questions.{ComesOfWords, IsUnopened, refusal_of_code};
+ghost use Rattle.omi_verbs.specs.Refusal.{IsReadFault};
+
+use omi_calls::{Callbacks, Table, ToHost};
+use omi_session::{API_VERSION, Rc, Session, initialize};
+use omi_verbs::{Input, Refusal};
+use std::alloc::Global;
+
+/// What the code of a session that doesn't open is handed on as: a callback that fails is a read that failed.
+fn refusal_of_code(rc: Rc) -> Refusal
+    ensures { result ≡ refusal_of_code rc }
+{
+    match rc {
+        Rc::Incompatible => Refusal::Incompatible,
+        Rc::Error { addr, field } => Refusal::Damaged { addr, field },
+        _ => Refusal::ReadFault(Input::Core),
+    }
+}
+
+/// The layout in a session is one that a type keeps, so it is valid.
+pub fn has_valid_layout<C: Callbacks, H: ToHost>(session: &Session<C, H>)
+    ensures { IsValid session.now.layout }
+{
+    let _layout = session.layout();
+}
+
+/// A session over the words that callbacks tell, by a conversion of the bytes of a word in their order. A refusal hands the callbacks
+/// back.
+pub fn opened<C: Callbacks + Drop, H: ToHost>(
+    alloc: Global,
+    calls: C,
+    order: u8,
+    to_host: H,
+) -> Result<Session<C, H>, (Refusal, C)>
+    requires order { IsOrderOf (C.told calls) order }
+    requires takes { TakesAll (H.takes to_host) }
+    requires gives { GivesNumbers (H.gives to_host) order }
+    ensures layout { (core : CoreImage) → C.told calls ≡ told_by core
+        → IfOk result (λ s. GivesLayout (words_of_core core) s.layout) }
+    ensures told { IfOk result (λ s. C.told s.table.calls ≡ C.told calls) }
+    ensures fresh { IfOk result (λ s. IsFresh s.handles) }
+    ensures refused { (core : CoreImage) → C.told calls ≡ told_by core
+        → IfErr result (λ back. IsUnopened core back.0) }
+    ensures words { IfErr result (λ back. ComesOfWords back.0) }
+    ensures cause { MatchResult result (λ s. C.faults calls ≤ C.faults s.table.calls)
+        (λ back. HasCause (C.faults calls) (C.faults back.1) (IsReadFault back.0)) }
+{
+    let table = Table::new(calls, order, to_host);
+    let Ok(library) = initialize(API_VERSION, table) else {
+        unreachable!();
+    };
+    match library.process_initialize(alloc) {
+        Ok(session) => Ok(session),
+        Err((rc, library)) => Err((refusal_of_code(rc), library.finalize().into_calls())),
+    }
+}
