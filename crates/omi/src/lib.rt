@@ -38,7 +38,7 @@ pub use omi_session::{
     API_VERSION, Library, Parted, Rc, Session, get_api_version, get_version_string, initialize,
 };
 pub use omi_text::report_text;
-pub use omi_walk::{WalkFault, walk};
+pub use omi_walk::{KeptList, WalkFault, kept, walk};
 pub use omi_word::Natives;
 pub use opened::{OpenCore, OpenError, open_core};
 pub use tool::{Tool, look_into};

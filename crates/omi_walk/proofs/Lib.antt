@@ -18,6 +18,8 @@ pub mod TaskLooks
 pub mod TaskChained
 pub mod FoundTasks
 pub mod FoundLooks
+pub mod LiveTasks
+pub mod HandlesMade
 pub mod AddedRows
 pub mod RegionSlots
 pub mod AskedLooks
@@ -28,3 +30,4 @@ pub mod AskedChains
 pub mod AskedThreads
 pub mod AskedView
 pub mod ViewLooks
+pub mod KeptLooks

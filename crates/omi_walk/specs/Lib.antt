@@ -11,6 +11,8 @@ pub mod AskThreads
 pub mod AskRegions
 pub mod AskTasks
 pub mod AskView
+-- What a walk answers that keeps a handle of each task.
+pub mod Kept
 -- That it is a plain look at the words.
 pub mod AskLooked
 -- Private functions alone cite these: what is met on the way, and the parts of a report.

@@ -1,12 +1,13 @@
 //! The chain of a thread: its tasks, each left for the one before it.
 
-ghost use Rattle.std.specs.Prelude.{◌≡◌, ◌≤◌, ◌<◌, ◌^◌, [], Err, IfSome};
+ghost use Rattle.std.specs.Prelude.{◌≡◌, ◌≤◌, ◌<◌, ◌+◌, ◌^◌, [], length, All, Err, IfSome, OnOk};
 ghost use Rattle.omi_handle.specs.declared.handle.Kind.TheVariants.{Task};
 ghost use Rattle.omi_layout.specs.Field.{tasks};
 ghost use Rattle.omi_layout.specs.Table.{records};
 ghost use Rattle.omi_outside.specs.Outside.{HasCause};
 ghost use Rattle.omi_rep.specs.LookView.{look_chain};
 ghost use Rattle.omi_walk.specs.Added.{AddsRows};
+ghost use Rattle.omi_walk.specs.Kept.{IsLive};
 ghost use Rattle.omi_walk.specs.Leaves.{Leaves};
 ghost use Rattle.omi_walk.specs.Objects.{IsMet, name_in};
 ghost use Rattle.omi_walk.specs.Walks.{WalksRows};
@@ -43,6 +44,9 @@ pub fn task_chain<C: Callbacks, F: ToHost>(
     requires met { IfSome first (IsMet C.told s.old Task) }
     ensures reads { WalksRows C.told C.asked s.old s.new result rows.old rows.new
         (ask_rows_from s.old.layout thread first) }
+    ensures live { OnOk result (All (λ row. IsLive C.told s.old row.task) rows.old
+        → All (λ row. IsLive C.told s.new row.task) rows.new) }
+    ensures few { OnOk result (length rows.new ≤ length rows.old + 262144) }
     ensures leaves { Leaves C.told 1310720 s.old s.new }
     ensures cause { HasCause (C.faults s.old.table.calls) (C.faults s.new.table.calls)
         (result ≡ Err WalkFault.Callback) }

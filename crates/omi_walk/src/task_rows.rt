@@ -1,6 +1,6 @@
 //! The chains of the found threads, one after the other.
 
-ghost use Rattle.std.specs.Prelude.{◌≡◌, ◌≤◌, ◌<◌, Err, length, map, All};
+ghost use Rattle.std.specs.Prelude.{◌≡◌, ◌≤◌, ◌<◌, Err, length, map, All, IfOk};
 ghost use Rattle.std.specs.List.{flat_map};
 ghost use Rattle.omi_walk.specs.declared.limits.TheConstants.{HANDLES_WITHIN};
 ghost use Rattle.omi_outside.specs.Outside.{HasCause};
@@ -8,6 +8,7 @@ ghost use Rattle.omi_rep.specs.Look.{each, mapped};
 ghost use Rattle.omi_rep.specs.LookView.{look_tasks};
 ghost use Rattle.omi_walk.specs.FoundThreads.{IsFound};
 ghost use Rattle.omi_walk.specs.Gives.{Looks};
+ghost use Rattle.omi_walk.specs.Kept.{IsLive};
 ghost use Rattle.omi_walk.specs.Leaves.{Leaves};
 ghost use Rattle.omi_walk.specs.Walks.{Walks};
 ghost use Rattle.omi_walk.specs.AskTasks.{ask_all_tasks};
@@ -32,6 +33,8 @@ pub fn task_rows<C: Callbacks, F: ToHost>(
     requires found { All (IsFound C.told s.old) found.now }
     ensures reads { Walks C.told C.asked s.old s.new result
         (ask_all_tasks s.old.layout found.now) }
+    ensures live { IfOk result (λ rows. All (λ row. IsLive C.told s.new row.task) rows) }
+    ensures few { IfOk result (λ rows. length rows ≤ 16777216) }
     ensures leaves { Leaves C.told 83886080 s.old s.new }
     ensures cause { HasCause (C.faults s.old.table.calls) (C.faults s.new.table.calls)
         (result ≡ Err WalkFault.Callback) }

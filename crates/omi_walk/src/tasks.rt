@@ -13,6 +13,7 @@ ghost use Rattle.omi_rep.specs.Look.{id_address, look_onward, was_met};
 ghost use Rattle.omi_rep.specs.LookView.{look_task};
 ghost use Rattle.omi_session.specs.Made.{task_pair};
 ghost use Rattle.omi_walk.specs.Gives.{Looks};
+ghost use Rattle.omi_walk.specs.Kept.{IsLive};
 ghost use Rattle.omi_walk.specs.Leaves.{Leaves};
 ghost use Rattle.omi_walk.specs.Objects.{IsMet, Stands, name_in, names_met};
 ghost use Rattle.omi_walk.specs.Tasks.{look_relations, look_environment, relations_seen, row_of};
@@ -158,6 +159,7 @@ fn link_of<C: Callbacks, F: ToHost>(
     ensures reads { Walks C.told C.asked s.old s.new result (ask_link s.old.layout
         (contains nat_cmp met.now) thread task (get s.old.handles.held (task_pair k))) }
     ensures met { IfOk result (λ link. IfSome link.next (IsMet C.told s.new Task)) }
+    ensures task { IfOk result (λ link. link.row.task.0 ≡ task) }
     ensures leaves { Leaves C.told 3 s.old s.new }
     ensures cause { HasCause (C.faults s.old.table.calls) (C.faults s.new.table.calls)
         (result ≡ Err WalkFault.Callback) }
@@ -201,6 +203,7 @@ pub fn task_row<C: Callbacks, F: ToHost>(
     ensures reads { Walks C.told C.asked s.old s.new result
         (ask_task s.old.layout (contains nat_cmp met.now) thread task) }
     ensures met { IfOk result (λ link. IfSome link.next (IsMet C.told s.new Task)) }
+    ensures live { IfOk result (λ link. IsLive C.told s.new link.row.task) }
     ensures leaves { Leaves C.told 4 s.old s.new }
     ensures cause { HasCause (C.faults s.old.table.calls) (C.faults s.new.table.calls)
         (result ≡ Err WalkFault.Callback) }

@@ -1,5 +1,7 @@
 -- The tasks of a thread are asked about one after the other, each by the link of the one before.
-use Rattle.std.proofs.Common.{append_assoc, append-nil, ◌≡◌, ◌∷◌, ◌++◌, List, [], ℕ, ◌-◌, ◌+◌, suc, refl, sym, ap, subst, ◌∙◌, arith, Bool, Option, Some, None}
+use Rattle.std.proofs.Common.{append_assoc, append-nil, ◌≡◌, ◌∷◌, ◌++◌, List, [], ℕ, ◌-◌, ◌+◌, suc, refl, sym, ap, subst, ◌∙◌, arith, Bool, Option, Some, None, ◌≤◌, length}
+use Rattle.std.proofs.lemmas.List.{length-append, length_push}
+use Rattle.std.proofs.lemmas.List.Elements.{All-nil, All-push}
 use Rattle.std.specs.Ordering.{nat_cmp}
 use Rattle.std.specs.BTreeSet.{contains}
 use Rattle.std.proofs.lemmas.Result.{err_from_is_err_and}
@@ -20,7 +22,9 @@ use Rattle.omi_walk.specs.declared.fault.WalkFault.{WalkFault}
 use Rattle.omi_walk.specs.declared.fault.WalkFault.TheVariants.{OutOfMemory}
 use Rattle.omi_model.specs.declared.view.TaskRow.{TaskRow}
 use Rattle.omi_walk.specs.Asking.{Asks, also}
+use Rattle.omi_walk.specs.Kept.{IsLive}
 use Rattle.omi_walk.specs.Leaves.{Leaves}
+use Rattle.omi_walk.proofs.LiveTasks.{rows_after, rows_added}
 use Rattle.omi_walk.specs.Walks.{Walks}
 use Rattle.omi_walk.specs.AskTasks.{ask_task, ask_chained}
 use Rattle.omi_walk.proofs.ChainAsked.{all_asked, ChainGoes, also_met, chain_begin, chain_at, chain_next, chain_stop, chain_none, chain_cycle}
@@ -98,6 +102,8 @@ loop-init g c =
       met = c.requires.met;
       added = [];
       is = sym (append-nil c.args.rows.now);
+      live = All-nil _;
+      count = omega arith;
       goes =
           chain_begin g.C.Callbacks.told g.C.Callbacks.asked s (λ w. ask_chained w c.args.thread)
           (records s.layout tasks) c.args.first [] (contains nat_cmp c.new-met.result)
@@ -121,6 +127,11 @@ loop-preserved g c =
       is =
           c.in_ok-push.ensures.added ∙ ap (λ rows. rows ++ row ∷ []) now.is
           ∙ append_assoc c.args.rows.now now.added (row ∷ []);
+      live =
+          All-push (λ (row : TaskRow). IsLive g.C.Callbacks.told c.task_row.new.s row.task) now.added row
+          (rows_after g.C.Callbacks.told c.loop.s c.task_row.new.s c.task_row.ensures.leaves.stays now.added now.live)
+          c.in_ok-link.ensures.live;
+      count = let one = length_push now.added row in omega (arith, one, now.count);
       goes =
           row_added g.C.Callbacks.told g.C.Callbacks.asked c.args.s.now c.args.thread c.args.first
           c.loop.s c.task_row.new.s now.added (contains nat_cmp c.loop.met)
@@ -130,6 +141,32 @@ loop-preserved g c =
           (also_met c.loop.met c.insert.new.self c.in-Some.task.held.addr c.in_ok-insert.ensures.updates)
           now.goes _ c.in_ok-link.link c.task_row.ensures.leaves c.in_ok-link.ensures.reads;
     }
+
+-- the rows that were added are those of tasks that live, and few
+
+rows_few : (old added new : List TaskRow) (most : ℕ) → new ≡ old ++ added → length added ≤ most → length new ≤ length old + most
+rows_few old added new most is few =
+    let both = ap length is ∙ length-append old added in omega (arith, both, few)
+
+pub returns-in_default-clause-live : goal.returns-in_default-clause-live
+returns-in_default-clause-live g c before =
+    let now = c.loop.invariant in
+    rows_added g.C.Callbacks.told c.args.s.now c.loop.s now.leaves.stays c.args.rows.now now.added _ now.is before now.live
+
+pub returns-in_default-clause-few : goal.returns-in_default-clause-few
+returns-in_default-clause-few g c =
+    let now = c.loop.invariant in
+    rows_few c.args.rows.now now.added _ 262144 now.is (omega (arith, now.count, now.few, c.loop-test.true))
+
+pub returns-in-None-clause-live : goal.returns-in-None-clause-live
+returns-in-None-clause-live g c before =
+    let now = c.loop.invariant in
+    rows_added g.C.Callbacks.told c.args.s.now c.loop.s now.leaves.stays c.args.rows.now now.added _ now.is before now.live
+
+pub returns-in-None-clause-few : goal.returns-in-None-clause-few
+returns-in-None-clause-few g c =
+    let now = c.loop.invariant in
+    rows_few c.args.rows.now now.added _ 262144 now.is (omega (arith, now.count, now.few))
 
 -- reads: what was asked
 

@@ -1,11 +1,12 @@
-use Rattle.std.proofs.Common.{◌≡◌, ◌≤◌, ◌*◌, ◌-◌, ◌++◌, List}
-use Rattle.std.specs.Prelude.{IfSome}
+use Rattle.std.proofs.Common.{◌≡◌, ◌≤◌, ◌*◌, ◌-◌, ◌++◌, List, length}
+use Rattle.std.specs.Prelude.{All, IfSome}
 use Rattle.std.specs.Ordering.{nat_cmp}
 use Rattle.std.specs.BTreeSet.{contains}
 use Rattle.omi_handle.specs.declared.handle.Kind.TheVariants.{Task}
 use Rattle.omi_layout.specs.Field.{tasks}
 use Rattle.omi_layout.specs.Table.{records}
 use Rattle.omi_model.specs.declared.view.TaskRow.{TaskRow}
+use Rattle.omi_walk.specs.Kept.{IsLive}
 use Rattle.omi_walk.specs.Leaves.{Leaves}
 use Rattle.omi_walk.specs.Objects.{IsMet, name_in}
 use Rattle.omi_walk.proofs.TaskChained.{TasksSoFar}
@@ -22,6 +23,8 @@ invariant-loop g l = record {
   met : IfSome l.current (IsMet g.C.Callbacks.told l.s Task);
   added : List TaskRow;
   is : l.rows ≡ l.initial.rows ++ added;
+  live : All (λ row. IsLive g.C.Callbacks.told l.s row.task) added;
+  count : length added ≤ l.counter;
   goes : ChainGoes g.C.Callbacks.told g.C.Callbacks.asked l.initial.s (λ w. ask_chained w l.thread)
       (records l.initial.s.layout tasks) l.fn.first l.s added (l.end - l.counter)
       (contains nat_cmp l.met) l.current;

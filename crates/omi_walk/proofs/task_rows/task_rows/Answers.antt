@@ -1,14 +1,16 @@
-use Rattle.std.proofs.Common.{◌++◌, ◌∷◌, [], ℕ, List, map, Err, refl, subst, ap, ◌∙◌, arith}
+use Rattle.std.proofs.Common.{◌++◌, ◌∷◌, [], ℕ, List, length, map, Err, refl, subst, sym, ap, ◌∙◌, arith}
 use Rattle.std.proofs.lemmas.List.{flat_map_more, drop_all}
+use Rattle.std.proofs.lemmas.List.Elements.{All-nil}
 use Rattle.std.proofs.lemmas.Result.{err_from_is_err_and}
 use Rattle.omi_model.specs.declared.view.TaskRow.{TaskRow}
 use Rattle.omi_rep.specs.Look.{each}
 use Rattle.omi_rep.specs.LookView.{look_tasks}
 use Rattle.omi_walk.proofs.FoundTasks.{next_thread, no_thread, found_at, current_after}
 use Rattle.omi_walk.proofs.Steps.{EachSoFar, each_begins, each_next, each_stops, leaves_then, look_stops}
-use Rattle.std.specs.Prelude.{Ok}
+use Rattle.std.specs.Prelude.{All, Ok}
 use Rattle.std.specs.List.{flat_map}
 use Rattle.omi_walk.specs.declared.found.Found.{Found}
+use Rattle.omi_walk.specs.Kept.{IsLive}
 use Rattle.omi_walk.specs.AskTasks.{ask_tasks, ask_all_tasks}
 use Rattle.omi_walk.proofs.SlotsAsked.{next_found}
 use Rattle.omi_walk.proofs.EachAsked.{EachGoes, asks_begin, asks_next, asks_stop, asks_end}
@@ -20,6 +22,10 @@ loop-at-init g c = record {
   leaves = record { stays = record { table = record { same = refl; order = refl; to_host = refl }; layout = refl }; held = refl; later = omega arith; made = omega arith };
   later = omega arith;
   bound = c.len-at-end.ensures;
+  live =
+      subst (All (λ (row : TaskRow). IsLive g.C.Callbacks.told c.args.s.now row.task)) (sym c.new-rows.ensures)
+      (All-nil (λ (row : TaskRow). IsLive g.C.Callbacks.told c.args.s.now row.task));
+  few = let none = ap length c.new-rows.ensures in omega (arith, none);
   walked = [];
   walked_is = c.new-rows.ensures;
   goes = asks_begin g.C.Callbacks.told g.C.Callbacks.asked c.args.s.now (0, 0) (λ w k f. ask_tasks w f) c.args.found.now;
@@ -37,6 +43,8 @@ loop-at-preserved g c = record {
   leaves = leaves_then g.C.Callbacks.told _ _ _ _ _ _ (omega arith) c.loop-at.invariant.leaves c.task_chain.ensures.leaves;
   later = omega (arith, c.loop-at.invariant.later, c.task_chain.ensures.cause.later);
   bound = c.loop-at.invariant.bound;
+  live = c.in_ok-task_chain.ensures.live c.loop-at.invariant.live;
+  few = omega (arith, c.loop-at.invariant.few, c.in_ok-task_chain.ensures.few);
   walked = c.loop-at.invariant.walked ++ c.in_ok-task_chain.ensures.reads.rows ∷ [];
   walked_is =
       let rows = c.in_ok-task_chain.ensures.reads.rows in

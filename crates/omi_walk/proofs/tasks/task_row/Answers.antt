@@ -1,6 +1,9 @@
-use Rattle.std.proofs.Common.{arith, refl}
-use Rattle.std.proofs.lemmas.Result.{err_from_is_err_and}
+use Rattle.std.proofs.Common.{◌≡◌, arith, refl, subst, sym}
+use Rattle.std.proofs.lemmas.Result.{IfOk-weaker, err_from_is_err_and}
 use Rattle.omi_handle.specs.declared.handle.Kind.TheVariants.{Task}
+use Rattle.omi_walk.specs.declared.tasks.Link.{Link}
+use Rattle.omi_walk.specs.Kept.{IsLive}
+use Rattle.omi_walk.proofs.LiveTasks.{live_met, live_after}
 use Rattle.omi_walk.proofs.Lent.{lent_stands, lent_leaves}
 use Rattle.omi_walk.proofs.Steps.{look_unsaid, looks_before}
 use Rattle.omi_walk.proofs.Goes.{goes_begin, goes_unmade, lent_walks}
@@ -14,6 +17,20 @@ returns-clause-leaves g c =
     lent_leaves g.C.Callbacks.told c.args.s.now c.hand.new.s Task c.args.task _ c.in_ok-key.ensures.handed c.hand.ensures.stays
     c.link_of-link.new.s c.release.new.self 3 4
     (omega arith) c.link_of-link.ensures.leaves c.release.ensures.removed c.release.ensures.made c.release.ensures.layout c.release.ensures.table
+
+pub returns-clause-live : goal.returns-clause-live
+returns-clause-live g c =
+    let told = g.C.Callbacks.told in
+    let s = c.args.s.now in
+    let new = c.release.new.self in
+    let name = c.args.task.name in
+    let lives =
+    live_after told s new (returns-clause-leaves g c).stays (record { 0 = name })
+    (live_met told s c.args.task c.requires.met) in
+    IfOk-weaker c.link_of-link.result (λ (link : Link). link.row.task.0 ≡ name)
+    (λ (link : Link). IsLive told new link.row.task)
+    (λ (link : Link) is. subst (IsLive told new) (λ i. record { 0 = sym is i }) lives)
+    c.link_of-link.ensures.task
 
 -- reads: what was asked
 

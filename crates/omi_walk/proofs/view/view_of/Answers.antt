@@ -11,7 +11,7 @@ use Rattle.omi_walk.specs.AskRegions.{ask_regions, ask_rows}
 use Rattle.omi_walk.specs.AskTasks.{ask_all_tasks}
 use Rattle.omi_walk.specs.AskView.{ask_view}
 use Rattle.omi_walk.proofs.Goes.{goes_begin, goes_on, goes_stop, goes_end}
-use Rattle.omi_walk.proofs.view.walk.Goals as goal
+use Rattle.omi_walk.proofs.view.view_of.Goals as goal
 
 pub region_rows-requires-clause-live : goal.region_rows-requires-clause-live
 region_rows-requires-clause-live g c = c.in_ok-index.ensures.live
