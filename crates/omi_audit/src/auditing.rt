@@ -39,9 +39,9 @@ fn judge_all<C: Callbacks, F: ToHost>(s: &mut Session<C, F>, alloc: Global) -> R
     Ok(search.met.len())
 }
 
-/// Whether the words of a session's target show some well-formed state, in the session's layout. Else the first word, or the first record of a
-/// chain, at which a clause fails: of the runtime record, then of the threads, then of the regions and tasks that these lead to, as a
-/// breadth-first search meets them, and then of the chains from these.
+/// Judges the words of a session's target in the session's layout: Yes where no clause fails. Else the first word, or the first record of a chain, at
+/// which one fails: of the runtime record, then of the threads, then of the regions and tasks that these lead to, as a breadth-first search meets them,
+/// and then of the chains from these.
 pub fn audit<C: Callbacks, F: ToHost>(
     s: &mut Session<C, F>,
     alloc: Global,

@@ -1,4 +1,4 @@
-//! The auditor of a target's words: whether they show some well-formed state, and where they don't, the first word that shows none.
+//! The auditor of a target's words: that they show some well-formed state, or the first word at which a clause of the audit fails.
 #![tactic(auto)]
 
 mod auditing;

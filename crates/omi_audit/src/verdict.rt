@@ -2,14 +2,14 @@
 
 use thiserror::Error;
 
-/// Whether the words show some well-formed state.
+/// The verdict on words.
 #[derive(Clone, Copy, Debug, PartialEq, Eq)]
 pub enum Verdict {
-    /// They do, by the records of so many regions and tasks.
+    /// No clause fails: they show a well-formed state, by the records of so many regions and tasks.
     Yes { records: u64 },
-    /// They don't: this clause, from 1 to 8, fails first. For clauses 1 to 6 the address is that of the word at which it fails, and the field is
-    /// the word's. For 7 and 8 the address is that of the first record that a chain meets a second time, and the field is the one
-    /// that the chain follows.
+    /// This clause, from 1 to 8, fails first, so they show no state that a program reaches. For clauses 1 to 6 the address is that of the word
+    /// at which it fails, and the field is the word's. For 7 and 8 the address is that of the first record that a chain meets a second
+    /// time, and the field is the one that the chain follows.
     No { addr: u64, field: u8, clause: u8 },
 }
 

@@ -63,16 +63,56 @@ fn chains_of_a_fork(rt: HostRuntime) -> Result<(), Fail> {
     Ok(())
 }
 
-/// A word that is out of range in the last record comes before a chain that does not end from the first.
+/// The same in a team in a task of a team: the chains of the regions of both teams come to the initial region, and that of the innermost task to
+/// the members of the outer team.
+fn of_nested(words: &Words, r: &Records) -> [Case; 9] {
+    let tasks = |changed: Word, addr: u64| -> Case {
+        comes_back(words, [changed; 2], addr, SCHEDULING, 7)
+    };
+    let regions = |changed: Word, addr: u64| -> Case {
+        comes_back(words, [changed; 2], addr, ENCLOSING, 8)
+    };
+    [
+        tasks(scheduled(r.generated, r.alone), r.alone),
+        tasks(scheduled(r.worker, r.generated), r.generated),
+        tasks(scheduled(r.worker, r.worker), r.worker),
+        tasks(scheduled(r.initial, r.master), r.master),
+        regions(enclosed(r.inner, r.innermost), r.inner),
+        regions(enclosed(r.innermost, r.innermost), r.innermost),
+        regions(enclosed(r.outer, r.outer), r.outer),
+        regions(enclosed(r.outer, r.innermost), r.inner),
+        regions(enclosed(r.outer, r.inner), r.inner),
+    ]
+}
+
+#[test]
+fn chains_of_a_nested_chain(rt: HostRuntime) -> Result<(), Fail> {
+    let words = nested(rt.alloc(), 0)?;
+    let records = records_of(&words)?;
+    let cases = of_nested(&words, &records);
+    assert_eq!(rt; first_wrong(rt.alloc(), &words, &cases)?, None);
+    Ok(())
+}
+
+/// A word that fails a clause comes before a chain that does not end, whether it is met before the chain's records or behind them.
 #[test]
 fn a_chain_and_a_word(rt: HostRuntime) -> Result<(), Fail> {
     let words = nested(rt.alloc(), 0)?;
     let r = records_of(&words)?;
-    let chain = scheduled(r.generated, r.alone);
-    let word = (r.worker, Field::TaskDevice, 0, Some(256));
+    let tasks = scheduled(r.generated, r.alone);
+    let regions = enclosed(r.outer, r.innermost);
+    let first = (r.runtime, Field::RuntimeDebug, 0, Some(2));
+    let last = (r.worker, Field::TaskDevice, 0, Some(256));
+    let hole = (r.worker, Field::TaskNthreads, 0, None);
     let cases = [
-        comes_back(&words, [chain; 2], r.alone, SCHEDULING, 7),
-        refused(&words, word, chain, 6),
+        comes_back(&words, [tasks; 2], r.alone, SCHEDULING, 7),
+        comes_back(&words, [tasks, regions], r.alone, SCHEDULING, 7),
+        refused(&words, first, tasks, 2),
+        refused(&words, first, regions, 2),
+        refused(&words, last, tasks, 6),
+        refused(&words, last, regions, 6),
+        refused(&words, hole, tasks, 1),
+        refused(&words, hole, regions, 1),
     ];
     assert_eq!(rt; first_wrong(rt.alloc(), &words, &cases)?, None);
     Ok(())

@@ -1,67 +1,77 @@
-//! The words that are judged of a stop, in their order, each with a word at which its clause fails.
+//! The words that are judged of a stop, in their order, each with what stands there where its clause fails.
 
 use crate::asking::Word;
 use crate::stops::Records;
 use omi_layout::Field;
 use std::alloc::{AllocError, Global};
 
-/// A field, a place in it, a word at which its clause fails, and the clause.
-type Bad = (Field, u64, u64, u8);
+/// A field, a place in it, what stands there where a clause fails, and the clause. None: the word isn't mapped.
+type Bad = (Field, u64, Option<u64>, u8);
 
 /// The fields of the runtime record.
 const OF_RUNTIME: [Bad; 5] = [
-    (Field::RuntimeVersion, 0, 201_812, 2),
-    (Field::RuntimeThreads, 0, 3, 2),
-    (Field::RuntimeProcs, 0, 0, 2),
-    (Field::RuntimeDebug, 0, 2, 2),
-    (Field::RuntimeMaxActive, 0, 256, 2),
+    (Field::RuntimeVersion, 0, Some(201_812), 2),
+    (Field::RuntimeThreads, 0, Some(3), 2),
+    (Field::RuntimeProcs, 0, Some(0), 2),
+    (Field::RuntimeDebug, 0, Some(2), 2),
+    (Field::RuntimeMaxActive, 0, Some(256), 2),
 ];
 
 /// Those of a thread.
 const OF_THREAD: [Bad; 4] = [
-    (Field::ThreadLife, 0, 2, 3),
-    (Field::ThreadNative, 0, 999, 3),
-    (Field::ThreadCurrent, 0, 8, 4),
-    (Field::ThreadState, 0, 2, 3),
+    (Field::ThreadLife, 0, Some(2), 3),
+    (Field::ThreadNative, 0, Some(999), 3),
+    (Field::ThreadCurrent, 0, Some(8), 4),
+    (Field::ThreadState, 0, Some(2), 3),
 ];
 
 /// Those of a region with one member.
 const OF_REGION: [Bad; 7] = [
-    (Field::RegionFunction, 0, 0x40_0001, 5),
-    (Field::RegionEnclosing, 0, 8, 4),
-    (Field::RegionEncountering, 0, 8, 4),
-    (Field::RegionSize, 0, 0, 5),
-    (Field::RegionLevels, 0, 256, 5),
-    (Field::RegionActive, 0, 256, 5),
-    (Field::RegionTeam, 0, 0, 4),
+    (Field::RegionFunction, 0, Some(0x40_0001), 5),
+    (Field::RegionEnclosing, 0, Some(8), 4),
+    (Field::RegionEncountering, 0, Some(8), 4),
+    (Field::RegionSize, 0, Some(0), 5),
+    (Field::RegionLevels, 0, Some(256), 5),
+    (Field::RegionActive, 0, Some(256), 5),
+    (Field::RegionTeam, 0, Some(0), 4),
 ];
 
 /// Another member.
-const OF_MEMBER: [Bad; 1] = [(Field::RegionTeam, 1, 8, 4)];
+const OF_MEMBER: [Bad; 1] = [(Field::RegionTeam, 1, Some(8), 4)];
 
 /// Those of a task with one element in nthreads-var. Any word may stand in the frames and in the tool word.
-const OF_TASK: [Bad; 13] = [
-    (Field::TaskImplicit, 0, 2, 6),
-    (Field::TaskRegion, 0, 0, 4),
-    (Field::TaskThread, 0, 0, 4),
-    (Field::TaskNumber, 0, 2, 6),
-    (Field::TaskGenerating, 0, 8, 4),
-    (Field::TaskScheduling, 0, 8, 4),
-    (Field::TaskFunction, 0, 0x40_0400, 6),
-    (Field::TaskDynamic, 0, 2, 6),
-    (Field::TaskNthreadsLength, 0, 5, 6),
-    (Field::TaskSchedule, 0, 5, 6),
-    (Field::TaskDevice, 0, 256, 6),
-    (Field::TaskFinal, 0, 2, 6),
-    (Field::TaskNthreads, 0, 65, 6),
+const OF_TASK: [Bad; 16] = [
+    (Field::TaskImplicit, 0, Some(2), 6),
+    (Field::TaskRegion, 0, Some(0), 4),
+    (Field::TaskThread, 0, Some(0), 4),
+    (Field::TaskNumber, 0, Some(2), 6),
+    (Field::TaskGenerating, 0, Some(8), 4),
+    (Field::TaskScheduling, 0, Some(8), 4),
+    (Field::TaskFunction, 0, Some(0x40_0400), 6),
+    (Field::TaskExit, 0, None, 1),
+    (Field::TaskEnter, 0, None, 1),
+    (Field::TaskDynamic, 0, Some(2), 6),
+    (Field::TaskNthreadsLength, 0, Some(5), 6),
+    (Field::TaskSchedule, 0, Some(5), 6),
+    (Field::TaskDevice, 0, Some(256), 6),
+    (Field::TaskFinal, 0, Some(2), 6),
+    (Field::TaskTool, 0, None, 1),
+    (Field::TaskNthreads, 0, Some(65), 6),
 ];
 
-/// A word that is judged, with a word at which its clause fails, and the clause.
+/// Those of the elements that a task with four of them has more.
+const OF_ELEMENTS: [Bad; 3] = [
+    (Field::TaskNthreads, 1, Some(65), 6),
+    (Field::TaskNthreads, 2, Some(0), 6),
+    (Field::TaskNthreads, 3, Some(65), 6),
+];
+
+/// A word that is judged, with what stands there where its clause fails, and the clause.
 pub type BadWord = (Word, u8);
 
 fn add(list: &mut Vec<BadWord>, record: u64, fields: &[Bad]) -> Result<(), AllocError> {
     for (field, at, word, clause) in fields {
-        list.push(((record, *field, *at, Some(*word)), *clause))?;
+        list.push(((record, *field, *at, *word), *clause))?;
     }
     Ok(())
 }
@@ -85,6 +95,14 @@ pub fn of_fork(alloc: Global, r: &Records) -> Result<Vec<BadWord>, AllocError> {
     add(&mut list, r.initial, &OF_TASK)?;
     add(&mut list, r.outer, &OF_REGION)?;
     add(&mut list, r.worker, &OF_TASK)?;
+    Ok(list)
+}
+
+/// Those of the initial task of a fork, where its nthreads-var has four elements.
+pub fn of_list(alloc: Global, r: &Records) -> Result<Vec<BadWord>, AllocError> {
+    let mut list = Vec::new(alloc);
+    add(&mut list, r.initial, &OF_TASK)?;
+    add(&mut list, r.initial, &OF_ELEMENTS)?;
     Ok(list)
 }
 

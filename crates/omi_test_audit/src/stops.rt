@@ -17,6 +17,10 @@ use std::alloc::Global;
 const A_NESTED_CHAIN: &str =
     "threads 2\nfunc leaf\nwork\nend\nfunc h\nparallel leaf num 1\nend\nfunc g\ntask h\nend\nfunc f\nonly 0 g\nend\nfunc main\nparallel f num 2\nend\n";
 
+/// A team of two, around which nthreads-var has four elements.
+const A_LIST: &str =
+    "threads 2\nenv num_threads 4,2,3,5\nfunc f\nwork\nend\nfunc main\nparallel f num 2\nend\n";
+
 /// The words of an empty run, before its first step.
 pub fn opened(alloc: Global) -> Result<Words, Wrong> {
     let core = core_at(alloc, AN_EMPTY_RUN, 0, after(0))?;
@@ -26,6 +30,11 @@ pub fn opened(alloc: Global) -> Result<Words, Wrong> {
 /// The words of a team of two at its fork, in the layout of a family.
 pub fn forked(alloc: Global, family: u8) -> Result<Words, Wrong> {
     Words::of_two(alloc, A_TEAM_OF_TWO, family, at_fork())
+}
+
+/// The words of a team of two at its fork, where nthreads-var of the initial task has four elements.
+pub fn listed(alloc: Global) -> Result<Words, Wrong> {
+    Words::of_two(alloc, A_LIST, 0, at_fork())
 }
 
 /// Where a thread's steps end: at a step that waits, at the generation of a task, or at a fork.

@@ -1,32 +1,41 @@
-//! Each clause at each word that it speaks of, over the words of a fork and of a nested chain: the word is not mapped, it is out of range, or it names
-//! no live record of its kind; and two of these words at once.
+//! Clauses 1 to 6 at the words that are judged of a fork and of a nested chain: the word is not mapped, it is out of range, or it names no live record
+//! of its kind; and two of these words at once.
 
 use crate::asking::{Case, Word, change, first_wrong, refused};
-use crate::places::{BadWord, of_fork, of_nested};
-use crate::stops::{Records, forked, nested, records_of};
+use crate::places::{BadWord, of_fork, of_list, of_nested};
+use crate::stops::{Records, forked, listed, nested, records_of};
 use omi_audit::Verdict;
 use omi_layout::Field;
 use omi_test_targets::{Words, Wrong};
 use std::alloc::Global;
 use std::test::Fail;
 
+/// The word isn't mapped.
+fn hole(word: Word) -> Word {
+    let (record, field, place, _) = word;
+    (record, field, place, None)
+}
+
 /// Each word alone is refused by its clause, and by clause 1 where it isn't mapped.
 fn each_alone(alloc: Global, words: &Words, bad: &[BadWord]) -> Result<Vec<Case>, Wrong> {
     let mut cases = Vec::new(alloc);
     for (word, clause) in bad {
         cases.push(refused(words, *word, *word, *clause))?;
-        let hole = (word.0, word.1, word.2, None);
+        let hole = hole(*word);
         cases.push(refused(words, hole, hole, 1))?;
     }
     Ok(cases)
 }
 
-/// Of two words, the second so many places behind the first, the first is refused.
+/// Of two words, the second so many places behind the first, the first is refused, also where one of them isn't mapped.
 fn in_pairs(alloc: Global, words: &Words, bad: &[BadWord], gap: usize) -> Result<Vec<Case>, Wrong> {
     let mut cases = Vec::new(alloc);
     for at in gap..bad.len() {
         let (first, clause) = bad[at - gap];
-        cases.push(refused(words, first, bad[at].0, clause))?;
+        let (second, _) = bad[at];
+        cases.push(refused(words, first, second, clause))?;
+        cases.push(refused(words, first, hole(second), clause))?;
+        cases.push(refused(words, hole(first), second, 1))?;
     }
     Ok(cases)
 }
@@ -52,11 +61,27 @@ fn each_word_of_a_nested_chain(rt: HostRuntime) -> Result<(), Fail> {
     Ok(())
 }
 
+/// Each element of a list of four, and words behind a shorter list.
+#[test]
+fn each_word_of_a_list(rt: HostRuntime) -> Result<(), Fail> {
+    let words = listed(rt.alloc())?;
+    let r = records_of(&words)?;
+    let bad = of_list(rt.alloc(), &r)?;
+    let mut cases = each_alone(rt.alloc(), &words, bad.as_slice())?;
+    for (at, word) in [(1u64, Some(0u64)), (2, Some(65)), (3, Some(0)), (3, None)] {
+        let element = (r.initial, Field::TaskNthreads, at, word);
+        let shorter = (r.initial, Field::TaskNthreadsLength, 0, Some(at));
+        cases.push(fine(&words, element, shorter, 5))?;
+    }
+    assert_eq!(rt; first_wrong(rt.alloc(), &words, cases.as_slice())?, None);
+    Ok(())
+}
+
 #[test]
 fn two_words_of_a_fork(rt: HostRuntime) -> Result<(), Fail> {
     let words = forked(rt.alloc(), 0)?;
     let bad = of_fork(rt.alloc(), &records_of(&words)?)?;
-    for gap in [1, 7, 20] {
+    for gap in [1, 20] {
         let cases = in_pairs(rt.alloc(), &words, bad.as_slice(), gap)?;
         let wrong = first_wrong(rt.alloc(), &words, cases.as_slice())?;
         assert_eq!(rt; wrong, None, "{gap} places behind");
@@ -68,7 +93,7 @@ fn two_words_of_a_fork(rt: HostRuntime) -> Result<(), Fail> {
 fn two_words_of_a_nested_chain(rt: HostRuntime) -> Result<(), Fail> {
     let words = nested(rt.alloc(), 3)?;
     let bad = of_nested(rt.alloc(), &records_of(&words)?)?;
-    for gap in [1, 13, 30] {
+    for gap in [1, 30] {
         let cases = in_pairs(rt.alloc(), &words, bad.as_slice(), gap)?;
         let wrong = first_wrong(rt.alloc(), &words, cases.as_slice())?;
         assert_eq!(rt; wrong, None, "{gap} places behind");
@@ -181,8 +206,8 @@ fn fine(words: &Words, first: Word, second: Word, records: u64) -> Case {
     }
 }
 
-/// A word of a record that nobody reaches, or of a thread that has not begun, or a frame, may not be mapped or be any word where it isn't judged. The
-/// life word of a record is judged where the first pointer leads to it.
+/// A word of a record that nobody reaches, or of a thread that has not begun, may not be mapped or be any word. The life word of a record is judged
+/// where the first pointer leads to it. A thread may not have begun, but then no task is its.
 #[test]
 fn words_behind_pointers(rt: HostRuntime) -> Result<(), Fail> {
     let words = forked(rt.alloc(), 0)?;
@@ -192,7 +217,21 @@ fn words_behind_pointers(rt: HostRuntime) -> Result<(), Fail> {
     let lives = [None, Some(2), Some(0), Some(0x2_0000_0001)];
     let unbegun = (t, Field::ThreadLife, 0, Some(0));
     let hole = (r.master, Field::TaskTool, 0, None);
+    let other = r.threads[1];
+    let gone = (other, Field::ThreadLife, 0, Some(0));
     let cases = [
+        refused(
+            &words,
+            (r.worker, Field::TaskThread, 0, Some(other)),
+            gone,
+            4,
+        ),
+        refused(
+            &words,
+            (r.master, Field::TaskThread, 0, Some(other)),
+            gone,
+            4,
+        ),
         refused(&words, pointer, (r.master, Field::TaskLife, 0, lives[0]), 4),
         refused(&words, pointer, (r.master, Field::TaskLife, 0, lives[1]), 4),
         refused(&words, pointer, (r.master, Field::TaskLife, 0, lives[2]), 4),

@@ -6,6 +6,8 @@ mod answers;
 #[cfg(test)]
 mod forks;
 #[cfg(test)]
+mod kept_tests;
+#[cfg(test)]
 mod variables;
 #[cfg(test)]
 mod walks;

@@ -1,5 +1,6 @@
 //! Runs of `audit` through the top call: verdicts on the cores of runs and on cores with one word changed, and each of its refusals.
 
+use crate::show_tests::{DAMAGED, HOSTILE, with_byte};
 use omi_outside::{Call, Status};
 use omi_test_calls::{call, core_of, run, with_word};
 use omi_test_rows::{A_FULL_ROW, A_TEAM_OF_TWO, AN_EMPTY_RUN};
@@ -58,38 +59,43 @@ fn cores_of_runs(rt: HostRuntime) -> Result<(), Fail> {
     Ok(())
 }
 
-/// The verdict on a core that a run of a script leaves, in this family, by this seed, at the first task that starts.
+/// A core that `stop` leaves with these words behind its files is approved, and the line of `audit` begins so.
 fn is_approved(
     rt: &impl Abort,
     alloc: Global,
     script: &str,
-    family: &str,
-    seed: &str,
+    steps: &str,
+    options: &[&str],
+    begins: &str,
 ) -> Result<(), AllocError> {
-    let line = [
-        "stop",
-        "1000000",
-        "s",
-        "c",
-        "--layout",
-        family,
-        "--seed",
-        seed,
-        "--break",
-        "task_begin",
-        "--count",
-        "3",
-    ];
-    let done = run(alloc, &line, script)?;
+    let mut line = Vec::new(alloc);
+    line.extend_from_slice(&["stop", steps, "s", "c"])?;
+    line.extend_from_slice(options)?;
+    let done = run(alloc, line.as_slice(), script)?;
     assert_eq!(rt; done.status, Status::Success);
     let core = done.dest.bytes("c");
     let done = call(alloc, &["audit", "c"], ("", core), &[], &[], &[])?;
     assert_eq!(rt; done.status, Status::Success);
     assert!(rt;
-        done.out.bytes().starts_with(b"audit ok records "),
-        "{script} {family}"
+        done.out.bytes().starts_with(begins.as_bytes()),
+        "{script} {steps}"
     );
     Ok(())
+}
+
+/// The same where a run in this family, by its number as the seed, comes to an event of this kind for so many times.
+fn is_approved_at(
+    rt: &impl Abort,
+    alloc: Global,
+    script: &str,
+    family: &str,
+    kind: &str,
+    count: &str,
+) -> Result<(), AllocError> {
+    let options = [
+        "--layout", family, "--seed", family, "--break", kind, "--count", count,
+    ];
+    is_approved(rt, alloc, script, "1000000", &options, "audit ok records ")
 }
 
 const FAMILIES: [&str; 16] = [
@@ -114,16 +120,148 @@ parallel body num 2
 end
 ";
 
+/// At the third task that starts.
 #[test]
 fn every_family_is_approved(rt: HostRuntime) -> Result<(), Fail> {
     let alloc = rt.alloc();
     for family in &FAMILIES {
         for script in &[A_FULL_ROW, A_TEAM_OF_TWO, TASKS] {
-            is_approved(&rt, alloc, script, family, family)?;
+            is_approved_at(&rt, alloc, script, family, "task_begin", "3")?;
         }
     }
     Ok(())
 }
+
+/// Each member of a team wants a team of two, and there are three threads.
+const CONTESTED: &str = "threads 3
+func leaf
+work
+end
+func mid
+parallel leaf num 2
+end
+func main
+parallel mid num 2
+end
+";
+
+/// Teams and tasks, without states.
+const UNTRACKED: &str = "threads 2
+env debug disabled
+func leaf
+work
+end
+func body
+task leaf
+barrier
+task leaf
+end
+func main
+parallel body num 2
+task leaf if 0
+end
+";
+
+/// A script, and an event to which its runs come so many times.
+const EVENTS: [(&str, &str, &str); 8] = [
+    (CONTESTED, "parallel_begin", "2"),
+    (CONTESTED, "parallel_begin", "3"),
+    (CONTESTED, "parallel_end", "1"),
+    (UNTRACKED, "parallel_end", "1"),
+    (UNTRACKED, "task_begin", "2"),
+    (UNTRACKED, "task_end", "3"),
+    (TASKS, "task_end", "2"),
+    (A_TEAM_OF_TWO, "thread_begin", "2"),
+];
+
+/// Two of the events in each family, each in four of them.
+#[test]
+fn stops_at_events(rt: HostRuntime) -> Result<(), Fail> {
+    let alloc = rt.alloc();
+    for at in 0..16usize {
+        for event in [at % 8, (at + 3) % 8] {
+            let (script, kind, count) = EVENTS[event];
+            is_approved_at(&rt, alloc, script, FAMILIES[at], kind, count)?;
+        }
+    }
+    Ok(())
+}
+
+/// Two members come to one lock.
+const A_LOCK: &str = "threads 2
+func leaf
+work
+end
+func held
+repeat 8 leaf
+end
+func body
+critical 3 held
+end
+func main
+set_num_threads 2
+parallel body
+end
+";
+
+/// A script, steps of its threads in turn, and the records that they reach: one step before a fork; between the join of this team, its 229th step,
+/// and the last of the three records that are given back behind it, at the 235th, the 241st and the 243rd; and where one member holds
+/// a lock for which the other waits.
+const STEPS: [(&str, &str, &str); 8] = [
+    (A_TEAM_OF_TWO, "172", "audit ok records 2\n"),
+    (A_TEAM_OF_TWO, "229", "audit ok records 2\n"),
+    (A_TEAM_OF_TWO, "234", "audit ok records 2\n"),
+    (A_TEAM_OF_TWO, "235", "audit ok records 2\n"),
+    (A_TEAM_OF_TWO, "240", "audit ok records 2\n"),
+    (A_TEAM_OF_TWO, "241", "audit ok records 2\n"),
+    (A_TEAM_OF_TWO, "242", "audit ok records 2\n"),
+    (A_LOCK, "245", "audit ok records 5\n"),
+];
+
+/// Two of the stops in each family, each in four of them.
+#[test]
+fn stops_at_steps(rt: HostRuntime) -> Result<(), Fail> {
+    let alloc = rt.alloc();
+    for at in 0..16usize {
+        for stop in [at % 8, (at + 3) % 8] {
+            let (script, steps, text) = STEPS[stop];
+            let options = ["--layout", FAMILIES[at]];
+            is_approved(&rt, alloc, script, steps, &options, text)?;
+        }
+    }
+    let core = core_of(alloc, "245", A_LOCK)?;
+    let shown = call(alloc, &["show", "c"], ("", Some(&core)), &[], &[], &[])?;
+    assert!(&rt; str::from_utf8(shown.out.bytes())?.contains(" state wait_critical wait 4 "));
+    Ok(())
+}
+
+const SIXTY_FOUR: &str = "threads 64
+func leaf
+work
+end
+func main
+parallel leaf num 64
+end
+";
+
+/// A team of all threads that was just made: the initial region and task, and the team with its members.
+#[test]
+fn sixty_four_threads_at_a_fork(rt: HostRuntime) -> Result<(), Fail> {
+    let options = [
+        "--layout",
+        "15",
+        "--break",
+        "parallel_begin",
+        "--count",
+        "1",
+    ];
+    let text = "audit ok records 67\n";
+    is_approved(&rt, rt.alloc(), SIXTY_FOUR, "1000000", &options, text)?;
+    Ok(())
+}
+
+/// What `audit` says where the level of the initial region is out of range.
+const LEVELS: &str = "audit no 0x103d8 region.levels 5\n";
 
 /// A word of an empty run's core by its number, what it is set to, and what `audit` ends with and puts. Of the words that the layout table has
 /// it says what `show` says: the count of symbols, and of the table the number of threads and the offsets of the first two fields of the runtime's
@@ -153,12 +291,7 @@ const WORDS: [(usize, u64, Status, &str); 12] = [
         "audit no 0x103b0 region.enclosing 8\n",
     ),
     (122, 2, Status::Success, "audit no 0x103d0 region.size 5\n"),
-    (
-        123,
-        300,
-        Status::Success,
-        "audit no 0x103d8 region.levels 5\n",
-    ),
+    (123, 300, Status::Success, LEVELS),
     (129, 0, Status::Success, "audit no 0x10408 region.team 4\n"),
     (310, 2, Status::Success, "audit no 0x10390 thread.cur 4\n"),
     (321, 5, Status::Success, "audit no 0x10a08 task.nthn 6\n"),
@@ -171,6 +304,60 @@ fn one_changed_word(rt: HostRuntime) -> Result<(), Fail> {
     for (number, word, status, text) in &WORDS {
         let changed = with_word(alloc, &core, *number, *word)?;
         expect(&rt, alloc, Some(&changed), &[], *status, text)?;
+    }
+    Ok(())
+}
+
+/// `audit` says of these bytes that a clause fails.
+fn is_refused(rt: &impl Abort, alloc: Global, core: &[u8]) -> Result<(), AllocError> {
+    let done = call(alloc, &["audit", "c"], ("", Some(core)), &[], &[], &[])?;
+    assert_eq!(rt; done.status, Status::Success);
+    assert!(rt; done.out.bytes().starts_with(b"audit no 0x1"));
+    Ok(())
+}
+
+/// A level that is out of range: `show` prints its report all the same.
+#[test]
+fn a_report_of_a_core_that_is_refused(rt: HostRuntime) -> Result<(), Fail> {
+    let alloc = rt.alloc();
+    let core = core_of(alloc, "0", AN_EMPTY_RUN)?;
+    let changed = with_word(alloc, &core, 123, 300)?;
+    let shown = call(alloc, &["show", "c"], ("", Some(&changed)), &[], &[], &[])?;
+    assert_eq!(&rt; shown.status, Status::Success);
+    let report = str::from_utf8(shown.out.bytes())?;
+    assert_eq!(&rt; report.lines().count(), 7);
+    assert!(&rt; report.contains(" levels-var=300 active-levels-var=0 "));
+    expect(&rt, alloc, Some(&changed), &[], Status::Success, LEVELS)?;
+    Ok(())
+}
+
+/// What `show` refuses by the words, `audit` refuses.
+#[test]
+fn cores_that_show_refuses(rt: HostRuntime) -> Result<(), Fail> {
+    let alloc = rt.alloc();
+    let core = core_of(alloc, "0", AN_EMPTY_RUN)?;
+    for (at, byte, _) in &DAMAGED {
+        let changed = with_byte(alloc, &core, *at, *byte)?;
+        is_refused(&rt, alloc, &changed)?;
+    }
+    for (place, word, _) in &HOSTILE {
+        let changed = with_word(alloc, &core, *place, *word)?;
+        is_refused(&rt, alloc, &changed)?;
+    }
+    Ok(())
+}
+
+/// The verdict is the same where the words have their highest byte first.
+#[test]
+fn the_other_order(rt: HostRuntime) -> Result<(), Fail> {
+    let alloc = rt.alloc();
+    let core = core_of(alloc, "0", AN_EMPTY_RUN)?;
+    let changed = with_word(alloc, &core, 123, 300)?;
+    for (core, text) in [(&core, "audit ok records 2\n"), (&changed, LEVELS)] {
+        let line = ["recode", "1", "c", "d"];
+        let done = call(alloc, &line, ("", Some(core)), &[], &[], &[])?;
+        let copy = done.dest.bytes("d");
+        expect(&rt, alloc, copy, &[], Status::Success, text)?;
     }
     Ok(())
 }

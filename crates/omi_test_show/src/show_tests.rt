@@ -105,7 +105,7 @@ pub fn expect(
 }
 
 /// The core with another byte at a place.
-fn with_byte(alloc: Global, core: &[u8], at: usize, byte: u8) -> Result<Vec<u8>, AllocError> {
+pub fn with_byte(alloc: Global, core: &[u8], at: usize, byte: u8) -> Result<Vec<u8>, AllocError> {
     let mut changed = Vec::new(alloc);
     changed.extend_from_slice(core)?;
     if at < changed.len() {
@@ -171,7 +171,7 @@ const OTHER_REPORTS: [(usize, u8, &str); 5] = [
 
 /// A pointer that leads to no live record, a size or a length that is out of range, and two chains that meet an address again. Each is refused at the
 /// first line that reads it.
-const DAMAGED: [(usize, u8, &str); 13] = [
+pub const DAMAGED: [(usize, u8, &str); 13] = [
     (40 + 8 * 114, 3, "damaged 0x10903 thread.cur\n"),
     (40 + 8 * 120, 3, "damaged 0x3 region.enclosing\n"),
     (40 + 8 * 122, 0, "damaged 0x103b0 region.size\n"),
@@ -188,7 +188,7 @@ const DAMAGED: [(usize, u8, &str); 13] = [
 ];
 
 /// Words by their place, each with what it is set to.
-const HOSTILE: [(usize, u64, &str); 4] = [
+pub const HOSTILE: [(usize, u64, &str); 4] = [
     (316, 0x109b0, "cycle 0x109b0\n"),
     (120, 0x103b0, "cycle 0x103b0\n"),
     (315, 0x90_0000, "damaged 0x900000 task.generating\n"),

@@ -12,20 +12,14 @@ use Rattle.omi_corefile.specs.Spelling.{Core}
 use Rattle.omi_corefile.specs.declared.core_image.CoreImage.{CoreImage}
 use Rattle.omi_corefile.proofs.FileLaws.{core_unique}
 use Rattle.omi_layout.proofs.OneAnswer.{one_layout}
-use Rattle.omi_model.specs.State.{State}
 use Rattle.omi_rep.specs.Shows.{Shows}
-use Rattle.omi_script.specs.declared.program.Program.{Program}
-use Rattle.omi_word.specs.Words.{Words}
 use Rattle.omi_top.specs.Answer.{Answer, Gives, IsAnswer, IsApproved, IsAuditAnswer, IsAuditOf, IsAuditRefusal, IsDoneOrFailed, IsLeft, IsRefused}
 use Rattle.omi_top.specs.Audit.{IsAudited, ShowsWhereYes, audit_line}
 use Rattle.omi_top.specs.Command.{Audit}
-use Rattle.omi_top.specs.Cores.{HasLayout, HasWrongTable, IsIncompatible, ShowsState, Spells, words_of_core}
+use Rattle.omi_top.specs.Cores.{HasLayout, HasWrongTable, IsIncompatible, ShowsReached, Spells, words_of_core}
 use Rattle.omi_top.proofs.AuditVerdicts.{Declining, all_declining, audited_layout, faulty, incompatible as incompatible_refused, layout_not_refused, missing, refused_by_show, says_wrong, wrong}
-use Rattle.omi_top.proofs.ImageWords.{image_words}
-use Rattle.omi_top.proofs.LeftByShow.{reached_shown}
 use Rattle.omi_top.proofs.ShowVerdicts.{HasFault, says_core, says_incompatible, says_missing}
 use Rattle.omi_top.proofs.Statuses.{DidMore, DoesMore, IsDoneStatus, one_content, comes_where, never_refused as nothing_refused, written_more}
-use Rattle.omi_verbs.specs.Cores.{IsReachedCore}
 use Rattle.omi_verbs.specs.Refusal.{status_of}
 use Rattle.omi_verbs.specs.Statuses.{ComesWhere, IsFaultStatus}
 use Rattle.omi_verbs.specs.declared.refusal.Refusal.{Refusal}
@@ -80,18 +74,18 @@ shown_where_yes image (Yes records) audited =
 shown_where_yes image (No addr field clause) audited = tt
 
 -- a core whose words show a state that events reach has no other verdict
-reached_not_no : (p : Program) (ids bytes : List ℕ) (s : State) (r : IsReachedCore p ids bytes s)
-    (addr field clause : ℕ) → IsAudited r.core_of.core (No addr field clause) → ⊥
-reached_not_no p ids bytes s r addr field clause audited =
-    let shown = reached_shown p ids bytes s r in
-    reached_yes audited.w (words_of_core r.core_of.core) audited.valid addr field clause audited.is
+reached_not_no : (image : CoreImage) → ShowsReached image → (addr field clause : ℕ)
+    → IsAudited image (No addr field clause) → ⊥
+reached_not_no image r addr field clause audited =
+    reached_yes audited.w (words_of_core image) audited.valid addr field clause audited.is
     (record {
-      program = p;
+      program = r.program;
       events = r.events;
-      state = s;
+      state = r.state;
       reached = r.reached;
-      shows = subst (λ (w : List ℕ). Shows w (words_of_core r.core_of.core) s)
-          (one_layout (words_of_core r.core_of.core) shown.w audited.w shown.shows.layout audited.layout) shown.shows;
+      shows =
+          subst (λ (w : List ℕ). Shows w (words_of_core image) r.state)
+          (one_layout (words_of_core image) r.w audited.w r.shows.layout audited.layout) r.shows;
     })
 
 module _ (core : List ℕ) (told : List ℕ → Told) (old new : Told) (counted : Type 0)
@@ -166,26 +160,23 @@ module _ (core : List ℕ) (told : List ℕ → Told) (old new : Told) (counted 
       put_by bytes is (subst (λ (x : Status). IsLeft (Audit core) told x old new counted out after) done left)
 
   -- of words that show a state which events reach the verdict is Yes
-  module _ (bytes : List ℕ) (is : told core ≡ Some (Some bytes)) (p : Program) (ids : List ℕ) (state : State)
-      (r : IsReachedCore p ids bytes state) where
+  module _ (bytes : List ℕ) (is : told core ≡ Some (Some bytes)) (image : CoreImage)
+      (spelled : Core bytes image) (r : ShowsReached image) where
     never_refused : {C : Type 0} (s : Status) → IsRefused (Audit core) told s old new counted out after → C
     never_refused s (why, same, written, answer, held, said) =
-        let shown = reached_shown p ids bytes state r in
         absurd
-        (layout_not_refused bytes why (r.core_of.core, r.core_of.spelled, (shown.w, shown.valid, shown.shows.layout))
-        (refusals core told (Some bytes) is written why answer))
+        (layout_not_refused bytes why (image, spelled, (r.w, r.valid, r.shows.layout)) (refusals core told (Some bytes) is written why answer))
 
-    approved_by : (image : CoreImage) (v : Verdict) → image ≡ r.core_of.core → IsAudited image v
-        → after ≡ put_on out (audit_line v) → IsApproved status.Success out after
-    approved_by image (Yes records) same audited put = (records, put)
-    approved_by image (No addr field clause) same audited put =
-        absurd (reached_not_no p ids bytes state r addr field clause
-        (subst (λ (c : CoreImage). IsAudited c (No addr field clause)) same audited))
+    approved_by : (v : Verdict) → IsAudited image v → after ≡ put_on out (audit_line v)
+        → IsApproved status.Success out after
+    approved_by (Yes records) audited put = (records, put)
+    approved_by (No addr field clause) audited put =
+        absurd (reached_not_no image r addr field clause audited)
 
     pub approved : (s : Status) → IsLeft (Audit core) told s old new counted out after → IsApproved s out after
     approved status.Success left =
-        let (image, v, spelled, audited, put, shows) = put_by bytes is left in
-        approved_by image v (core_unique bytes image r.core_of.core spelled r.core_of.spelled) audited put
+        let (other, v, also, audited, put, shows) = put_by bytes is left in
+        approved_by v (subst (λ (c : CoreImage). IsAudited c v) (core_unique bytes other image also spelled) audited) put
     approved status.ReadFault left = tt
     approved status.WriteFault left = tt
     approved status.OutOfMemory left = tt

@@ -91,7 +91,7 @@ looked_shown image v looked s shows =
     (one_view u v (one_looked image (Ok u) (Ok v) also looked)) view
 
 -- words that show a state which events reach are those of its core
-pub reached_shown : (p : Program) (ids bytes : List ℕ) (s : State) (r : IsReachedCore p ids bytes s)
+reached_shown : (p : Program) (ids bytes : List ℕ) (s : State) (r : IsReachedCore p ids bytes s)
     → ShowsState r.core_of.core s
 reached_shown p ids bytes s r = record {
   w = r.w;

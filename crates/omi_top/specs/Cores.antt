@@ -11,12 +11,15 @@ use Rattle.omi_layout.specs.Valid.{IsValid}
 use Rattle.omi_layout.specs.declared.fault.LayoutFault.TheVariants.{Version}
 use Rattle.omi_layout.specs.declared.reading.LayoutError.{LayoutError}
 use Rattle.omi_layout.specs.declared.reading.LayoutError.TheVariants as error
+use Rattle.omi_model.specs.Reached.{Reached}
 use Rattle.omi_model.specs.State.{State}
+use Rattle.omi_model.specs.declared.event.Event.{Event}
 use Rattle.omi_model.specs.declared.view.View.{View}
 use Rattle.omi_rep.specs.Look.{Look}
 use Rattle.omi_rep.specs.LookView.{look_view}
 use Rattle.omi_rep.specs.Shows.{Shows}
 use Rattle.omi_rep.specs.declared.fault.LookFault.{LookFault}
+use Rattle.omi_script.specs.declared.program.Program.{Program}
 use Rattle.omi_rep.specs.ShownLooks.{AreNames}
 
 -- the words of a core by their addresses: those of its segments, none at an unaligned address
@@ -36,6 +39,16 @@ pub record ShowsState (core : CoreImage) (s : State) : Type 0 where
   pub valid : IsValid w
   pub names : AreNames s
   pub shows : Shows w (words_of_core core) s
+
+-- the words of a core show a state that events of a program reach, in a valid layout
+pub record ShowsReached (core : CoreImage) : Type 0 where
+  pub w : List ℕ
+  pub valid : IsValid w
+  pub program : Program
+  pub events : List (ℕ × Event)
+  pub state : State
+  pub reached : Reached program events state
+  pub shows : Shows w (words_of_core core) state
 
 -- there is no layout table, or one of another version
 abbrev pub LacksTable : LayoutError → Type 0

@@ -37,7 +37,7 @@ fn judged(audited: Result<Verdict, AuditFault>) -> Result<Verdict, Refusal>
     }
 }
 
-/// The question whether the words of a core show some well-formed state.
+/// The question what the verdict on the words of a core is.
 #[derive(Drop)]
 struct VerdictWanted;
 

@@ -23,7 +23,7 @@ ghost use Rattle.omi_top.specs.Make.{IsMade, make_text};
 ghost use Rattle.omi_top.specs.Recode.{IsRecoded, recoded_line};
 ghost use Rattle.omi_audit.specs.declared.verdict.Verdict.{Verdict};
 ghost use Rattle.omi_top.specs.Audit.{IsAudited, ShowsWhereYes, audit_line};
-ghost use Rattle.omi_top.specs.Cores.{HasLayout, HasWrongTable, IsDamaged, IsIncompatible, IsLooked, ShowsState, Spells};
+ghost use Rattle.omi_top.specs.Cores.{HasLayout, HasWrongTable, IsDamaged, IsIncompatible, IsLooked, ShowsReached, ShowsState, Spells};
 ghost use Rattle.omi_verbs.specs.Cores.{IsReachedCore, thread_ids};
 ghost use Rattle.omi_corefile.specs.Spelling.{Core};
 ghost use Rattle.omi_corefile.specs.declared.core_image.CoreImage.{CoreImage};
@@ -138,7 +138,8 @@ fn carry_out<F: Files, W: Files, K: Sink>(
 /// writes a workload, runs it and prints how many tasks started; `show CORE` prints the report of a
 /// core; `run STEPS SCRIPT CORE` does what `stop` does, reads CORE back and prints its report as well;
 /// `recode ORDER CORE CORE2` writes a core anew, with the bytes of each word in the order 0 or 1;
-/// `audit CORE` prints whether a core's words show a well-formed state, or the first failure.
+/// `audit CORE` judges a core's words, and prints that they show a well-formed state, or the first
+/// clause of the audit that fails.
 /// It reads from `files` alone, writes to `dest` alone and prints to `out`.
 pub fn run_top<F: Files, W: Files, K: Sink>(
     alloc: Global,
@@ -244,7 +245,8 @@ pub fn run_top<F: Files, W: Files, K: Sink>(
         → (p : Program) (plan : Plan) (text : List ℕ) (run : IsStopped p plan bytes text)
         → IsShown run.state (thread_ids p.threads) result (K.told out.old) (K.told out.new) }
 
-    // And of any core whose words show a state that events of a program reach, whoever wrote it.
+    // And of any core of order 0 and one segment, as `stop` writes it, whose words show a state that
+    // events of a program reach, whoever wrote it.
     ensures shown_reached { (core bytes : List ℕ)
         → command_in words.now ≡ Show core → F.told files.old core ≡ Some (Some bytes)
         → (p : Program) (ids : List ℕ) (s : State) → IsReachedCore p ids bytes s
@@ -290,7 +292,7 @@ pub fn run_top<F: Files, W: Files, K: Sink>(
     // Where a core's words show a state that events of a program reach, the verdict is Yes.
     ensures audit_reached { (core bytes : List ℕ)
         → command_in words.now ≡ Audit core → F.told files.old core ≡ Some (Some bytes)
-        → (p : Program) (ids : List ℕ) (s : State) → IsReachedCore p ids bytes s
+        → (image : CoreImage) → Core bytes image → ShowsReached image
         → IsApproved result (K.told out.old) (K.told out.new) }
 
     // It refuses a file as `show` does, and of the words the layout table alone.

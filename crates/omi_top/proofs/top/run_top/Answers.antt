@@ -176,8 +176,8 @@ returns-in-Ok-clause-audits g c core bytes command told gives =
     (of_audit g c core (Some bytes) command told)
 
 pub returns-in-Ok-clause-audit_reached : goal.returns-in-Ok-clause-audit_reached
-returns-in-Ok-clause-audit_reached g c core bytes command told p ids s reached =
-    approved core (files g c) _ _ _ _ _ bytes told p ids s reached _
+returns-in-Ok-clause-audit_reached g c core bytes command told image spelled reached =
+    approved core (files g c) _ _ _ _ _ bytes told image spelled reached _
     (of_audit g c core (Some bytes) command told)
 
 pub returns-in-Ok-clause-audit_no_core : goal.returns-in-Ok-clause-audit_no_core
