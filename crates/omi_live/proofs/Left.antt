@@ -16,7 +16,7 @@ use Rattle.omi_verbs.specs.declared.refusal.Input.TheVariants as input
 use Rattle.omi_verbs.specs.declared.refusal.Refusal.{Refusal}
 use Rattle.omi_verbs.specs.declared.refusal.Refusal.TheVariants as refusal
 use Rattle.omi_live.specs.Answer.{IsLiveAnswer, IsLiveAnswered, IsLiveLeft, IsLivePartlyDone}
-use Rattle.omi_live.specs.Command.{LiveCommand}
+use Rattle.omi_live.specs.Command.{LiveCommand, names_of}
 use Rattle.omi_live.specs.Run.{IsLiveRun}
 
 -- the text has a fault
@@ -86,7 +86,7 @@ module _ (command : LiveCommand) (old new : Told) (counted : Type 0) (out after 
   -- ---- after a refusal
 
   refused_left : (content : Option (List ℕ)) (r : Refusal) → IsScriptRefusal content r → new ≡ old
-      → IsSaid (refusal_line command.script command.core r) counted out after
+      → IsSaid (refusal_line (names_of command) r) counted out after
       → IsLiveLeft command content (status_of r) old new counted out after
   refused_left None r is same said =
       subst (λ (x : Refusal). IsLiveLeft command None (status_of x) old new counted out after) (sym is)
@@ -96,17 +96,17 @@ module _ (command : LiveCommand) (old new : Told) (counted : Type 0) (out after 
       (sym is) (r, ap status_of is, (fault, why, is), same, said)
 
   unread_left : (content : Option (List ℕ)) (r : Refusal) → IsUnread input.Script r → new ≡ old
-      → IsSaid (refusal_line command.script command.core r) counted out after
+      → IsSaid (refusal_line (names_of command) r) counted out after
       → IsLiveLeft command content (status_of r) old new counted out after
   unread_left content r (inl failed) same said =
       subst (λ (x : Refusal). IsLiveLeft command content (status_of x) old new counted out after) (sym failed)
-      (same, subst (λ (x : Refusal). IsSaid (refusal_line command.script command.core x) counted out after) failed said)
+      (same, subst (λ (x : Refusal). IsSaid (refusal_line (names_of command) x) counted out after) failed said)
   unread_left content r (inr memory) same said =
       subst (λ (x : Refusal). IsLiveLeft command content (status_of x) old new counted out after) (sym memory)
-      (inl (same, subst (λ (x : Refusal). IsSaid (refusal_line command.script command.core x) counted out after) memory said))
+      (inl (same, subst (λ (x : Refusal). IsSaid (refusal_line (names_of command) x) counted out after) memory said))
 
   pub err_left : (content : Option (List ℕ)) (r : Refusal) → IsLiveAnswered command content (Err r) old new
-      → IsSaid (refusal_line command.script command.core r) counted out after
+      → IsSaid (refusal_line (names_of command) r) counted out after
       → IsLiveLeft command content (status_of r) old new counted out after
   err_left content r (inl (inl refuses, same)) said = refused_left content r refuses same said
   err_left content r (inl (inr unread, same)) said = unread_left content r unread same said

@@ -11,7 +11,7 @@ use Rattle.omi_verbs.specs.Scripts.{IsOfScript, IsProgramIn, IsScriptRefusal}
 use Rattle.omi_verbs.specs.declared.refusal.Input.TheVariants as input
 use Rattle.omi_verbs.specs.declared.refusal.Refusal.{Refusal}
 use Rattle.omi_verbs.specs.declared.refusal.Refusal.TheVariants as refusal
-use Rattle.omi_live.specs.Command.{LiveCommand}
+use Rattle.omi_live.specs.Command.{LiveCommand, names_of}
 use Rattle.omi_live.specs.Run.{IsLiveRun}
 
 -- the core and the text of a run of the program that is in the script
@@ -58,12 +58,12 @@ abbrev pub IsLiveRefused : LiveCommand → Option (List ℕ) → Status → Told
     → Option (List ℕ) → Type 0
 IsLiveRefused command content status old new counted out after =
     (r : Refusal) × (status_of r ≡ status) × IsScriptRefusal content r × (new ≡ old)
-    × IsSaid (refusal_line command.script command.core r) counted out after
+    × IsSaid (refusal_line (names_of command) r) counted out after
 
 -- the script can't be read, and the line with its name is said
 abbrev pub IsLiveReadFailed : LiveCommand → Told → Told → Type 0 → Option (List ℕ) → Option (List ℕ) → Type 0
 IsLiveReadFailed command old new counted out after = (new ≡ old)
-    × IsSaid (refusal_line command.script command.core (refusal.ReadFault input.Script)) counted out after
+    × IsSaid (refusal_line (names_of command) (refusal.ReadFault input.Script)) counted out after
 
 -- What a call with this status leaves, where a line that isn't put is counted by the sink. No core is refused, as none is read
 abbrev pub IsLiveLeft : LiveCommand → Option (List ℕ) → Status → Told → Told → Type 0 → Option (List ℕ)

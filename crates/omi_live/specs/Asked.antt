@@ -9,8 +9,8 @@ use Rattle.omi_live.specs.declared.command.Request.{Request}
 abbrev pub asked : Request → LiveCommand
 asked request = record {
   plan = request.plan;
-  script = request.names.script.now;
-  core = request.names.core.now;
+  script = request.script.now;
+  core = request.core.now;
 }
 
 -- the layout is one of the families, and the budget is not too large

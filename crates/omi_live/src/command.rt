@@ -4,7 +4,8 @@ ghost use Rattle.std.specs.Prelude.{◌≡◌, option_and_then, IfSome};
 ghost use Rattle.std.specs.Option.{option_map};
 ghost use Rattle.omi_line.specs.Line.{IsText};
 ghost use Rattle.omi_live.specs.Asked.{asked, IsPossible};
-ghost use Rattle.omi_live.specs.Command.{live_break_of, live_command_by, live_plan_of};
+ghost use Rattle.omi_live.specs.Command.{live_break_of, live_command_by, live_plan_of, names_of};
+ghost use Rattle.omi_verbs.specs.Refusal.{named};
 
 use omi_core::Break;
 use omi_line::{Line, Text, number};
@@ -26,7 +27,21 @@ pub struct LivePlan {
 #[derive(Clone, Copy)]
 pub struct Request<'a> {
     pub plan: LivePlan,
-    pub names: Names<'a>,
+    pub script: &'a str,
+    pub core: &'a str,
+}
+
+impl<'a> Request<'a> {
+    /// The names of its files.
+    pub fn names(&self) -> Names<'a>
+        ensures { named result ≡ names_of (asked self.now) }
+    {
+        Names {
+            script: self.script,
+            core: self.core,
+            later: "",
+        }
+    }
 }
 
 /// What `--break` says, if it is there. None where there is no such breakpoint.
@@ -67,10 +82,8 @@ fn request_by(line: &Line) -> Option<Request<'_>>
     }
     Some(Request {
         plan: plan_of(budget, line)?,
-        names: Names {
-            script: text_of(script),
-            core: text_of(core),
-        },
+        script: text_of(script),
+        core: text_of(core),
     })
 }
 

@@ -13,7 +13,7 @@ ghost use Rattle.omi_live.specs.Answer.{IsLiveAnswered, IsLiveLeft, IsOfRun, IsL
 ghost use Rattle.omi_live.specs.Asked.{asked, IsPossible};
 ghost use Rattle.omi_live.specs.Causes.{LiveConcluded};
 ghost use Rattle.omi_verbs.specs.Seen.{files_seen, output_seen};
-ghost use Rattle.omi_live.specs.Command.{LiveCommand, LiveWrites, live_command_in};
+ghost use Rattle.omi_live.specs.Command.{LiveCommand, LiveWrites, live_command_in, names_of};
 ghost use Rattle.omi_live.specs.Run.{IsLiveRun};
 
 use crate::command::{Request, request_of};
@@ -46,9 +46,9 @@ fn perform<R: Threads + Sync, F: Files, G: Gate>(
     ensures others { let command = asked request.entry in (other : List ℕ) → other ≢ command.core
         → F.told files.new other ≡ F.told files.old other }
 {
-    let p = program_of(alloc, request.names.script, files)?;
+    let p = program_of(alloc, request.script, files)?;
     let (core, text) = run_of(rt, alloc, &p, request.plan, gate)?;
-    write_whole(files, request.names.core, &core)?;
+    write_whole(files, request.core, &core)?;
     Ok(text.into_bytes())
 }
 
@@ -64,8 +64,7 @@ fn carry_out_in<R: Threads + Sync, F: Files, K: Sink, G: Gate>(
 ) -> Status
     requires possible { IsPossible request.plan }
     requires empty { string_bytes room.old ≡ [] }
-    requires enough { HasRoom request.names.script.now request.names.core.now
-        (string_capacity room.old) }
+    requires enough { HasRoom (names_of (asked request)) (string_capacity room.old) }
     ensures { LiveConcluded (asked request.entry) result
         (files_seen (F.told files.old) (F.reads files.old) (F.writes files.old))
         (files_seen (F.told files.new) (F.reads files.new) (F.writes files.new))
@@ -74,7 +73,7 @@ fn carry_out_in<R: Threads + Sync, F: Files, K: Sink, G: Gate>(
 {
     match perform(rt, alloc, request, files, gate) {
         Ok(text) => print(&text, out),
-        Err(refusal) => refuse(request.names, refusal, room, out),
+        Err(refusal) => refuse(request.names(), refusal, room, out),
     }
 }
 
@@ -94,7 +93,7 @@ fn carry_out<R: Threads + Sync, F: Files, K: Sink, G: Gate>(
         (output_seen (K.told out.old) (K.faults out.old) (K.wants out.old))
         (output_seen (K.told out.new) (K.faults out.new) (K.wants out.new)) }
 {
-    match room_for(alloc, request.names) {
+    match room_for(alloc, request.names()) {
         Ok(mut room) => carry_out_in(rt, alloc, request, &mut room, files, out, gate),
         Err(_) => Status::OutOfMemory,
     }

@@ -9,6 +9,7 @@ use Rattle.omi_layout.specs.declared.limits.TheConstants.{TABLE_WORDS}
 use Rattle.omi_word.specs.Words.{Words}
 use Rattle.omi_layout.specs.Given.{GivesLayout}
 use Rattle.omi_layout.specs.NoLayout.{GivesNone, table_address}
+use Rattle.omi_layout.specs.Valid.{IsValid}
 use Rattle.omi_session.specs.declared.rc.Rc.{Rc}
 use Rattle.omi_session.specs.declared.rc.Rc.TheVariants.{Error, Incompatible, CallbackError}
 
@@ -35,9 +36,10 @@ pub record IsCause (memory : Words) (rc : Rc) : Type 0 where
 abbrev pub Refuses : Words → Rc → Type 0
 Refuses memory rc = rc ≢ CallbackError → IsCause memory rc
 
--- the words give another layout than this one
+-- the words give another layout than this one, which is valid
 pub record IsOther (before : List ℕ) (memory : Words) : Type 0 where
   pub layout : List ℕ
+  pub valid : IsValid layout
   pub gives : GivesLayout memory layout
   pub differs : layout ≢ before
 

@@ -34,6 +34,7 @@ words_of_file (refusal.Script fault) comes = comes
 words_of_file refusal.Usage comes = comes
 words_of_file (refusal.NoFile input.Script) comes = comes
 words_of_file (refusal.NoFile input.Core) comes = tt
+words_of_file (refusal.NoFile input.Later) comes = comes
 words_of_file (refusal.ReadFault read) comes = comes
 words_of_file refusal.WriteFault comes = comes
 words_of_file (refusal.Core at why) comes = tt

@@ -4,8 +4,8 @@ use Rattle.std.specs.Global.{Vec}
 use Rattle.omi_outside.specs.Outside.{Told, IsPutCut, put_on}
 use Rattle.omi_outside.specs.declared.status.Status.{Status}
 use Rattle.omi_outside.specs.declared.status.Status.TheVariants as status
-use Rattle.omi_top.specs.Command.{Command, Stop, Make, Show, Run, Recode, Audit, Faulty, core_name, script_name, written_name}
-use Rattle.omi_top.specs.Answer.{Answer, Gives, AreTold, IsAnswer, IsAuditAnswer, IsStopAnswer, IsMakeAnswer, IsRecodeAnswer, IsRunAnswer, IsShowAnswer, IsAnswered, IsLeft}
+use Rattle.omi_top.specs.Command.{Command, Stop, Make, Show, Run, Recode, Audit, Follow, Faulty, names_of, written_name}
+use Rattle.omi_top.specs.Answer.{Answer, Gives, AreTold, IsAnswer, IsAuditAnswer, IsFollowAnswer, IsStopAnswer, IsMakeAnswer, IsRecodeAnswer, IsRunAnswer, IsShowAnswer, IsAnswered, IsLeft}
 use Rattle.omi_verbs.specs.Said.{IsSaid}
 use Rattle.omi_top.specs.declared.plan.Plan.{Plan}
 use Rattle.omi_layout.specs.declared.fault.LayoutFault.TheVariants.{Version, Overlap, OutOfRecord, BadArena}
@@ -14,6 +14,7 @@ use Rattle.omi_layout.specs.declared.reading.LayoutError.TheVariants as layout
 use Rattle.omi_rep.specs.declared.fault.LookFault.{LookFault}
 use Rattle.omi_rep.specs.declared.fault.LookFault.TheVariants as look
 use Rattle.omi_verbs.specs.Refusal.{refusal_line, status_of}
+use Rattle.omi_top.specs.Follow.{IsLaterRefusal}
 use Rattle.omi_top.specs.Questions.{refusal_of_layout}
 use Rattle.omi_top.specs.Shown.{refusal_of_look}
 use Rattle.omi_verbs.specs.Statuses.{IsPrinting}
@@ -87,6 +88,25 @@ audit_proper (Some bytes) None r fault (inr (core, spelled, (e, none, is))) =
 audit_proper None (Some core) r fault is = is
 audit_proper (Some bytes) (Some core) r fault is = is
 
+follow_proper : (content others core : Option (List ℕ)) (r : Refusal) → is_fault r ≡ true
+    → IsFollowAnswer content others (Gives core (Err r)) → ⊥
+follow_proper None others None r fault is = another r _ fault is refl
+follow_proper (Some bytes) others None r fault (inl refused) = show_proper (Some bytes) None r fault refused
+follow_proper (Some bytes) others None r fault (inr (v, (first, spelled, (looked, refused)))) =
+    later_proper others refused
+  where
+    later_proper : (o : Option (List ℕ)) → IsLaterRefusal first o r → ⊥
+    later_proper None is = another r _ fault is refl
+    later_proper (Some bytes) (inl (at, why, refused, is)) = another r _ fault is refl
+    later_proper (Some bytes) (inr (later, spells, inl (e, none, is))) =
+        another r (refusal_of_layout e) fault is (layout_proper e)
+    later_proper (Some bytes) (inr (later, spells, inr (inl (unlike, is)))) = another r _ fault is refl
+    later_proper (Some bytes) (inr (later, spells, inr (inr (e, followed, is)))) =
+        another r (refusal_of_look e) fault is (look_proper e)
+follow_proper None others (Some core) r fault is = is
+follow_proper (Some bytes) None (Some core) r fault is = is
+follow_proper (Some bytes) (Some other) (Some core) r fault is = is
+
 -- what the answer to refused words says
 abbrev said_of : Answer → Refusal
 said_of (Gives core (Ok text)) = refusal.Usage
@@ -103,6 +123,8 @@ proper (Run plan script written) told core r fault (text, here, content, is, ans
 proper (Recode order read copy) told core r fault (content, is, answer) =
     recode_proper order content core r fault answer
 proper (Audit written) told core r fault (content, is, answer) = audit_proper content core r fault answer
+proper (Follow first later) told core r fault (content, is, others, here, answer) =
+    follow_proper content others core r fault answer
 proper Faulty told core r fault is = another r refusal.Usage fault (ap said_of is) refl
 
 module _ (command : Command) (told : List ℕ → Told) (old new : Told) (counted : Type 0)
@@ -128,7 +150,7 @@ module _ (command : Command) (told : List ℕ → Told) (old new : Told) (counte
 
   -- after a refusal
   pub err_left : (r : Refusal) → IsAnswered command told (Err r) old new
-      → IsSaid (refusal_line (script_name command) (core_name command) r) counted out after
+      → IsSaid (refusal_line (names_of command) r) counted out after
       → IsLeft command told (status_of r) old new counted out after
   err_left refusal.Usage (inl (core, is, held)) said = (refusal.Usage, refl, core, is, held, said)
   err_left refusal.Usage (inr (inl (early, same))) said = absurd early

@@ -18,8 +18,14 @@ pub mod ShowVerdicts
 pub mod Recoded
 pub mod LeftByShow
 pub mod Auditing
+pub mod Fates
+pub mod Following
 pub mod AuditVerdicts
 pub mod LeftByAudit
+pub mod FollowVerdicts
+pub mod Between
+pub mod TwoStops
+pub mod LeftByFollow
 pub mod RunAnswers
 pub mod LeftByRun
 pub mod Promised

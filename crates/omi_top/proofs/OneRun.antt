@@ -36,7 +36,7 @@ use Rattle.omi_script.proofs.OneProgram.{one_program}
 use Rattle.omi_core.proofs.Played.{are_left, are_played, front_of_threads, front_played, left_by, played}
 
 -- the events of steps and of further ones
-events_more : (n : ℕ) (xs ys : List (ℕ × Entry))
+pub events_more : (n : ℕ) (xs ys : List (ℕ × Entry))
     → events_behind n (xs ++ ys) ≡ events_behind n xs ++ events_behind (n + length xs) ys
 events_more n [] ys = ap (λ m. events_behind m ys) (let same : n ≡ n + 0 = omega arith in same)
 events_more n (x ∷ xs) ys =
@@ -50,9 +50,9 @@ module _ (p : Program) (w first : List ℕ) (plan : Plan) where
   abbrev plays : ℕ → List (ℕ × Entry)
   plays n = played p w first (opening_actor p) (threads_by (thread_schedule plan.seed) p.threads n)
 
-  more_plays : (n m : ℕ) → n < m → (zs : List (ℕ × Entry)) × (plays m ≡ plays n ++ zs)
-  more_plays n m less =
-      let all : m ≡ n + (m - n) = omega (arith, less) in
+  more_plays : (n m : ℕ) → n ≤ m → (zs : List (ℕ × Entry)) × (plays m ≡ plays n ++ zs)
+  more_plays n m least =
+      let all : m ≡ n + (m - n) = omega (arith, least) in
       let (js, threads) = front_of_threads (thread_schedule plan.seed) p.threads n (m - n) in
       let (zs, same) =
       front_played p w first (opening_actor p) (threads_by (thread_schedule plan.seed) p.threads n) js in
@@ -62,11 +62,34 @@ module _ (p : Program) (w first : List ℕ) (plan : Plan) where
       → length ys ≤ plan.stop.steps
       → IsEnded plan.stop (length xs) (length xs) (events_behind 0 xs) why → IsEnded plan.stop (length ys) (length ys) (events_behind 0 ys) end → length xs < length ys → ⊥
   not_longer xs ys why end x y few ended later less =
-      let (zs, more) = more_plays (length xs) (length ys) less in
+      let (zs, more) = more_plays (length xs) (length ys) (omega (arith, less)) in
       let is : ys ≡ xs ++ zs = y ∙ more ∙ ap (λ fs. fs ++ zs) (sym x) in
       no_later plan.stop (length xs) (length ys) (events_behind 0 xs)
       (events_behind (0 + length xs) zs) why end less few ended
       (subst (λ (es : List (ℕ × ℕ × Event)). IsEnded plan.stop (length ys) (length ys) es end) (ap (events_behind 0) is ∙ events_more 0 xs zs) later)
+
+-- the steps of a run are those by its plan
+run_plays : (w : List ℕ) (p : Program) (plan : Plan) (xs : List (ℕ × Entry)) (why : End) (words : List ℕ) (s : State)
+    (x : IsRun w p plan xs why words s) → xs ≡ plays p w x.steps.first plan (length xs)
+run_plays w p plan xs why words s x =
+    are_played p w x.steps.first [] _ opening_watches xs words s x.steps.watches
+    (opening_actor p) x.steps.steps x.follow
+    ∙ ap (played p w x.steps.first (opening_actor p)) x.threads
+
+-- of two runs in one layout by one order of the threads, the longer one begins with the steps of the other
+pub later_steps : (w : List ℕ) (p : Program) (plan next : Plan) (xs ys : List (ℕ × Entry)) (why end : End) (words others : List ℕ) (s t : State)
+    → IsValid w → IsRun w p plan xs why words s → IsRun w p next ys end others t → plan.seed ≡ next.seed
+    → length xs ≤ length ys → (zs : List (ℕ × Entry)) × (ys ≡ xs ++ zs)
+later_steps w p plan next xs ys why end words others s t v x y seeds least =
+    let opens = one_opening p w v y.steps.first x.steps.first y.steps.opens x.steps.opens in
+    let (zs, more) = more_plays p w x.steps.first plan (length xs) (length ys) least in (
+      zs,
+      run_plays w p next ys end others t y
+          ∙ ap (λ first. plays p w first next (length ys)) opens
+          ∙ ap (λ seed. played p w x.steps.first (opening_actor p) (threads_by (thread_schedule seed) p.threads (length ys))) (sym seeds)
+          ∙ more
+          ∙ ap (λ fs. fs ++ zs) (sym (run_plays w p plan xs why words s x)),
+    )
 
 module _ (w : List ℕ) (p : Program) (plan : Plan) (xs ys : List (ℕ × Entry)) (why end : End)
     (words others : List ℕ) (s t : State) (v : IsValid w)
@@ -75,16 +98,11 @@ module _ (w : List ℕ) (p : Program) (plan : Plan) (xs ys : List (ℕ × Entry)
   same_first = one_opening p w v y.steps.first x.steps.first y.steps.opens x.steps.opens
 
   x_plays : xs ≡ plays p w x.steps.first plan (length xs)
-  x_plays =
-      are_played p w x.steps.first [] _ opening_watches xs words s x.steps.watches
-      (opening_actor p) x.steps.steps x.follow
-      ∙ ap (played p w x.steps.first (opening_actor p)) x.threads
+  x_plays = run_plays w p plan xs why words s x
 
   y_plays : ys ≡ plays p w x.steps.first plan (length ys)
   y_plays =
-      are_played p w y.steps.first [] _ opening_watches ys others t y.steps.watches
-      (opening_actor p) y.steps.steps y.follow
-      ∙ ap (played p w y.steps.first (opening_actor p)) y.threads
+      run_plays w p plan ys end others t y
       ∙ ap (λ first. plays p w first plan (length ys)) same_first
 
   as_long : length xs ≡ length ys

@@ -14,7 +14,7 @@ use Rattle.omi_layout.specs.declared.reading.LayoutError.TheVariants as error
 use Rattle.omi_model.specs.declared.view.View.{View}
 use Rattle.omi_rep.specs.LookView.{look_view}
 use Rattle.omi_rep.specs.declared.fault.LookFault.TheVariants as look
-use Rattle.omi_session.specs.Opening.{IsCause, IsRefusal, Refuses, cause_code}
+use Rattle.omi_session.specs.Opening.{IsCause, Refuses, cause_code}
 use Rattle.omi_session.specs.Tells.{Tells}
 use Rattle.omi_session.specs.declared.rc.Rc.{Rc}
 use Rattle.omi_session.specs.declared.rc.Rc.TheVariants as code
@@ -43,6 +43,12 @@ code_refusal (error.Refused addr (Overlap f g)) = refl
 code_refusal (error.Refused addr (OutOfRecord f)) = refl
 code_refusal (error.Refused addr (BadArena p)) = refl
 
+-- the words give no layout, and the code says why
+pub cause_refusal : (core : CoreImage) (rc : Rc) → IsCause (words_of_core core) rc
+    → IsLayoutRefusal core (refusal_of_code rc)
+cause_refusal core rc cause =
+    (cause.error, cause.gives_none, ap refusal_of_code cause.is ∙ code_refusal cause.error)
+
 -- the words give no layout, or a callback failed
 pub open_refused : (core : CoreImage) (told : Told) (rc : Rc) → told ≡ told_by core
     → ((memory : Words) → Tells told memory → told.sizes ≡ usual_sizes → Refuses memory rc)
@@ -50,15 +56,9 @@ pub open_refused : (core : CoreImage) (told : Told) (rc : Rc) → told ≡ told_
 open_refused core told rc is words =
     go rc (words (words_of_core core) (tells_core core told is) (ap (λ (t : Told). t.sizes) is))
   where
-    by_cause : (r : Rc) → IsCause (words_of_core core) r → IsLayoutRefusal core (refusal_of_code r)
-    by_cause r cause =
-        (cause.error, cause.gives_none, ap refusal_of_code cause.is ∙ code_refusal cause.error)
-
     go : (r : Rc) → Refuses (words_of_core core) r → IsUnopened core (refusal_of_code r)
-    go code.Incompatible refuses = inl (by_cause code.Incompatible (refuses (λ failed. cc failed)))
-    go (code.Error addr field) refuses =
-        inl (by_cause (code.Error addr field) (refuses (λ failed. cc failed)))
-    go r refuses = inr refl
+    go code.CallbackError refuses = inr refl
+    go r refuses = inl (cause_refusal core r (refuses (λ failed. cc failed)))
 
 -- a core over which there is no session has no view
 pub unopened_viewed : (core : CoreImage) (r : Refusal) → IsUnopened core r → IsViewed core (Err r)
@@ -66,15 +66,14 @@ unopened_viewed core r (inl refused) = inl (inl refused)
 unopened_viewed core r (inr failed) = inr (inl failed)
 
 pub code_of_words : (rc : Rc) → ComesOfWords (refusal_of_code rc)
-code_of_words code.Incompatible = tt
+code_of_words code.CallbackError = inl refl
 code_of_words (code.Error addr field) = tt
-code_of_words rc = inl refl
+code_of_words rc = tt
 
-pub read_failed : (rc : Rc) → IsRefusal rc → IsReadFault (refusal_of_code rc) → rc ≡ code.CallbackError
-read_failed code.CallbackError refused read = refl
-read_failed code.Incompatible refused read = absurd read
-read_failed (code.Error addr field) refused read = absurd read
-read_failed rc refused read = absurd refused
+pub read_failed : (rc : Rc) → IsReadFault (refusal_of_code rc) → rc ≡ code.CallbackError
+read_failed code.CallbackError read = refl
+read_failed (code.Error addr field) read = absurd read
+read_failed rc read = absurd read
 
 -- what a walk over the words of a core answers, where no callback fails and there is memory
 abbrev pub Walked : CoreImage → Result View WalkFault → Type 0

@@ -39,7 +39,7 @@ one_looked core x y a b =
     (one_layout (words_of_core core) a.w b.w a.layout b.layout)
     ∙ b.is
 
-one_fault : (e f : LookFault) → (let failed : LookFault → Look View = λ x. Err x in failed e ≡ failed f) → e ≡ f
+pub one_fault : (e f : LookFault) → (let failed : LookFault → Look View = λ x. Err x in failed e ≡ failed f) → e ≡ f
 one_fault e f same = cc
 
 pub one_view : (u v : View) → (let gives : View → Look View = λ x. Ok x in gives u ≡ gives v) → u ≡ v
@@ -59,7 +59,7 @@ one_of_core core r s (inr (e, a, p)) (inr (f, b, q)) =
     p ∙ ap refusal_of_look (one_fault e f (one_looked core (Err e) (Err f) a b)) ∙ sym q
 
 -- the refusal of a file's bytes
-abbrev said_by : {A : Type 0} → Result A Reason → Refusal
+abbrev pub said_by : {A : Type 0} → Result A Reason → Refusal
 said_by (Err reason) = refusal.Core reason.0 reason.1
 said_by (Ok x) = refusal.Usage
 

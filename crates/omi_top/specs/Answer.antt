@@ -21,7 +21,7 @@ use Rattle.omi_verbs.specs.declared.refusal.Input.{Input}
 use Rattle.omi_verbs.specs.declared.refusal.Input.TheVariants as input
 use Rattle.omi_verbs.specs.declared.refusal.Refusal.{Refusal}
 use Rattle.omi_verbs.specs.declared.refusal.Refusal.TheVariants as refusal
-use Rattle.omi_top.specs.Command.{Command, Stop, Make, Show, Run, Recode, Audit, Faulty, ReadsBack, ReadsFirst, WritesLast, core_name, script_name}
+use Rattle.omi_top.specs.Command.{Command, Stop, Make, Show, Run, Recode, Audit, Follow, Faulty, ReadsBack, ReadsFirst, WritesLast, names_of}
 use Rattle.omi_text.specs.Report.{report}
 use Rattle.omi_verbs.specs.Cores.{IsCoreOf, thread_ids}
 use Rattle.omi_audit.specs.declared.verdict.Verdict.{Verdict}
@@ -30,6 +30,7 @@ use Rattle.omi_top.specs.Cores.{IsLooked, Spells}
 use Rattle.omi_top.specs.Questions.{IsCoreRefusal, IsLayoutRefusal}
 use Rattle.omi_top.specs.Shown.{IsRefusedCore}
 use Rattle.omi_top.specs.Audit.{IsAudited, audit_line}
+use Rattle.omi_top.specs.Follow.{IsFollowed, IsLaterRefusal}
 use Rattle.omi_top.specs.Lines.{run_text}
 use Rattle.omi_top.specs.Make.{IsMade, make_text}
 use Rattle.omi_top.specs.Recode.{IsRecoded, recoded_line}
@@ -129,6 +130,21 @@ IsAuditAnswer content (Gives None (Err r)) = IsAuditRefusal content r
 IsAuditAnswer (Some bytes) (Gives None (Ok text)) = IsAuditOf bytes text
 IsAuditAnswer content answer = ⊥
 
+-- why `follow` refuses, by the contents of both files: the first is refused as `show` refuses it; or it has a report, and the second is missing or
+-- no core, gives no layout or another, or has lost a word of a task that is followed
+abbrev pub IsFollowRefusal : Option (List ℕ) → Option (List ℕ) → Refusal → Type 0
+IsFollowRefusal None content r = IsShowRefusal None r
+IsFollowRefusal (Some bytes) content r =
+    IsShowRefusal (Some bytes) r
+    ⊎ ((v : View) × Spells bytes (λ core. IsLooked core (Ok v) × IsLaterRefusal core content r))
+
+-- an answer of `follow`, by the contents of both files: a refusal, or what becomes of each task of the first core's report
+abbrev pub IsFollowAnswer : Option (List ℕ) → Option (List ℕ) → Answer → Type 0
+IsFollowAnswer content later (Gives None (Err r)) = IsFollowRefusal content later r
+IsFollowAnswer (Some bytes) (Some others) (Gives None (Ok text)) =
+    Spells bytes (λ core. Spells others (λ later. IsFollowed core later (Ok text)))
+IsFollowAnswer content later answer = ⊥
+
 -- the content of each file that a command reads is told
 abbrev pub AreTold : Command → (List ℕ → Told) → Type 0
 AreTold (Stop plan script core) told = (content : Option (List ℕ)) × (told script ≡ Some content)
@@ -138,6 +154,8 @@ AreTold (Run plan script core) told = ((content : Option (List ℕ)) × (told sc
     × ((content : Option (List ℕ)) × (told core ≡ Some content))
 AreTold (Recode order core copy) told = (content : Option (List ℕ)) × (told core ≡ Some content)
 AreTold (Audit core) told = (content : Option (List ℕ)) × (told core ≡ Some content)
+AreTold (Follow core later) told = ((content : Option (List ℕ)) × (told core ≡ Some content))
+    × ((content : Option (List ℕ)) × (told later ≡ Some content))
 AreTold Faulty told = ⊤
 
 -- an answer of a command, by what is told of the files that it reads
@@ -153,6 +171,8 @@ IsAnswer (Recode order core copy) told answer = (content : Option (List ℕ))
     × (told core ≡ Some content) × IsRecodeAnswer order content answer
 IsAnswer (Audit core) told answer = (content : Option (List ℕ)) × (told core ≡ Some content)
     × IsAuditAnswer content answer
+IsAnswer (Follow core later) told answer = (content : Option (List ℕ)) × (told core ≡ Some content)
+    × (others : Option (List ℕ)) × (told later ≡ Some others) × IsFollowAnswer content others answer
 IsAnswer Faulty told answer = answer ≡ Gives None (Err refusal.Usage)
 
 -- a fault before anything is written, of a file that the command reads or of memory; one while its file is written; and one after that,
@@ -215,7 +235,7 @@ abbrev pub IsRefused : Command → (List ℕ → Told) → Status → Told → T
 IsRefused command told status old new counted out after =
     (r : Refusal) × (status_of r ≡ status) × (core : Option (List ℕ))
     × IsAnswer command told (Gives core (Err r)) × Holds core old new
-    × IsSaid (refusal_line (script_name command) (core_name command) r) counted out after
+    × IsSaid (refusal_line (names_of command) r) counted out after
 
 -- a file that the command reads can't be read, before anything is written or after all is, and the line with that file's name is said
 abbrev pub IsReadFailed : Command → (List ℕ → Told) → Told → Told → Type 0 → Option (List ℕ)
@@ -223,7 +243,7 @@ abbrev pub IsReadFailed : Command → (List ℕ → Told) → Told → Told → 
 IsReadFailed command told old new counted out after = (read : Input)
     × ((ReadsFirst command read × (new ≡ old))
     ⊎ (ReadsBack command read × IsWritten command told old new))
-    × IsSaid (refusal_line (script_name command) (core_name command) (refusal.ReadFault read)) counted out after
+    × IsSaid (refusal_line (names_of command) (refusal.ReadFault read)) counted out after
 
 -- memory ran out before anything was written, or after all was and before anything was put
 abbrev pub IsUnsaid : Command → (List ℕ → Told) → Told → Told → Option (List ℕ) → Option (List ℕ)

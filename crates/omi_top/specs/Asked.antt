@@ -2,7 +2,7 @@
 use Rattle.std.specs.Prelude.{◌≡◌, ◌≤◌, ℕ, List, IfSome, ⊤}
 use Rattle.omi_verbs.specs.declared.limits.TheConstants.{MOST_LAYOUT}
 use Rattle.omi_top.specs.declared.limits.TheConstants.{MOST_NODES}
-use Rattle.omi_top.specs.Command.{Command, Stop, Make, Show, Run, Recode, Audit, Faulty}
+use Rattle.omi_top.specs.Command.{Command, Stop, Make, Show, Run, Recode, Audit, Follow, Faulty}
 use Rattle.omi_top.specs.Make.{make_text}
 use Rattle.omi_top.specs.declared.plan.Plan.{Plan}
 use Rattle.omi_top.specs.declared.command.Request.{Request}
@@ -15,6 +15,7 @@ asked (request.Show core) = Show core.now
 asked (request.Run plan script core) = Run plan script.now core.now
 asked (request.Recode order core copy) = Recode order core.now copy.now
 asked (request.Audit core) = Audit core.now
+asked (request.Follow core later) = Follow core.now later.now
 asked request.Faulty = Faulty
 
 -- The layout is one of the families, and the event at which the run stops is the first of its kind or a later one
@@ -39,4 +40,5 @@ IsBounded (request.Show core) = ⊤
 IsBounded (request.Run plan script core) = IsPossible plan
 IsBounded (request.Recode order core copy) = order ≤ 1
 IsBounded (request.Audit core) = ⊤
+IsBounded (request.Follow core later) = ⊤
 IsBounded request.Faulty = ⊤

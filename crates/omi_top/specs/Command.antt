@@ -9,6 +9,7 @@ use Rattle.omi_top.specs.declared.limits.TheConstants.{MOST_NODES}
 use Rattle.omi_top.specs.declared.plan.Plan.{Plan}
 use Rattle.omi_outside.specs.declared.status.Status.{Status}
 use Rattle.omi_outside.specs.declared.status.Status.TheVariants as status
+use Rattle.omi_verbs.specs.Refusal.{Named}
 use Rattle.omi_verbs.specs.declared.refusal.Input.{Input}
 use Rattle.omi_verbs.specs.declared.refusal.Input.TheVariants as input
 use Rattle.omi_top.specs.Plan.{plan_of}
@@ -21,6 +22,7 @@ pub data Command : Type 0 where
   Run : (plan : Plan) (script core : List ℕ) → Command
   Recode : (order : ℕ) (core copy : List ℕ) → Command
   Audit : (core : List ℕ) → Command
+  Follow : (core later : List ℕ) → Command
   Faulty : Command
 
 -- the line has an option
@@ -65,6 +67,11 @@ abbrev pub audit_by : List (List ℕ) → Line → Command
 audit_by (core ∷ []) line = if has_option line then Faulty else Audit core
 audit_by names line = Faulty
 
+-- `follow CORE CORE2`, without options
+abbrev pub follow_by : List (List ℕ) → Line → Command
+follow_by (core ∷ later ∷ []) line = if has_option line then Faulty else Follow core later
+follow_by names line = Faulty
+
 -- a verb and the names behind it
 abbrev pub verb_by : List (List ℕ) → Line → Command
 verb_by [] line = Faulty
@@ -74,7 +81,8 @@ verb_by (verb ∷ names) line =
     else (if bytes_eq verb (codes "show") then show_by names line
     else (if bytes_eq verb (codes "run") then run_by names line
     else (if bytes_eq verb (codes "recode") then recode_by names line
-    else (if bytes_eq verb (codes "audit") then audit_by names line else Faulty)))))
+    else (if bytes_eq verb (codes "audit") then audit_by names line
+    else (if bytes_eq verb (codes "follow") then follow_by names line else Faulty))))))
 
 -- the command of a line, if words make one: its positional words are a verb and names
 abbrev pub command_by : Option Line → Command
@@ -96,6 +104,8 @@ ReadsFirst (Show core) input.Core = ⊤
 ReadsFirst (Run plan script core) input.Script = ⊤
 ReadsFirst (Recode order core copy) input.Core = ⊤
 ReadsFirst (Audit core) input.Core = ⊤
+ReadsFirst (Follow core later) input.Core = ⊤
+ReadsFirst (Follow core later) input.Later = ⊤
 ReadsFirst command read = ⊥
 
 -- a command reads this after it wrote
@@ -114,9 +124,10 @@ RefusesCore (Show core) s = ⊤
 RefusesCore (Run plan script core) s = ⊤
 RefusesCore (Recode order core copy) s = s ≡ status.Core
 RefusesCore (Audit core) s = ⊤
+RefusesCore (Follow core later) s = ⊤
 RefusesCore command s = ⊥
 
--- the names that a command gives to a script and to a core, which are empty where it gives none
+-- the names that a command gives to a script, to a core and to a later core, which are empty where it gives none
 abbrev pub script_name : Command → List ℕ
 script_name (Stop plan script core) = script
 script_name (Make n script) = script
@@ -124,6 +135,7 @@ script_name (Show core) = []
 script_name (Run plan script core) = script
 script_name (Recode order core copy) = []
 script_name (Audit core) = []
+script_name (Follow core later) = []
 script_name Faulty = []
 
 abbrev pub core_name : Command → List ℕ
@@ -133,7 +145,19 @@ core_name (Show core) = core
 core_name (Run plan script core) = core
 core_name (Recode order core copy) = core
 core_name (Audit core) = core
+core_name (Follow core later) = core
 core_name Faulty = []
+
+abbrev pub later_name : Command → List ℕ
+later_name (Follow core later) = later
+later_name command = []
+
+abbrev pub names_of : Command → Named
+names_of command = record {
+  script = script_name command;
+  core = core_name command;
+  later = later_name command;
+}
 
 -- the name of the file that a command writes
 abbrev pub written_name : Command → List ℕ
@@ -143,6 +167,7 @@ written_name (Show core) = []
 written_name (Run plan script core) = core
 written_name (Recode order core copy) = copy
 written_name (Audit core) = []
+written_name (Follow core later) = []
 written_name Faulty = []
 
 -- a command writes the file of this name
@@ -153,4 +178,5 @@ Writes (Show core) name = ⊥
 Writes (Run plan script core) name = name ≡ core
 Writes (Recode order core copy) name = name ≡ copy
 Writes (Audit core) name = ⊥
+Writes (Follow core later) name = ⊥
 Writes Faulty name = ⊥

@@ -1,6 +1,6 @@
 -- The definitions to believe, in reading order: the promise of the whole; what a run of `stop` is to be, what a command line asks for, what
--- its answer is, what a core is to `show`, what a run is, and that there is at most one; and that a
--- core is shown alike in either order.
+-- its answer is, what a core is to `show`, what a run is, what becomes of tasks between two stops of one, and that there is at most one;
+-- and that a core is shown alike in either order.
 pub mod Promise
 pub mod Plan
 pub mod Command
@@ -9,10 +9,12 @@ pub mod Cores
 pub mod Questions
 pub mod Shown
 pub mod Audit
+pub mod Follow
 pub mod Run
 pub mod Lines
 pub mod Make
 pub mod Recode
+pub mod Between
 pub mod Determined
 pub mod Recoded
 -- What private functions of the code stand on: a request as a command; what each layer of the top call says alike; and a run that was made

@@ -33,11 +33,11 @@ refusal_of_layout (layout.Unmapped addr) = refusal.Damaged addr 0
 refusal_of_layout (layout.Refused addr (Version v)) = refusal.Incompatible
 refusal_of_layout (layout.Refused addr other) = refusal.Damaged addr 0
 
--- and the code of a session that doesn't open
+-- and the code of a session that doesn't open, or of an inquiry on a handle
 abbrev pub refusal_of_code : Rc → Refusal
-refusal_of_code code.Incompatible = refusal.Incompatible
+refusal_of_code code.CallbackError = refusal.ReadFault input.Core
 refusal_of_code (code.Error addr field) = refusal.Damaged addr field
-refusal_of_code other = refusal.ReadFault input.Core
+refusal_of_code other = refusal.Incompatible
 
 -- ---- why there is no answer
 

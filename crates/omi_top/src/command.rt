@@ -4,8 +4,9 @@ ghost use Rattle.std.specs.Prelude.{◌≡◌, IfSome};
 ghost use Rattle.std.specs.List.{All};
 ghost use Rattle.std.specs.Str.{IsUtf8};
 ghost use Rattle.omi_line.specs.Line.{IsText};
-ghost use Rattle.omi_top.specs.Command.{audit_by, command_by, core_name, has_option, make_by, recode_by, run_by, script_name, show_by, stop_by, verb_by};
+ghost use Rattle.omi_top.specs.Command.{audit_by, command_by, follow_by, has_option, make_by, names_of, recode_by, run_by, show_by, stop_by, verb_by};
 ghost use Rattle.omi_top.specs.Asked.{asked, IsBounded};
+ghost use Rattle.omi_verbs.specs.Refusal.{named};
 
 use crate::limits::MOST_NODES;
 use crate::plan::{Plan, plan_of};
@@ -39,6 +40,10 @@ pub enum Request<'a> {
     },
     Audit {
         core: &'a str,
+    },
+    Follow {
+        core: &'a str,
+        later: &'a str,
     },
     Faulty,
 }
@@ -148,6 +153,21 @@ fn audit_by<'a>(names: &'a [Text], line: &Line) -> Request<'a>
     }
 }
 
+/// What `follow` is asked for, by the names behind it.
+fn follow_by<'a>(names: &'a [Text], line: &Line) -> Request<'a>
+    requires { All IsUtf8 names.now }
+    ensures asked { asked result ≡ follow_by names.entry.now line.now }
+    ensures bounded { IsBounded result }
+{
+    match names {
+        [core, later] if !has_option(line) => Request::Follow {
+            core: text_of(core),
+            later: text_of(later),
+        },
+        _ => Request::Faulty,
+    }
+}
+
 /// What a line asks for, by its verb: its first positional word.
 fn verb_by(line: &Line) -> Request<'_>
     requires { IsText line.now }
@@ -164,6 +184,7 @@ fn verb_by(line: &Line) -> Request<'_>
         "run" => run_by(names, line),
         "recode" => recode_by(names, line),
         "audit" => audit_by(names, line),
+        "follow" => follow_by(names, line),
         _ => Request::Faulty,
     }
 }
@@ -182,20 +203,22 @@ pub fn request_of(line: &Option<Line>) -> Request<'_>
 
 /// The names of files in a request.
 pub fn names_of(request: Request<'_>) -> Names<'_>
-    ensures script { result.script.now ≡ script_name (asked request.entry) }
-    ensures core { result.core.now ≡ core_name (asked request.entry) }
+    ensures { named result ≡ names_of (asked request.entry) }
 {
-    match request {
+    let (script, core, later) = match request {
         Request::Stop { script, core, .. } | Request::Run { script, core, .. } => {
-            Names { script, core }
+            (script, core, "")
         }
-        Request::Make { script, .. } => Names { script, core: "" },
+        Request::Make { script, .. } => (script, "", ""),
         Request::Show { core } | Request::Recode { core, .. } | Request::Audit { core } => {
-            Names { script: "", core }
+            ("", core, "")
         }
-        Request::Faulty => Names {
-            script: "",
-            core: "",
-        },
+        Request::Follow { core, later } => ("", core, later),
+        Request::Faulty => ("", "", ""),
+    };
+    Names {
+        script,
+        core,
+        later,
     }
 }

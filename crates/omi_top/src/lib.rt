@@ -3,6 +3,8 @@
 
 mod audit;
 mod command;
+mod follow;
+mod kept_tasks;
 mod laws;
 mod limits;
 mod lines;

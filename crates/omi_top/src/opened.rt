@@ -17,14 +17,14 @@ use omi_session::{API_VERSION, Rc, Session, initialize};
 use omi_verbs::{Input, Refusal};
 use std::alloc::Global;
 
-/// What the code of a session that doesn't open is handed on as: a callback that fails is a read that failed.
-fn refusal_of_code(rc: Rc) -> Refusal
+/// What the code of a session that doesn't open, or of an inquiry on a handle, is handed on as: a callback that fails is a read that failed.
+pub fn refusal_of_code(rc: Rc) -> Refusal
     ensures { result ≡ refusal_of_code rc }
 {
     match rc {
-        Rc::Incompatible => Refusal::Incompatible,
+        Rc::CallbackError => Refusal::ReadFault(Input::Core),
         Rc::Error { addr, field } => Refusal::Damaged { addr, field },
-        _ => Refusal::ReadFault(Input::Core),
+        _ => Refusal::Incompatible,
     }
 }
 

@@ -20,7 +20,7 @@ use omi_word::Natives;
 use std::alloc::Global;
 
 /// What the fault of a walk is handed on as.
-fn refusal_of_walk(fault: WalkFault) -> Refusal
+pub fn refusal_of_walk(fault: WalkFault) -> Refusal
     ensures { result ≡ refusal_of_walk fault }
 {
     match fault {

@@ -8,13 +8,15 @@ ghost use Rattle.omi_corefile.specs.declared.fault.CoreFault.{CoreFault};
 ghost use Rattle.omi_script.specs.Grammar.{Grammar, Refused as RefusedScript};
 ghost use Rattle.omi_script.specs.declared.fault.ScriptFault.{ScriptFault};
 ghost use Rattle.omi_script.specs.declared.program.Program.{Program};
-ghost use Rattle.omi_top.specs.Command.{Stop, Make, Show, Run, Recode, Audit, Faulty, RefusesCore, command_in, core_name, script_name, written_name, Writes};
+ghost use Rattle.omi_top.specs.Command.{Stop, Make, Show, Run, Recode, Audit, Follow, Faulty, RefusesCore, command_in, names_of, written_name, Writes};
 ghost use Rattle.omi_top.specs.declared.plan.Plan.{Plan};
 ghost use Rattle.omi_top.specs.Asked.{asked, IsBounded};
 ghost use Rattle.omi_top.specs.Causes.{Concluded, Performed};
 ghost use Rattle.omi_verbs.specs.Seen.{files_seen, output_seen};
 ghost use Rattle.omi_verbs.specs.Refusal.{HasRoom, status_of};
-ghost use Rattle.omi_top.specs.Answer.{AreTold, IsApproved, IsStopped, IsLeft, IsUnwritten, ComesBehind, IsDoneOrFailed, IsReadBackStatus, IsReported, IsReportOf, IsRunShown, IsShown, IsWritingStatus};
+ghost use Rattle.omi_verbs.specs.declared.refusal.Refusal.{Refusal as Why};
+ghost use Rattle.omi_outside.specs.declared.status.Status.{Status as Ending};
+ghost use Rattle.omi_top.specs.Answer.{AreTold, Gives, IsFollowAnswer, IsFollowRefusal, IsApproved, IsStopped, IsLeft, IsUnwritten, ComesBehind, IsDoneOrFailed, IsReadBackStatus, IsReported, IsReportOf, IsRunShown, IsShown, IsWritingStatus};
 ghost use Rattle.omi_top.specs.Promise.{IsPromised};
 ghost use Rattle.omi_verbs.specs.Said.{IsSaid, IsCounted};
 ghost use Rattle.omi_verbs.specs.Statuses.{ComesWhere, IsOfCore};
@@ -22,6 +24,7 @@ ghost use Rattle.omi_verbs.specs.Scripts.{HoldsProgram};
 ghost use Rattle.omi_top.specs.Make.{IsMade, make_text};
 ghost use Rattle.omi_top.specs.Recode.{IsRecoded, recoded_line};
 ghost use Rattle.omi_audit.specs.declared.verdict.Verdict.{Verdict};
+ghost use Rattle.omi_top.specs.Between.{AreOfOneRun, AreStops, IsFollowedFrom, events_between};
 ghost use Rattle.omi_top.specs.Audit.{IsAudited, ShowsWhereYes, audit_line};
 ghost use Rattle.omi_top.specs.Cores.{HasLayout, HasWrongTable, IsDamaged, IsIncompatible, IsLooked, ShowsReached, ShowsState, Spells};
 ghost use Rattle.omi_verbs.specs.Cores.{IsReachedCore, thread_ids};
@@ -34,6 +37,7 @@ ghost use Rattle.omi_text.specs.Report.{report as report_of};
 
 use crate::audit::audit;
 use crate::command::{Request, names_of, request_of};
+use crate::follow::follow;
 use crate::make::make;
 use crate::recode::recode;
 use crate::run_and_show::run_and_show;
@@ -70,6 +74,7 @@ fn perform<F: Files, W: Files>(
         }
         Request::Recode { order, core, copy } => recode(alloc, order, core, copy, files, dest),
         Request::Audit { core } => audit(alloc, core, files),
+        Request::Follow { core, later } => follow(alloc, core, later, files),
         Request::Faulty => Err(Refusal::Usage),
     }
 }
@@ -85,8 +90,7 @@ fn carry_out_in<F: Files, W: Files, K: Sink>(
 ) -> Status
     requires bounded { IsBounded request }
     requires empty { string_bytes room.old ≡ [] }
-    requires enough { HasRoom (script_name (asked request)) (core_name (asked request))
-        (string_capacity room.old) }
+    requires enough { HasRoom (names_of (asked request)) (string_capacity room.old) }
     ensures { Concluded (asked request.entry) result
         (files_seen (F.told files.old) (F.reads files.old) (F.writes files.old))
         (files_seen (F.told files.new) (F.reads files.new) (F.writes files.new))
@@ -308,6 +312,41 @@ pub fn run_top<F: Files, W: Files, K: Sink>(
     ensures audit_damaged { (core bytes : List ℕ)
         → command_in words.now ≡ Audit core → F.told files.old core ≡ Some (Some bytes)
         → ComesWhere Status.Damaged result (Spells bytes HasWrongTable) }
+
+    // With success of `follow` both files are cores that give one layout, and what is put says of each
+    // task in the report of the first whether it is current in the second, or stale. Each other status
+    // comes exactly where the files are refused so: the first is judged whole before the second.
+    ensures followed { (core later bytes others : List ℕ)
+        → command_in words.now ≡ Follow core later → F.told files.old core ≡ Some (Some bytes)
+        → F.told files.old later ≡ Some (Some others) → result ≡ Status.Success
+        → (text : List ℕ) × IsFollowAnswer (Some bytes) (Some others) (Gives None (Ok text))
+        × (K.told out.new ≡ put_on (K.told out.old) text) }
+    ensures follows { (core later : List ℕ) (content others : Option (List ℕ)) (text : List ℕ)
+        → command_in words.now ≡ Follow core later → F.told files.old core ≡ Some content
+        → F.told files.old later ≡ Some others
+        → IsFollowAnswer content others (Gives None (Ok text)) → IsDoneOrFailed result }
+    ensures follow_refused { (core later : List ℕ) (content others : Option (List ℕ)) (s : Ending)
+        → command_in words.now ≡ Follow core later → F.told files.old core ≡ Some content
+        → F.told files.old later ≡ Some others → (IsDoneOrFailed s → ⊥)
+        → ComesWhere s result
+        ((r : Why) × IsFollowRefusal content others r × (status_of r ≡ s)) }
+
+    // Where the words of both cores show states of one run, and the second has each word of the
+    // records, a task is told stale exactly where an event between the two gave it back. So it is of
+    // the cores that an earlier and a later stop of one run left.
+    ensures follow_stops { (core later bytes others : List ℕ)
+        → command_in words.now ≡ Follow core later → F.told files.old core ≡ Some (Some bytes)
+        → F.told files.old later ≡ Some (Some others) → (image next : CoreImage)
+        → Core bytes image → Core others next → (stops : AreStops image next)
+        → IsFollowedFrom stops.state stops.between image.contexts result
+        (K.told out.old) (K.told out.new) }
+    ensures follow_runs { (core later bytes others : List ℕ)
+        → command_in words.now ≡ Follow core later → F.told files.old core ≡ Some (Some bytes)
+        → F.told files.old later ≡ Some (Some others)
+        → (p : Program) (plan also : Plan) (text more : List ℕ)
+        → (a : IsStopped p plan bytes text) (b : IsStopped p also others more) → AreOfOneRun a b
+        → IsFollowedFrom a.state (events_between a.entries b.entries) (thread_ids p.threads) result
+        (K.told out.old) (K.told out.new) }
 
     // With `run` the core is written as with `stop`, and then the bytes under CORE in `files` are
     // read and judged as with `show`. The script is judged first.

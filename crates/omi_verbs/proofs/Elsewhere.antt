@@ -6,7 +6,7 @@ use Rattle.omi_outside.specs.declared.files.Refused.{Refused as RefusedWrite}
 use Rattle.omi_outside.specs.declared.files.Refused.TheVariants as refused
 use Rattle.omi_outside.specs.declared.status.Status.{Status}
 use Rattle.omi_outside.specs.declared.status.Status.TheVariants as status
-use Rattle.omi_verbs.specs.Refusal.{IsLate, IsReadFault, refusal_line, refusal_of_write, status_of}
+use Rattle.omi_verbs.specs.Refusal.{IsLate, IsReadFault, Named, refusal_line, refusal_of_write, status_of}
 use Rattle.omi_verbs.specs.Said.{IsSaid}
 use Rattle.omi_verbs.specs.Scripts.{IsOfScript}
 use Rattle.omi_verbs.specs.Statuses.{IsOfCore, IsPrinting}
@@ -112,10 +112,10 @@ of_write refusal.WriteFault is = refl
 of_write r is = absurd (cc)
 
 -- want of memory has no line
-pub unsaid : (script core : List ℕ) (r : Refusal) (counted : Type 0) (old new : Option (List ℕ))
-    → IsSaid (refusal_line script core r) counted old new → status_of r ≡ status.OutOfMemory → new ≡ old
-unsaid script core refusal.OutOfMemory counted old new said is = said
-unsaid script core r counted old new said is = absurd (cc)
+pub unsaid : (names : Named) (r : Refusal) (counted : Type 0) (old new : Option (List ℕ))
+    → IsSaid (refusal_line names r) counted old new → status_of r ≡ status.OutOfMemory → new ≡ old
+unsaid names refusal.OutOfMemory counted old new said is = said
+unsaid names r counted old new said is = absurd (cc)
 
 -- ---- a fault of writing, or want of memory
 

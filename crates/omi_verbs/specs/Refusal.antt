@@ -16,6 +16,7 @@ use Rattle.omi_outside.specs.declared.status.Status.TheVariants as status
 use Rattle.omi_layout.specs.Named.{field_text}
 use Rattle.omi_text.specs.Numbers.{hexadecimal}
 use Rattle.omi_verbs.specs.declared.limits.TheConstants.{LINE_ROOM}
+use Rattle.omi_verbs.specs.declared.names.Names.{Names}
 use Rattle.omi_verbs.specs.declared.refusal.Input.{Input}
 use Rattle.omi_verbs.specs.declared.refusal.Input.TheVariants as input
 use Rattle.omi_verbs.specs.declared.refusal.Refusal.{Refusal}
@@ -83,27 +84,38 @@ damaged_line addr field =
 abbrev pub cycle_line : ℕ → List ℕ
 cycle_line addr = codes "cycle " ++ (hexadecimal addr ++ 10 ∷ [])
 
--- the name of what a command reads, by those that it gives to a script and to a core
-abbrev pub input_name : List ℕ → List ℕ → Input → List ℕ
-input_name script core input.Script = script
-input_name script core input.Core = core
+-- the names that a command gives to a script, to a core and to a later core of the same target. One that it does not give is empty
+pub record Named : Type 0 where
+  pub script : List ℕ
+  pub core : List ℕ
+  pub later : List ℕ
 
--- the line that a refusal prints, by these names
-abbrev pub refusal_line : List ℕ → List ℕ → Refusal → Option (List ℕ)
-refusal_line script core refusal.Usage = Some (codes "usage" ++ 10 ∷ [])
-refusal_line script core (refusal.NoFile read) =
-    Some (codes "no file " ++ (input_name script core read ++ 10 ∷ []))
-refusal_line script core (refusal.ReadFault read) =
-    Some (codes "read fault " ++ (input_name script core read ++ 10 ∷ []))
-refusal_line script core (refusal.Script fault) = Some (fault_line fault)
-refusal_line script core (refusal.Core at why) = Some (core_fault_line at why)
-refusal_line script core (refusal.Damaged addr field) = Some (damaged_line addr field)
-refusal_line script core (refusal.Cycle addr) = Some (cycle_line addr)
-refusal_line script core refusal.Incompatible = Some (codes "incompatible" ++ 10 ∷ [])
-refusal_line script core refusal.WriteFault = None
-refusal_line script core refusal.OutOfMemory = None
+abbrev pub named : Names → Named
+named n = record { script = n.script.now; core = n.core.now; later = n.later.now }
 
--- a line with either name has room in so many bytes
-pub record HasRoom (script core : List ℕ) (room : ℕ) : Type 0 where
-  pub of_script : length script + LINE_ROOM ≤ room
-  pub of_core : length core + LINE_ROOM ≤ room
+-- the name of what a command reads
+abbrev pub input_name : Named → Input → List ℕ
+input_name names input.Script = names.script
+input_name names input.Core = names.core
+input_name names input.Later = names.later
+
+-- the line that a refusal prints
+abbrev pub refusal_line : Named → Refusal → Option (List ℕ)
+refusal_line names refusal.Usage = Some (codes "usage" ++ 10 ∷ [])
+refusal_line names (refusal.NoFile read) =
+    Some (codes "no file " ++ (input_name names read ++ 10 ∷ []))
+refusal_line names (refusal.ReadFault read) =
+    Some (codes "read fault " ++ (input_name names read ++ 10 ∷ []))
+refusal_line names (refusal.Script fault) = Some (fault_line fault)
+refusal_line names (refusal.Core at why) = Some (core_fault_line at why)
+refusal_line names (refusal.Damaged addr field) = Some (damaged_line addr field)
+refusal_line names (refusal.Cycle addr) = Some (cycle_line addr)
+refusal_line names refusal.Incompatible = Some (codes "incompatible" ++ 10 ∷ [])
+refusal_line names refusal.WriteFault = None
+refusal_line names refusal.OutOfMemory = None
+
+-- a line with any of these names has room in so many bytes
+pub record HasRoom (names : Named) (room : ℕ) : Type 0 where
+  pub of_script : length names.script + LINE_ROOM ≤ room
+  pub of_core : length names.core + LINE_ROOM ≤ room
+  pub of_later : length names.later + LINE_ROOM ≤ room

@@ -3,7 +3,7 @@
 ghost use Rattle.std.specs.Prelude.{◌≡◌, ◌⊎◌, ◌≤◌, ◌++◌, ◌∷◌, [], codes, Some, string_bytes};
 ghost use Rattle.std.specs.String.{string_capacity};
 ghost use Rattle.omi_outside.specs.Outside.{HasCause, IsPutCut, put_on};
-ghost use Rattle.omi_verbs.specs.Refusal.{HasRoom, refusal_line, status_of};
+ghost use Rattle.omi_verbs.specs.Refusal.{HasRoom, named, refusal_line, status_of};
 ghost use Rattle.omi_verbs.specs.Said.{IsCounted, IsSaid};
 ghost use Rattle.omi_verbs.specs.Statuses.{IsOfCore, IsPrinting};
 
@@ -33,9 +33,9 @@ pub fn print<K: Sink>(text: &[u8], out: &mut K) -> Status
 /// line can't be put.
 pub fn refuse<K: Sink>(names: Names<'_>, refusal: Refusal, room: &mut String, out: &mut K) -> Status
     requires empty { string_bytes room.old ≡ [] }
-    requires enough { HasRoom names.script.now names.core.now (string_capacity room.old) }
+    requires enough { HasRoom (named names) (string_capacity room.old) }
     ensures status { result ≡ status_of refusal }
-    ensures line { IsSaid (refusal_line names.entry.script.now names.entry.core.now refusal)
+    ensures line { IsSaid (refusal_line (named names.entry) refusal)
         (IsCounted (K.faults out.old) (K.faults out.new) (K.wants out.old) (K.wants out.new))
         (K.told out.old) (K.told out.new) }
     ensures faults { K.faults out.old ≤ K.faults out.new }

@@ -15,6 +15,8 @@ use std::alloc::{AllocError, AllocFailed};
 pub enum Input {
     Script,
     Core,
+    /// A core of the same target at a later stop.
+    Later,
 }
 
 /// Why a command ends without an answer.

@@ -6,7 +6,7 @@ ghost use Rattle.std.specs.String.{string_len, string_capacity};
 ghost use Rattle.std.specs.List.{flat_map, sum_by};
 ghost use Rattle.std.specs.Option.{option_map};
 ghost use Rattle.omi_layout.specs.Named.{field_text};
-ghost use Rattle.omi_verbs.specs.Refusal.{HasRoom, cycle_line, damaged_line, refusal_line};
+ghost use Rattle.omi_verbs.specs.Refusal.{HasRoom, cycle_line, damaged_line, named, refusal_line};
 
 use crate::limits::LINE_ROOM;
 use crate::names::{Names, longest, name_of as input_name};
@@ -19,7 +19,7 @@ use std::alloc::{AllocError, Global};
 pub fn room_for(alloc: Global, names: Names<'_>) -> Result<String, AllocError>
     ensures empty { IfOk result (λ room. string_bytes room ≡ []) }
     ensures enough { IfOk result
-        (λ room. HasRoom names.entry.script.now names.entry.core.now (string_capacity room)) }
+        (λ room. HasRoom (named names.entry) (string_capacity room)) }
 {
     String::with_capacity(alloc, longest(names) + LINE_ROOM)
 }
@@ -120,9 +120,9 @@ pub(crate) fn line_of<'a>(
     room: &'a mut String,
 ) -> Option<&'a str>
     requires empty { string_bytes room.old ≡ [] }
-    requires enough { HasRoom names.script.now names.core.now (string_capacity room.old) }
+    requires enough { HasRoom (named names) (string_capacity room.old) }
     ensures { option_map (λ line. line.now) result
-        ≡ refusal_line names.entry.script.now names.entry.core.now refusal }
+        ≡ refusal_line (named names.entry) refusal }
 {
     match refusal {
         Refusal::Usage => return Some("usage\n"),

@@ -1,5 +1,7 @@
-use Rattle.std.proofs.Common.{inl, inr, refl}
+use Rattle.std.proofs.Common.{inl, inr, refl, subst}
 use Rattle.omi_outside.specs.declared.status.Status.TheVariants as status
+use Rattle.omi_verbs.specs.Refusal.{Named, refusal_line}
+use Rattle.omi_verbs.specs.Said.{IsCounted, IsSaid}
 use Rattle.omi_verbs.proofs.Elsewhere.{never_printing, of_read, of_write, unsaid}
 use Rattle.omi_live.specs.Asked.{asked}
 use Rattle.omi_live.proofs.Left.{ok_left, err_left}
@@ -30,18 +32,22 @@ returns-in-Ok g c =
 
 pub returns-in-Err : goal.returns-in-Err
 returns-in-Err g c =
+    let counted : Type 0 =
+    IsCounted (g.K.Sink.faults c.args.out.now) (g.K.Sink.faults c.refuse.new.out)
+    (g.K.Sink.wants c.args.out.now) (g.K.Sink.wants c.refuse.new.out) in
     rw c.refuse.ensures.status
     (record {
       of_core = run_not_of_core c.in-Err.refusal c.in-Err.ensures.kind;
       usage = run_not_usage c.in-Err.refusal c.in-Err.ensures.kind;
       read_fault = λ is. c.in-Err.ensures.read.failed (of_read c.in-Err.refusal is);
       write_fault = λ is. inl (c.in-Err.ensures.write.failed (of_write c.in-Err.refusal is));
-      out_of_memory = λ is. inl (unsaid _ _ c.in-Err.refusal _ (g.K.Sink.told c.args.out.now) (g.K.Sink.told c.refuse.new.out) c.refuse.ensures.line is);
+      out_of_memory = λ is. inl (unsaid _ c.in-Err.refusal _ (g.K.Sink.told c.args.out.now) (g.K.Sink.told c.refuse.new.out) c.refuse.ensures.line is);
       left =
           λ content told.
           err_left (asked c.args.request) _ _ _ (g.K.Sink.told c.args.out.now)
           (g.K.Sink.told c.refuse.new.out) content c.in-Err.refusal
-          (c.in-Err.ensures.answer content told) c.refuse.ensures.line;
+          (c.in-Err.ensures.answer content told)
+          (subst (λ (n : Named). IsSaid (refusal_line n c.in-Err.refusal) counted (g.K.Sink.told c.args.out.now) (g.K.Sink.told c.refuse.new.out)) c.names.ensures c.refuse.ensures.line);
       unwritten = c.in-Err.ensures.unwritten;
       others = c.in-Err.ensures.others;
       reads = c.in-Err.ensures.read.later;

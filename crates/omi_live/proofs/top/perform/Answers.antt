@@ -13,7 +13,7 @@ pub returns-in_err-p-clause-answer : goal.returns-in_err-p-clause-answer
 returns-in_err-p-clause-answer g c = λ content told.
     let p = err_from_is_err_and c.from_residual.result c.from_residual.ensures.1 in
     rw (p.1, p.2)
-    (inl (c.in_err-p.ensures.refused content told, ap (λ (t : List ℕ → Told). t c.args.request.names.core.now) c.in_err-p.ensures.same))
+    (inl (c.in_err-p.ensures.refused content told, ap (λ (t : List ℕ → Told). t c.args.request.core.now) c.in_err-p.ensures.same))
 
 pub returns-in_err-p-clause-kind : goal.returns-in_err-p-clause-kind
 returns-in_err-p-clause-kind g c =
@@ -28,7 +28,7 @@ returns-in_err-p-clause-write g c =
 pub returns-in_err-write_whole-clause-answer : goal.returns-in_err-write_whole-clause-answer
 returns-in_err-write_whole-clause-answer g c = λ content told.
     let p = err_from_is_err_and c.from_residual-in_err-write_whole.result c.from_residual-in_err-write_whole.ensures.1 in
-    let core : List ℕ = c.args.request.names.core.now in
+    let core : List ℕ = c.args.request.core.now in
     rw (p.1, p.2) (partly_answered (asked c.args.request) content _ _ c.in_ok-p.p (c.in_ok-p.ensures.program content told) c.in_ok-core.core.items
     (string_bytes c.in_ok-core.text) c.in_err-write_whole.field-0.0 c.in_ok-core.ensures
     (subst (λ (t : List ℕ → Told). IsCut (t core) (g.F.Files.told c.write_whole.new.files core) c.in_ok-core.core.items) c.in_ok-p.ensures.same
@@ -69,7 +69,7 @@ returns-in_err-write_whole-clause-unwritten g c =
 
 pub returns-clause-answer : goal.returns-clause-answer
 returns-clause-answer g c = λ content told.
-    let core : List ℕ = c.args.request.names.core.now in
+    let core : List ℕ = c.args.request.core.now in
     done_answered (asked c.args.request) content _ _ c.in_ok-p.p
     (c.in_ok-p.ensures.program content told) c.in_ok-core.core.items c.into_bytes.result
     (subst (λ (v : Vec ℕ). IsLiveRun c.in_ok-p.p c.args.request.plan c.in_ok-core.core.items v.items) (sym c.into_bytes.ensures.value) c.in_ok-core.ensures)

@@ -1,6 +1,6 @@
-use Rattle.std.proofs.Common.{ℕ, List, inl, inr, refl, subst}
+use Rattle.std.proofs.Common.{inl, inr, refl, subst}
 use Rattle.omi_outside.specs.declared.status.Status.TheVariants as status
-use Rattle.omi_verbs.specs.Refusal.{refusal_line}
+use Rattle.omi_verbs.specs.Refusal.{Named, refusal_line}
 use Rattle.omi_verbs.specs.Said.{IsCounted, IsSaid}
 use Rattle.omi_top.specs.Asked.{asked}
 use Rattle.omi_verbs.proofs.Elsewhere.{never_printing, of_read, of_usage, of_write, unsaid}
@@ -43,14 +43,13 @@ returns-in-Err g c =
       usage = λ is. c.in-Err.ensures.usage (of_usage c.in-Err.refusal is);
       read_fault = λ is. performed.read.failed (of_read c.in-Err.refusal is);
       write_fault = λ is. inl (performed.write.failed (of_write c.in-Err.refusal is));
-      out_of_memory = λ is. inl (unsaid _ _ c.in-Err.refusal _ (g.K.Sink.told c.args.out.now) (g.K.Sink.told c.refuse.new.out) c.refuse.ensures.line is);
+      out_of_memory = λ is. inl (unsaid _ c.in-Err.refusal _ (g.K.Sink.told c.args.out.now) (g.K.Sink.told c.refuse.new.out) c.refuse.ensures.line is);
       left =
           λ told.
           err_left (asked c.args.request) (g.F.Files.told c.args.files.now) _ _ _
           (g.K.Sink.told c.args.out.now) (g.K.Sink.told c.refuse.new.out) c.in-Err.refusal
           (performed.answer told)
-          (subst (λ (z : List ℕ × List ℕ). IsSaid (refusal_line z.0 z.1 c.in-Err.refusal) counted (g.K.Sink.told c.args.out.now) (g.K.Sink.told c.refuse.new.out))
-          (λ k. (c.names_of.ensures.script k, c.names_of.ensures.core k)) c.refuse.ensures.line);
+          (subst (λ (n : Named). IsSaid (refusal_line n c.in-Err.refusal) counted (g.K.Sink.told c.args.out.now) (g.K.Sink.told c.refuse.new.out)) c.names_of.ensures c.refuse.ensures.line);
       unwritten = performed.unwritten;
       stays = performed.stays;
       reads = performed.read.later;

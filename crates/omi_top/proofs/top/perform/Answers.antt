@@ -62,6 +62,17 @@ returns-in-Audit-clause-performed g c =
       stays = record { files_told = c.audit.ensures.files_told; files_writes = c.audit.ensures.files_writes; dest_reads = refl; others = λ other not. refl };
     })
 
+pub returns-in-Follow-clause-performed : goal.returns-in-Follow-clause-performed
+returns-in-Follow-clause-performed g c =
+    rw c.in-Follow.is
+    (record {
+      answer = λ told. c.follow.ensures.answer (g.W.Files.told c.args.dest.now []) told;
+      read = c.follow.ensures.read;
+      write = record { later = omega arith; failed = λ is. absurd (c.follow.ensures.write is) };
+      unwritten = same_told _ _ c.follow.result;
+      stays = record { files_told = c.follow.ensures.files_told; files_writes = c.follow.ensures.files_writes; dest_reads = refl; others = λ other not. refl };
+    })
+
 pub returns-in-Faulty-clause-performed : goal.returns-in-Faulty-clause-performed
 returns-in-Faulty-clause-performed g c =
     rw c.in-Faulty.is
@@ -81,6 +92,9 @@ by_show (Err x) one = one x
 
 pub returns-in-Show-clause-of_core : goal.returns-in-Show-clause-of_core
 returns-in-Show-clause-of_core g c = rw c.in-Show.is (by_show c.show.result (λ x of_core. tt))
+
+pub returns-in-Follow-clause-of_core : goal.returns-in-Follow-clause-of_core
+returns-in-Follow-clause-of_core g c = rw c.in-Follow.is (by_show c.follow.result (λ x of_core. tt))
 
 pub returns-in-Audit-clause-of_core : goal.returns-in-Audit-clause-of_core
 returns-in-Audit-clause-of_core g c = rw c.in-Audit.is (by_show c.audit.result (λ x of_core. tt))

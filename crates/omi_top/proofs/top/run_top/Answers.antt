@@ -1,4 +1,4 @@
-use Rattle.std.proofs.Common.{◌≡◌, ◌∙◌, ℕ, List, Option, ap, subst, Some}
+use Rattle.std.proofs.Common.{◌≡◌, ◌∙◌, ℕ, List, Option, ap, refl, subst, Some}
 use Rattle.omi_outside.specs.Outside.{Told}
 use Rattle.omi_top.specs.declared.plan.Plan.{Plan}
 use Rattle.omi_outside.specs.declared.status.Status.TheVariants as status
@@ -6,13 +6,14 @@ use Rattle.omi_verbs.specs.Statuses.{IsOfCore}
 use Rattle.omi_top.specs.Asked.{asked}
 use Rattle.omi_top.specs.Answer.{AreTold, IsLeft, IsUnwritten}
 use Rattle.omi_verbs.specs.Said.{IsCounted}
-use Rattle.omi_top.specs.Command.{Command, Stop, Make, Show, Run, Recode, Audit, Faulty, RefusesCore, Writes, command_by, command_in, written_name}
+use Rattle.omi_top.specs.Command.{Command, Stop, Make, Show, Run, Recode, Audit, Follow, Faulty, RefusesCore, Writes, command_by, command_in, written_name}
 use Rattle.omi_top.proofs.Left.{left_by}
 use Rattle.omi_top.proofs.LeftByShow.{no_file as no_core, core_refused, incompatible, damaged, put_report as put_shown, report_put, shown, shows, shown_again, shown_reached}
 use Rattle.omi_top.proofs.LeftByRun.{core_refused as run_core_refused, damaged as run_damaged, incompatible as run_incompatible, no_file as run_no_file, put_report, runs, script_refused as run_script_refused, shown as run_shown, wrote}
 use Rattle.omi_top.proofs.LeftByMake.{success as made, writing}
 use Rattle.omi_top.proofs.LeftByRecode.{core_refused as recode_core_refused, no_file as recode_no_file, recodes, success as recoded}
 use Rattle.omi_top.proofs.LeftByAudit.{approved, audits, core_refused as audit_core_refused, damaged as audit_damaged, incompatible as audit_incompatible, judged, no_file as audit_no_file}
+use Rattle.omi_top.proofs.LeftByFollow.{followed, followed_from, followed_run, follows, refused as follow_refused}
 use Rattle.omi_top.proofs.Recoded.{copy_reported}
 use Rattle.omi_top.proofs.LeftByStop.{no_file, script_refused, stops, success}
 use Rattle.omi_top.proofs.Promised.{promised}
@@ -84,6 +85,12 @@ of_recode g c order core copy content command told =
 of_audit : (g : given.Over) (c : Joined-line g) (core : List ℕ) (content : Option (List ℕ))
     → command_in c.args.words.now ≡ Audit core → files g c core ≡ Some content → Leaves g c (Audit core)
 of_audit g c core content command told = left_of g c (Audit core) (asked_is g c ∙ command) (content, told)
+
+of_follow : (g : given.Over) (c : Joined-line g) (core later : List ℕ) (content others : Option (List ℕ))
+    → command_in c.args.words.now ≡ Follow core later → files g c core ≡ Some content
+    → files g c later ≡ Some others → Leaves g c (Follow core later)
+of_follow g c core later content others command told also =
+    left_of g c (Follow core later) (asked_is g c ∙ command) ((content, told), (others, also))
 
 -- ---- the clauses
 
@@ -199,6 +206,31 @@ pub returns-in-Ok-clause-audit_damaged : goal.returns-in-Ok-clause-audit_damaged
 returns-in-Ok-clause-audit_damaged g c core bytes command told =
     audit_damaged core (files g c) _ _ _ _ _ _ bytes told
     (of_audit g c core (Some bytes) command told)
+
+pub returns-in-Ok-clause-followed : goal.returns-in-Ok-clause-followed
+returns-in-Ok-clause-followed g c core later bytes others command told also done =
+    followed core later (files g c) _ _ _ _ _ (Some bytes) (Some others) told also _ done
+    (of_follow g c core later (Some bytes) (Some others) command told also)
+
+pub returns-in-Ok-clause-follows : goal.returns-in-Ok-clause-follows
+returns-in-Ok-clause-follows g c core later content others text command told also answer =
+    follows core later (files g c) _ _ _ _ _ content others told also _ text answer
+    (of_follow g c core later content others command told also)
+
+pub returns-in-Ok-clause-follow_refused : goal.returns-in-Ok-clause-follow_refused
+returns-in-Ok-clause-follow_refused g c core later content others s command told also none =
+    follow_refused core later (files g c) _ _ _ _ _ content others told also _ s none
+    (of_follow g c core later content others command told also)
+
+pub returns-in-Ok-clause-follow_stops : goal.returns-in-Ok-clause-follow_stops
+returns-in-Ok-clause-follow_stops g c core later bytes others command told also image next spelled also_spelled stops =
+    followed_from core later (files g c) _ _ _ _ _ (Some bytes) (Some others) told also bytes others refl refl image next spelled also_spelled stops _
+    (of_follow g c core later (Some bytes) (Some others) command told also)
+
+pub returns-in-Ok-clause-follow_runs : goal.returns-in-Ok-clause-follow_runs
+returns-in-Ok-clause-follow_runs g c core later bytes others command told also p plan next text more a b one =
+    followed_run core later (files g c) _ _ _ _ _ (Some bytes) (Some others) told also _ bytes others refl refl p plan next text more a b one
+    (of_follow g c core later (Some bytes) (Some others) command told also)
 
 pub returns-in-Ok-clause-recoded : goal.returns-in-Ok-clause-recoded
 returns-in-Ok-clause-recoded g c order core copy bytes command told done =

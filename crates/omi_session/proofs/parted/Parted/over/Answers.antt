@@ -11,6 +11,7 @@ pub returns-else-eq-clause-words : goal.returns-else-eq-clause-words
 returns-else-eq-clause-words g c = λ memory t sizes ne. inr (record {
   other = record {
     layout = c.in-Ok.layout.table;
+    valid = c.in-Ok.layout.valid;
     gives = c.in-Ok.ensures.words memory t sizes;
     differs = λ same.
         let mine : c.in-Ok.layout.table ≡ c.self.inside.layout.table =
