@@ -8,6 +8,8 @@ mod forks;
 #[cfg(test)]
 mod kept_tests;
 #[cfg(test)]
+mod later_tests;
+#[cfg(test)]
 mod variables;
 #[cfg(test)]
 mod walks;

@@ -4,7 +4,7 @@ use crate::few_scripts::{
     CHAINS_OF_TASKS, LOCKS_AND_SETTINGS, TASKS_AND_WAITS, TASKS_AT_ONCE, TASKS_OF_LARGER_TEAMS,
     TEAMS_AGAIN, TEAMS_AND_TASKS_IN_TEAMS, TEAMS_IN_TEAMS_AGAIN, TEAMS_WITH_TASKS_AGAIN, Workload,
 };
-use crate::orders::{Dice, Manner, manner_of, to_the_end};
+use crate::orders::{Dice, Manner, manner_of, steps, to_the_end};
 use crate::scripts::FEW_OF_ONE_THREAD;
 use crate::trial::{Few, Looks, Trial, Wrong};
 use omi_model::{Event, Rid, Tid};
@@ -50,6 +50,27 @@ fn taken_again(t: &Trial) -> usize {
     count
 }
 
+/// How many life words an event stores, or tells to have been stored for it.
+fn lives(e: &Event) -> u64 {
+    match e {
+        Event::Fork { team, .. } => (team.len() as u64).wrapping_add(1),
+        Event::Defer { .. } | Event::StartNow { .. } => 1,
+        Event::FreeTask { .. } | Event::FreeRegion { .. } => 1,
+        _ => 0,
+    }
+}
+
+/// Whether the life words of a run that is done were raised once for each record that was taken, and for each that was given back.
+fn each_life_is_told(t: &Trial) -> bool {
+    let events = t.core().events();
+    let mut told = 0u64;
+    for at in 0..events.len() {
+        let (_, _, e) = events.get(at);
+        told = told.wrapping_add(lives(&e));
+    }
+    t.raised == told
+}
+
 /// What runs took again: how many records, and how many of the runs took any.
 #[derive(Clone, Copy)]
 struct Taken {
@@ -76,6 +97,9 @@ impl Taken {
 /// Judges a run up to its end, and adds what it took again.
 fn judge(t: &mut Trial, how: Manner, dice: &mut Dice, taken: &mut Taken) -> Result<(), Wrong> {
     to_the_end(t, how, dice, STEPS)?;
+    if !each_life_is_told(t) {
+        return Err(Wrong::Lives);
+    }
     taken.add(taken_again(t));
     Ok(())
 }
@@ -215,5 +239,82 @@ fn teams_with_tasks_again(rt: HostRuntime) -> Result<(), Fail> {
 fn teams_and_tasks_in_teams(rt: HostRuntime) -> Result<(), Fail> {
     let again = all_judged(rt.alloc(), &TEAMS_AND_TASKS_IN_TEAMS, ORDERS, 17)?;
     assert!(rt; again > 850, "{again}");
+    Ok(())
+}
+
+/// The workload behind two tasks of its initial task that start at once, the second one in the record of the first.
+fn behind_two_tasks(alloc: Global, script: &str) -> Result<String, Wrong> {
+    let Some((functions, statements)) = script.split_once("func main\n") else {
+        return Err(Wrong::NoProgram);
+    };
+    let two = "func main\ntask w if 0\ntask w if 0\n";
+    Ok(format!(in alloc; "{functions}{two}{statements}")?)
+}
+
+/// How many steps thread 0 makes alone before the others begin.
+const FIRST: u64 = 100;
+
+/// Judges a run: thread 0 alone, and then all threads in the order of this number. Answers the number of the first step that took a record again.
+fn judge_again(t: &mut Trial, order: u64, dice: &mut Dice) -> Result<u64, Wrong> {
+    steps(t, 0, FIRST, 0)?;
+    let mut taken = NOTHING;
+    judge(t, manner_of(order), dice, &mut taken)?;
+    Ok(t.again)
+}
+
+/// Judges so a workload behind two tasks, with few records, in the layout of a family.
+fn first_again(
+    alloc: Global,
+    workload: &Workload,
+    k: u8,
+    order: u64,
+    dice: &mut Dice,
+) -> Result<u64, Wrong> {
+    let (script, regions, tasks) = *workload;
+    let text = behind_two_tasks(alloc, script)?;
+    let few = Few { regions, tasks };
+    let mut t = Trial::with_few(alloc, &text, k, few, Looks::Seldom)?;
+    judge_again(&mut t, order, dice)
+}
+
+/// How many of these workloads take a record again within the first 100 steps, in each of four families.
+fn soon_again(alloc: Global, workloads: &[Workload], dice: &mut Dice) -> Result<usize, Wrong> {
+    let mut count = 0usize;
+    for at in 0..workloads.len() {
+        let mut is_soon = true;
+        for n in 0..4u64 {
+            let order = n.wrapping_mul(4).wrapping_add(at as u64 % 4);
+            let k = (order % u64::from(FAMILIES)) as u8;
+            let again = first_again(alloc, &workloads[at], k, order, dice)?;
+            is_soon = is_soon && 0 < again && again <= FIRST;
+        }
+        if is_soon {
+            count = count.wrapping_add(1);
+        }
+    }
+    Ok(count)
+}
+
+/// Each of the 44 workloads, behind two tasks, takes a record again within 100 steps.
+#[test]
+fn again_within_a_hundred_steps(rt: HostRuntime) -> Result<(), Fail> {
+    let alloc = rt.alloc();
+    let mut dice = Dice { state: 18 };
+    let mut count = 0usize;
+    for workloads in [
+        FEW_OF_ONE_THREAD.as_slice(),
+        TASKS_AT_ONCE.as_slice(),
+        TEAMS_AGAIN.as_slice(),
+        LOCKS_AND_SETTINGS.as_slice(),
+        TEAMS_IN_TEAMS_AGAIN.as_slice(),
+        TASKS_AND_WAITS.as_slice(),
+        TASKS_OF_LARGER_TEAMS.as_slice(),
+        CHAINS_OF_TASKS.as_slice(),
+        TEAMS_WITH_TASKS_AGAIN.as_slice(),
+        TEAMS_AND_TASKS_IN_TEAMS.as_slice(),
+    ] {
+        count = count.wrapping_add(soon_again(alloc, workloads, &mut dice)?);
+    }
+    assert_eq!(rt; count, 44);
     Ok(())
 }

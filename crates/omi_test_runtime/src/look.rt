@@ -113,3 +113,15 @@ pub fn task_word(l: &Layout, k: Option<Tid>) -> Option<u64> {
         None
     }
 }
+
+/// How many bytes stand in a record in front of a field.
+fn front(l: &Layout, field: Field) -> u64 {
+    u64::from(l.offset(field.number())).wrapping_mul(8)
+}
+
+/// Whether an address is that of the life word of a region or of a task.
+pub fn is_life_word(l: &Layout, at: u64) -> bool {
+    let region = at.wrapping_sub(front(l, Field::RegionLife));
+    let task = at.wrapping_sub(front(l, Field::TaskLife));
+    l.region_of(region).is_some() || l.task_of(task).is_some()
+}

@@ -87,7 +87,7 @@ fn burst(manner: Manner, i: u8, dice: &mut Dice) -> u64 {
 }
 
 /// So many steps of a thread. Answers how many of them in a row, up to the last one, found it not ready.
-fn steps(t: &mut Trial, i: u8, count: u64, idle: u64) -> Result<u64, Wrong> {
+pub fn steps(t: &mut Trial, i: u8, count: u64, idle: u64) -> Result<u64, Wrong> {
     let mut idle = idle;
     for _ in 0..count {
         idle = match t.step(i)? {

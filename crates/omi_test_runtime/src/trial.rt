@@ -6,14 +6,15 @@ ghost use Rattle.omi_core.specs.Runs.{spare_in};
 
 use crate::compare::{Difference, Look};
 use crate::lines::begins;
-use omi_core::Core;
+use crate::look::is_life_word;
+use omi_core::{Core, Entry};
 use omi_layout::{Layout, MOST_THREADS};
 use omi_machine::{State, after, opening};
 use omi_machine_legal::legal;
 use omi_model::Event;
 use omi_rep::{Outcome, suits};
 use omi_script::{Program, parse};
-use omi_word::{Image, OutOfMemory};
+use omi_word::{Image, Op, OutOfMemory};
 use std::alloc::Global;
 
 /// How many steps room is made for at a time.
@@ -40,6 +41,10 @@ pub enum Wrong {
     NoMove,
     /// Only few runs of a workload take a record again.
     NoneAgain,
+    /// The step of this number left a life word below what it was.
+    Falls { step: u64 },
+    /// Life words were stored at other steps than those that the events tell of.
+    Lives,
     /// The words have no report.
     NoReport,
     /// A word differs from the state.
@@ -79,6 +84,10 @@ pub struct Trial {
     looks: Looks,
     /// How often the words were compared with the state.
     pub compared: u64,
+    /// How many steps raised the life word of a region or of a task.
+    pub raised: u64,
+    /// The number of the first step that left the life word of a second generation, 0 where none did.
+    pub again: u64,
 }
 
 /// Written out, so that a test which lets a trial go owes one call, and not the drops of all its parts at each of its exits.
@@ -93,6 +102,8 @@ impl Drop for Trial {
             locks: _locks,
             looks: _looks,
             compared: _compared,
+            raised: _raised,
+            again: _again,
         } = self;
     }
 }
@@ -218,6 +229,8 @@ impl Trial {
             locks: [0; 8],
             looks,
             compared: 0,
+            raised: 0,
+            again: 0,
         };
         trial.compare()?;
         Ok(trial)
@@ -325,13 +338,34 @@ impl Trial {
         Ok(())
     }
 
+    /// Judges the word that a step left, where it is a life word: it isn't below the one that the step found.
+    fn judge_life(&mut self, op: Op, old: u64) -> Result<(), Wrong> {
+        let at = op.address();
+        if !is_life_word(&self.layout, at) {
+            return Ok(());
+        }
+        let step = self.core.steps();
+        let left = match self.core.image().get(at) {
+            Some(left) if left >= old => left,
+            _ => return Err(Wrong::Falls { step }),
+        };
+        if left > old {
+            self.raised = self.raised.wrapping_add(1);
+        }
+        if left > 2 && self.again == 0 {
+            self.again = step;
+        }
+        Ok(())
+    }
+
     /// One step of a thread, judged. None where the program has no such thread.
     pub fn step(&mut self, i: u8) -> Result<Option<Outcome>, Wrong> {
         self.make_room()?;
         if i >= self.core.threads() {
             return Ok(None);
         }
-        let outcome = self.core.step(i).outcome;
+        let Entry { op, old, outcome } = self.core.step(i);
+        self.judge_life(op, old)?;
         self.judge_step(i, &outcome)?;
         Ok(Some(outcome))
     }
