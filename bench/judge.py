@@ -486,7 +486,7 @@ EVENT = re.compile(r'[1-9]\d* t\d+ (offer|want \d+|ask \d+ (got|busy)|begin|ente
                    r'release|pass|work|ret|done|wait_done|yield|skip|call \d+|seen \d|(un)?lock \d|'
                    r'state \w+ \d+|set [a-z-]+ \S+|tool \d+|set_tool \d+|'
                    r'fork r\S+ size \d+ team( k\S+@\d+)+|join r\S+|'
-                   r'(implicit_begin|implicit_end|defer|start|start_now|finish) k\S+)')
+                   r'(implicit_begin|implicit_end|defer|start|start_now|finish|free) k\S+|free r\S+)')
 END = re.compile(r'end steps (\d+) events (\d+) by (steps|done)')
 
 

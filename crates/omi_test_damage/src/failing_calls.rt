@@ -1,6 +1,6 @@
 //! Each call of a file or of the output that a line makes, failing in turn: its status, what was put, and what was written.
 
-use crate::calls::{BEFORE, Failing, NONE, OTHER, call};
+use crate::calls::{BEFORE, Failing, NONE, OTHER, PIECE, call, front};
 use omi_outside::{Call, Status};
 use omi_test_calls::{CHANGED, Done, core_of};
 use omi_test_rows::AN_EMPTY_RUN;
@@ -8,19 +8,8 @@ use std::alloc::{AllocError, Global};
 use std::process::Abort;
 use std::test::Fail;
 
-/// A file is written, and a text is put, in pieces of so many bytes.
-const PIECE: usize = 4096;
-
 /// A function that works, called 1,000 times: its events are put in several pieces.
 const LONG_TEXT: &str = "func f\nwork\nend\nfunc main\nrepeat 1000 f\nend\n";
-
-/// The first bytes, and all where there are fewer.
-fn front(bytes: &[u8], most: usize) -> &[u8] {
-    match bytes.get(..most) {
-        Some(front) => front,
-        None => bytes,
-    }
-}
 
 /// The line failed in writing, put these bytes, left these under the core's name, and nothing else.
 fn expect_fault(rt: &impl Abort, done: &Done, put: &[u8], left: &[u8]) {

@@ -1,4 +1,4 @@
-//! Tests of damage, of calls that fail and of handles after refusals, as the user of a crash tool meets them.
+//! Tests of damage and of calls that fail, as the user of a crash tool meets them.
 #![tactic(auto)]
 
 #[cfg(test)]
@@ -6,8 +6,8 @@ mod calls;
 #[cfg(test)]
 mod changed_words;
 #[cfg(test)]
-mod failing_calls;
+mod each_call;
 #[cfg(test)]
-mod handles_after_refusals;
+mod failing_calls;
 #[cfg(test)]
 mod opening;

@@ -4,6 +4,8 @@
 #[cfg(test)]
 mod asking;
 #[cfg(test)]
+mod handles;
+#[cfg(test)]
 mod pairs;
 #[cfg(test)]
 mod reads;

@@ -18,15 +18,15 @@ use std::process::Abort;
 use std::test::Fail;
 
 /// How many words each inquiry reads, the handle's life word first.
-const READS: [u64; COUNT] = [4, 6, 2, 5, 3, 3, 3, 3, 3, 4, 2, 3, 3, 4, 2, 3, 2];
+pub const READS: [u64; COUNT] = [4, 6, 2, 5, 3, 3, 3, 3, 3, 4, 2, 3, 3, 4, 2, 3, 2];
 
 const FAILED: Option<Rc> = Some(Rc::CallbackError);
 
 /// The calls of going on.
-const GOING_ON: u64 = 57;
+pub const GOING_ON: u64 = 57;
 
 /// No change of words.
-const NONE: [(u64, Option<u64>); 2] = [(0, Some(0)); 2];
+pub const NONE: [(u64, Option<u64>); 2] = [(0, Some(0)); 2];
 
 fn reads_and_look_ups<F: ToHost + Copy>(
     rt: &impl Abort,
