@@ -37,18 +37,22 @@ use Rattle.omi_rule.proofs.barrier.AtCounter.{context_placed, here, keeps_region
 use Rattle.omi_rule_watch.specs.Given.{HasAll, IsLookGiven, IsSearchGiven}
 use Rattle.omi_rule_watch.specs.Watch.{SlotLook, Watch}
 use Rattle.omi_rule_watch.proofs.Parts.{IsCalm, KeepsParts, PartsKeep, calm_at, event_parts, event_rests, look_stays, quiet_parts, quiet_rests, waits_parts}
-use Rattle.omi_rule_watch.proofs.Resting.{Rests, rests_join, rests_plain, rests_worker, rests_working}
+use Rattle.omi_rule_watch.proofs.Resting.{Rests, rests_join, rests_plain, rests_worker, rests_working, seeks_none}
 use Rattle.omi_rule_watch.proofs.Standing.{record_word, some_word, word_of}
 use Rattle.omi_rule_watch.proofs.Waits.{all_slots, some_body}
 
 rests_barrier : (c : BarrierCounter) → ((a : Actor) (h : SlotLook) → IsLookGiven a (counter.Barrier c) h)
     → Rests (counter.Barrier c)
-rests_barrier c given = record { region = refl; task = refl; look = given }
+rests_barrier c given = record { fresh = seeks_none refl refl (λ a. refl); look = given }
 
 module _ (p : Program) (w : List ℕ) (m : Memory) (events : List (ℕ × Event)) (s : State) (actors : ℕ → Actor)
     (i : ℕ) (before : Before p w m events s actors i) (h : Watch) where
   abbrev a : Actor
   a = actors i
+
+  -- the step at this counter keeps its parts
+  abbrev Keeps : BarrierCounter → Type 0
+  Keeps c = PartsKeep w m s i (barrier_next w a c) (λ old. (barrier_moved p a c old, barrier_outcome w a c old)) h
 
   -- ---- barriers
 
@@ -66,22 +70,28 @@ module _ (p : Program) (w : List ℕ) (m : Memory) (events : List (ℕ × Event)
     abbrev on_arrived : RecordWord
     on_arrived = word_of a.context.region.0.creator a.context.region.0.slot RegionArrived
 
-    by_missing : (d : Bool) → KeepsParts w m s i (op.Load (of_current w a RegionArrived)) on_arrived
-        (if d then looking b a else to_barrier (barrier.LoadPending b) a, if d then outcome.NotReady (of_current w a RegionArrived) (found_in m on_arrived) else outcome.Quiet) h
+    by_missing : (d : Bool) → KeepsParts w m s i (op.Load (of_current w a RegionArrived)) on_arrived (
+      if d then looking b a else to_barrier (barrier.LoadPending b) a,
+      if d then outcome.NotReady (of_current w a RegionArrived) (found_in m on_arrived) else outcome.Quiet,
+    ) h
     by_missing true =
         waits_parts w m s i _ on_arrived (looking b a) h
-        (calm (barrier.LoadArrived b) at given) _ _ refl refl refl refl
+        (calm (barrier.LoadArrived b) at given) _ _ refl refl (seeks_none refl refl (λ a. refl))
         (λ waits. all_slots p w m events s actors i before (counter.Barrier (barrier.LoadArrived b)) at tt h.look has)
         (record { looked = refl; seen = refl })
     by_missing false =
         quiet_parts w m s i (op.Load (of_current w a RegionArrived)) on_arrived
-        (to_barrier (barrier.LoadPending b) a) h (calm (barrier.LoadArrived b) at given) refl refl refl refl
+        (to_barrier (barrier.LoadPending b) a) h (calm (barrier.LoadArrived b) at given) refl refl (seeks_none refl refl (λ a. refl))
         (look_stays w s i on_arrived (op.Load (of_current w a RegionArrived)) (found_in m on_arrived) (slots_of a) h.look has (λ k. refl))
 
-    load_arrived : PartsKeep w m s i (barrier_next w (actors i) (barrier.LoadArrived b)) (λ old. (barrier_moved p (actors i) (barrier.LoadArrived b) old, barrier_outcome w (actors i) (barrier.LoadArrived b) old)) h
+    load_arrived : Keeps (barrier.LoadArrived b)
     load_arrived = (
       on_arrived,
-      record { there = record_word p w m events s actors i before regions a.context.region.0.creator a.context.region.0.slot RegionArrived refl (context_placed p w m events s actors i before (counter.Barrier (barrier.LoadArrived b)) at tt).region; address = refl },
+      record {
+        there = record_word p w m events s actors i before regions a.context.region.0.creator a.context.region.0.slot RegionArrived refl
+            (context_placed p w m events s actors i before (counter.Barrier (barrier.LoadArrived b)) at tt).region;
+        address = refl;
+      },
       by_missing (some_missing a (found_in m on_arrived)),
     )
 
@@ -91,21 +101,27 @@ module _ (p : Program) (w : List ℕ) (m : Memory) (events : List (ℕ × Event)
     abbrev on_pending : RecordWord
     on_pending = word_of a.context.region.0.creator a.context.region.0.slot RegionPending
 
-    by_pending : (d : Bool) → KeepsParts w m s i (op.Load (of_current w a RegionPending)) on_pending
-        (if d then to_barrier (barrier.Release b) a else looking b a, if d then outcome.Quiet else outcome.NotReady (of_current w a RegionPending) (found_in m on_pending)) h
+    by_pending : (d : Bool) → KeepsParts w m s i (op.Load (of_current w a RegionPending)) on_pending (
+      if d then to_barrier (barrier.Release b) a else looking b a,
+      if d then outcome.Quiet else outcome.NotReady (of_current w a RegionPending) (found_in m on_pending),
+    ) h
     by_pending true =
         quiet_rests w m s i _ on_pending (to_barrier (barrier.Release b) a) h
         (calm (barrier.LoadPending b) at given) refl refl (rests_barrier (barrier.Release b) (λ a h. tt))
     by_pending false =
         waits_parts w m s i _ on_pending (looking b a) h
-        (calm (barrier.LoadPending b) at given) _ _ refl refl refl refl
+        (calm (barrier.LoadPending b) at given) _ _ refl refl (seeks_none refl refl (λ a. refl))
         (λ waits. all_slots p w m events s actors i before (counter.Barrier (barrier.LoadPending b)) at tt h.look has)
         (record { looked = refl; seen = refl })
 
-    load_pending : PartsKeep w m s i (barrier_next w (actors i) (barrier.LoadPending b)) (λ old. (barrier_moved p (actors i) (barrier.LoadPending b) old, barrier_outcome w (actors i) (barrier.LoadPending b) old)) h
+    load_pending : Keeps (barrier.LoadPending b)
     load_pending = (
       on_pending,
-      record { there = record_word p w m events s actors i before regions a.context.region.0.creator a.context.region.0.slot RegionPending refl (context_placed p w m events s actors i before (counter.Barrier (barrier.LoadPending b)) at tt).region; address = refl },
+      record {
+        there = record_word p w m events s actors i before regions a.context.region.0.creator a.context.region.0.slot RegionPending refl
+            (context_placed p w m events s actors i before (counter.Barrier (barrier.LoadPending b)) at tt).region;
+        address = refl;
+      },
       by_pending (found_in m on_pending == 0),
     )
 
@@ -153,17 +169,21 @@ module _ (p : Program) (w : List ℕ) (m : Memory) (events : List (ℕ × Event)
         let other : a.context.number ≢ 0 =
         λ first. no_wait a.context.number first (row p w m events s actors i before (barrier.LoadReleased b) at) (ltb-true word a.context.arrivals closed) in
         waits_parts w m s i _ on_released (looking b a) h
-        (calm (barrier.LoadReleased b) at given) _ _ refl refl refl refl
+        (calm (barrier.LoadReleased b) at given) _ _ refl refl (seeks_none refl refl (λ a. refl))
         (λ waits. all_slots p w m events s actors i before (counter.Barrier (barrier.LoadReleased b)) at tt h.look (has other))
         (record { looked = refl; seen = refl })
     by_closed false past =
         event_rests w m s i _ on_released (passed p b a) h (calm (barrier.LoadReleased b) at given) _
         (rests_passed b (fits_barrier p w m events s actors i before (barrier.LoadReleased b) at).0)
 
-    load_released : PartsKeep w m s i (barrier_next w (actors i) (barrier.LoadReleased b)) (λ old. (barrier_moved p (actors i) (barrier.LoadReleased b) old, barrier_outcome w (actors i) (barrier.LoadReleased b) old)) h
+    load_released : Keeps (barrier.LoadReleased b)
     load_released = (
       on_released,
-      record { there = record_word p w m events s actors i before regions a.context.region.0.creator a.context.region.0.slot RegionReleased refl (context_placed p w m events s actors i before (counter.Barrier (barrier.LoadReleased b)) at tt).region; address = refl },
+      record {
+        there = record_word p w m events s actors i before regions a.context.region.0.creator a.context.region.0.slot RegionReleased refl
+            (context_placed p w m events s actors i before (counter.Barrier (barrier.LoadReleased b)) at tt).region;
+        address = refl;
+      },
       by_closed (is_closed a word) refl,
     )
 
@@ -176,11 +196,19 @@ module _ (p : Program) (w : List ℕ) (m : Memory) (events : List (ℕ × Event)
       let (x, on) = any (barrier.State b) at given in
       (x, on, event_rests w m s i _ x _ h (calm (barrier.State b) at given) _ (rests_barrier (barrier.Arrive b) (λ a h. tt)))
   barrier_parts (barrier.Arrive b) at given has =
-      let (x, on) = any (barrier.Arrive b) at given in
-      (x, on, event_parts w m s i _ x (looking b (past_arrive a)) h (calm (barrier.Arrive b) at given) _ refl refl (record { looked = refl; seen = refl }))
+      let (x, on) = any (barrier.Arrive b) at given in (
+        x,
+        on,
+        event_parts w m s i _ x (looking b (past_arrive a)) h (calm (barrier.Arrive b) at given) _ (seeks_none refl refl (λ a. refl))
+            (record { looked = refl; seen = refl }),
+      )
   barrier_parts (barrier.LoadArrived b) at given has = load_arrived b at given has
   barrier_parts (barrier.LoadPending b) at given has = load_pending b at given has
   barrier_parts (barrier.Release b) at given has =
-      let (x, on) = any (barrier.Release b) at given in
-      (x, on, event_parts w m s i _ x (to_barrier (barrier.LoadReleased b) a) h (calm (barrier.Release b) at given) _ refl refl (λ other. absurd (other (fits_barrier p w m events s actors i before (barrier.Release b) at).1)))
+      let (x, on) = any (barrier.Release b) at given in (
+        x,
+        on,
+        event_parts w m s i _ x (to_barrier (barrier.LoadReleased b) a) h (calm (barrier.Release b) at given) _
+            (seeks_none refl refl (λ a. refl)) (λ other. absurd (other (fits_barrier p w m events s actors i before (barrier.Release b) at).1)),
+      )
   barrier_parts (barrier.LoadReleased b) at given has = load_released b at given has

@@ -26,10 +26,11 @@ use Rattle.omi_rule.specs.Rows.{IsAbove, place_of}
 use Rattle.omi_rule.specs.Steps.{IsOn, RecordWord, found_in}
 use Rattle.omi_rule.proofs.Assembly.{Before}
 use Rattle.omi_rule.proofs.barrier.AtCounter.{placed_counter, row_is}
-use Rattle.omi_rule_watch.specs.Given.{Has, IsFinishGivenBy, IsLookGiven, IsSearchGiven, region_found, task_found}
+use Rattle.omi_rule_watch.specs.Given.{Has, IsFinishGivenBy, IsLookGiven, IsSearchGiven}
 use Rattle.omi_rule_watch.specs.Watch.{SlotLook, Watch, finds, is_load, is_own, is_slot, no_look}
 use Rattle.omi_rule_watch.proofs.Cases.{one_of}
 use Rattle.omi_rule_watch.proofs.Parts.{IsCalm, KeepsParts, PartsKeep, calm_at, event_parts, look_stays, quiet_parts}
+use Rattle.omi_rule_watch.proofs.Resting.{IsFresh, seeks_none}
 use Rattle.omi_rule_watch.proofs.Standing.{life_taken, record_word, some_word, word_of}
 use Rattle.omi_rule_watch.proofs.Workers.{not_found}
 
@@ -47,12 +48,11 @@ begins_behind w v (Some x) old l has =
     begins_two (old == 1) (finish.Free v x.task (task_place w x.generating)) (finish.SubtractPending v) l has has
 
 -- the wait goes on, with a new look
-back_calm : (p : Program) (v : Option Wait)
-    → (region_found (behind_finish p v) ≡ None) × (task_found (behind_finish p v) ≡ None)
-back_calm p None = (refl, refl)
-back_calm p (Some wait.Taskyield) = (refl, refl)
-back_calm p (Some wait.Taskwait) = (refl, refl)
-back_calm p (Some (wait.Barrier b)) = (refl, refl)
+back_fresh : (p : Program) (v : Option Wait) → IsFresh (behind_finish p v)
+back_fresh p None = seeks_none refl refl (λ a. refl)
+back_fresh p (Some wait.Taskyield) = seeks_none refl refl (λ a. refl)
+back_fresh p (Some wait.Taskwait) = seeks_none refl refl (λ a. refl)
+back_fresh p (Some (wait.Barrier b)) = seeks_none refl refl (λ a. refl)
 
 back_given : (p : Program) (b : Actor) (l : SlotLook) → Has l 0 None → (v : Option Wait)
     → IsLookGiven b (behind_finish p v) l
@@ -94,23 +94,23 @@ module _ (p : Program) (w : List ℕ) (m : Memory) (events : List (ℕ × Event)
     some = some_word p w m events s actors i before (counter.Finish c) at
 
     -- an event, behind which a look may begin
-    event_to : (e : Event) (b : Actor) → region_found b.counter ≡ None → task_found b.counter ≡ None
+    event_to : (e : Event) (b : Actor) → IsFresh b.counter
         → ((l : SlotLook) → Has l 0 None → IsLookGiven b b.counter l)
         → (x : RecordWord) × IsOn w (finish_next w a c) x × KeepsParts w m s i (finish_next w a c) x (b, outcome.Event e) h
-    event_to e b no_region no_task begins =
+    event_to e b fresh begins =
         let (x, on) = some in
-        (x, on, event_parts w m s i (finish_next w a c) x b h calm e no_region no_task (begins no_look (record { looked = refl; seen = refl })))
+        (x, on, event_parts w m s i (finish_next w a c) x b h calm e fresh (begins no_look (record { looked = refl; seen = refl })))
 
     -- a quiet step that loads no slot and finds no free record
     quiet_to : Has h.look 0 None → (x : RecordWord) (b : Actor)
         → finds RegionLife i x (finish_next w a c) (found_in m x) outcome.Quiet ≡ false
         → finds TaskLife i x (finish_next w a c) (found_in m x) outcome.Quiet ≡ false
         → ((k : ℕ) → is_load (finish_next w a c) && is_slot s i k x ≡ false)
-        → region_found b.counter ≡ None → task_found b.counter ≡ None
+        → IsFresh b.counter
         → ((l : SlotLook) → Has l 0 None → IsLookGiven b b.counter l)
         → KeepsParts w m s i (finish_next w a c) x (b, outcome.Quiet) h
-    quiet_to has x b none_region none_task no_slot no_region no_task begins =
-        quiet_parts w m s i (finish_next w a c) x b h calm none_region none_task no_region no_task
+    quiet_to has x b none_region none_task no_slot fresh begins =
+        quiet_parts w m s i (finish_next w a c) x b h calm none_region none_task fresh
         (begins _ (look_stays w s i x (finish_next w a c) (found_in m x) 0 h.look has no_slot))
 
   -- the first word of a field of a task's record
@@ -138,7 +138,7 @@ module _ (p : Program) (w : List ℕ) (m : Memory) (events : List (ℕ × Event)
       on_life,
       record { there = task_word_there q TaskLife refl (placed (finish.LoadLife v q next) at given); address = refl },
       quiet_to (finish.LoadLife v q next) at given has on_life _ refl
-          (not_found (is_own TaskLife i on_life) (is_free (found_in m on_life)) taken) (λ k. refl) refl refl (λ l begins. begins),
+          (not_found (is_own TaskLife i on_life) (is_free (found_in m on_life)) taken) (λ k. refl) (seeks_none refl refl (λ a. refl)) (λ l begins. begins),
     )
 
   -- ---- all of them
@@ -149,30 +149,30 @@ module _ (p : Program) (w : List ℕ) (m : Memory) (events : List (ℕ × Event)
       → PartsKeep w m s i (finish_next w (actors i) c)
       (λ old. (finish_moved p w (actors i) c old, finish_outcome (actors i) c)) h
   finish_parts finish.Finish at given has =
-      event_to finish.Finish at given _ _ refl refl (λ l begins. begins)
+      event_to finish.Finish at given _ _ (seeks_none refl refl (λ a. refl)) (λ l begins. begins)
   finish_parts (finish.LoadGenerating v t) at given has =
       let x = word_of t.0.creator t.0.slot TaskGenerating in (
         x,
         record { there = task_word_there (place_of t.0) TaskGenerating refl (placed (finish.LoadGenerating v t) at given); address = refl },
-        quiet_to (finish.LoadGenerating v t) at given has x _ refl refl (λ k. refl) refl refl (λ l begins. begins),
+        quiet_to (finish.LoadGenerating v t) at given has x _ refl refl (λ k. refl) (seeks_none refl refl (λ a. refl)) (λ l begins. begins),
       )
   finish_parts (finish.SubtractChildren v t generating) at given has =
       let (x, on) = some (finish.SubtractChildren v t generating) at given in
-      (x, on, quiet_to (finish.SubtractChildren v t generating) at given has x _ refl refl (λ k. refl) refl refl (λ l begins. begins))
+      (x, on, quiet_to (finish.SubtractChildren v t generating) at given has x _ refl refl (λ k. refl) (seeks_none refl refl (λ a. refl)) (λ l begins. begins))
   finish_parts (finish.SubtractReferences v t generating) at given has =
       let (x, on) = some (finish.SubtractReferences v t generating) at given in (
         x,
         on,
-        quiet_to (finish.SubtractReferences v t generating) at given has x _ refl refl (λ k. refl) refl refl
+        quiet_to (finish.SubtractReferences v t generating) at given has x _ refl refl (λ k. refl) (seeks_none refl refl (λ a. refl))
             (λ l begins. begins_two (found_in m x == 1) (finish.Free v t generating) (finish.SubtractPending v) l begins begins),
       )
   finish_parts (finish.Free v t generating) at given has =
-      event_to (finish.Free v t generating) at given _ _ refl refl (λ l begins. begins)
+      event_to (finish.Free v t generating) at given _ _ (seeks_none refl refl (λ a. refl)) (λ l begins. begins)
   finish_parts (finish.LoadImplicit v generating) at given has =
       let x = word_of generating.creator generating.slot TaskImplicit in (
         x,
         record { there = task_word_there generating TaskImplicit refl (placed (finish.LoadImplicit v generating) at given); address = refl },
-        quiet_to (finish.LoadImplicit v generating) at given has x _ refl refl (λ k. refl) refl refl
+        quiet_to (finish.LoadImplicit v generating) at given has x _ refl refl (λ k. refl) (seeks_none refl refl (λ a. refl))
             (λ l begins. begins_two (found_in m x == 0) (finish.LoadNext v generating)
             (finish.SubtractGenerating v generating None) l begins begins),
       )
@@ -180,21 +180,21 @@ module _ (p : Program) (w : List ℕ) (m : Memory) (events : List (ℕ × Event)
       let x = word_of generating.creator generating.slot TaskGenerating in (
         x,
         record { there = task_word_there generating TaskGenerating refl (placed (finish.LoadNext v generating) at given); address = refl },
-        quiet_to (finish.LoadNext v generating) at given has x _ refl refl (λ k. refl) refl refl (λ l begins. begins),
+        quiet_to (finish.LoadNext v generating) at given has x _ refl refl (λ k. refl) (seeks_none refl refl (λ a. refl)) (λ l begins. begins),
       )
   finish_parts (finish.LoadLife v generating next) at given has = loads_life v generating next at given has
   finish_parts (finish.SubtractGenerating v generating explicit) at given has =
       let (x, on) = some (finish.SubtractGenerating v generating explicit) at given in (
         x,
         on,
-        quiet_to (finish.SubtractGenerating v generating explicit) at given has x _ refl refl (λ k. refl) refl refl
+        quiet_to (finish.SubtractGenerating v generating explicit) at given has x _ refl refl (λ k. refl) (seeks_none refl refl (λ a. refl))
             (begins_behind w v explicit (found_in m x)),
       )
   finish_parts (finish.SubtractPending v) at given has =
       let (x, on) = some (finish.SubtractPending v) at given in
-      let (no_region, no_task) = back_calm p v in (
+      let fresh = back_fresh p v in (
         x,
         on,
         quiet_to (finish.SubtractPending v) at given has x (record a { counter = behind_finish p v }) refl refl
-            (λ k. refl) no_region no_task (λ l begins. back_given p (record a { counter = behind_finish p v }) l begins v),
+            (λ k. refl) fresh (λ l begins. back_given p (record a { counter = behind_finish p v }) l begins v),
       )

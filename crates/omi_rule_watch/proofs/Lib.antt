@@ -12,4 +12,7 @@ pub mod Making
 pub mod Waits
 pub mod Barriers
 pub mod Finishes
+pub mod SameWords
+pub mod Takes
+pub mod TakingSteps
 pub mod Kept

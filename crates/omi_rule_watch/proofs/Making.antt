@@ -38,12 +38,12 @@ use Rattle.omi_rule.proofs.plain.Locks.{lock_there}
 use Rattle.omi_rule.proofs.task.Within.{context_placed, fits, owes, placed}
 use Rattle.omi_rule.proofs.team.Loads.{variable_word}
 use Rattle.omi_rule_watch.specs.Demands.{MayOweTask}
-use Rattle.omi_rule_watch.specs.Given.{IsLookGiven, IsSearchGiven, own_life, region_found, task_found}
+use Rattle.omi_rule_watch.specs.Given.{IsFirst, IsLookGiven, IsSearchGiven, own_life, region_found, sought, task_found}
 use Rattle.omi_rule_watch.specs.Watch.{Watch, no_look}
 use Rattle.omi_rule_watch.proofs.Cases.{one_of}
 use Rattle.omi_rule_watch.proofs.OwedRecords.{tasks_owed}
 use Rattle.omi_rule_watch.proofs.Parts.{IsCalm, KeepsParts, PartsKeep, calm_at, either_none, ended_parts, event_parts, event_rests, quiet_rests, waits_rests}
-use Rattle.omi_rule_watch.proofs.Resting.{Rests, rests_plain, rests_returned, rests_settled, rests_task, rests_worked, rests_working}
+use Rattle.omi_rule_watch.proofs.Resting.{IsFresh, Rests, rests_plain, rests_returned, rests_settled, rests_task, rests_worked, rests_working, seeks_none}
 use Rattle.omi_rule_watch.proofs.Searching.{task_found_free, task_passed, task_taken}
 use Rattle.omi_rule_watch.proofs.Standing.{own, own_maker, record_word, some_word, word_of}
 use Rattle.omi_rule_watch.proofs.Teams.{no_life}
@@ -53,22 +53,30 @@ module _ (p : Program) (w : List ℕ) (m : Memory) (events : List (ℕ × Event)
   abbrev a : Actor
   a = actors i
 
+  -- the step at this counter keeps its parts
+  abbrev Keeps : TaskCounter → Type 0
+  Keeps c = PartsKeep w m s i (making_next p w a c) (λ old. (making_moved p w a c old, making_outcome w a c old)) h
+
+  abbrev KeepsPlain : PlainCounter → Type 0
+  KeepsPlain c = PartsKeep w m s i (plain_next p w a c) (λ old. (plain_moved p a c old, plain_outcome p w a c old)) h
+
   mine : (actors i).thread ≡ i
   mine = (own p w m events s actors i before).thread
 
   -- ---- `task` constructs
 
   rests_making : (c : TaskCounter) → region_found (counter.Task c) ≡ None → task_found (counter.Task c) ≡ None
-      → Rests (counter.Task c)
-  rests_making c no_region no_task = record { region = no_region; task = no_task; look = λ a h. tt }
+      → ((a : Actor) → IsFirst (sought a (counter.Task c))) → Rests (counter.Task c)
+  rests_making c no_region no_task first =
+      record { fresh = record { region = no_region; task = no_task; first = first }; look = λ a h. tt }
 
   rests_two : (b : Bool) (c d : TaskCounter) → Rests (counter.Task c) → Rests (counter.Task d)
       → Rests (counter.Task (if b then c else d))
   rests_two b c d one other = one_of (λ (x : TaskCounter). Rests (counter.Task x)) b c d one other
 
   rests_raised : (place : Option ℕ) (t : Tid) → Rests (counter.Task (behind_raises place t))
-  rests_raised None t = rests_making (task.StartNow t) refl refl
-  rests_raised (Some place) t = rests_making (task.Defer place t) refl refl
+  rests_raised None t = rests_making (task.StartNow t) refl refl (λ a. tt)
+  rests_raised (Some place) t = rests_making (task.Defer place t) refl refl (λ a. tt)
 
   module _ (c : TaskCounter) (at : (actors i).counter ≡ counter.Task c) where
     any : (x : RecordWord) × IsOn w (making_next p w (actors i) c) x
@@ -83,19 +91,29 @@ module _ (p : Program) (w : List ℕ) (m : Memory) (events : List (ℕ × Event)
     calm = calm_at a (counter.Task (task.LoadSlot place)) h.search refl refl refl given
 
     by_slot : (b : Bool)
-        → KeepsParts w m s i (op.Load (of_own_slot w a place)) x
-        (to_task (if b then task.LoadVariable (Some place) 0 else (if nat_lt (place + 1) OWN_SLOTS then task.LoadSlot (place + 1) else task.LoadVariable None 0)) a, if b then outcome.Quiet else outcome.Event (event.Seen place)) h
+        → KeepsParts w m s i (op.Load (of_own_slot w a place)) x (
+          to_task
+              (if b then task.LoadVariable (Some place) 0
+              else (if nat_lt (place + 1) OWN_SLOTS then task.LoadSlot (place + 1) else task.LoadVariable None 0))
+              a,
+          if b then outcome.Quiet else outcome.Event (event.Seen place),
+        ) h
     by_slot true =
-        quiet_rests w m s i _ x _ h calm refl refl (rests_making (task.LoadVariable (Some place) 0) refl refl)
+        quiet_rests w m s i _ x _ h calm refl refl (rests_making (task.LoadVariable (Some place) 0) refl refl (λ a. tt))
     by_slot false =
         event_rests w m s i _ x _ h calm _
-        (rests_two (nat_lt (place + 1) OWN_SLOTS) (task.LoadSlot (place + 1)) (task.LoadVariable None 0) (rests_making (task.LoadSlot (place + 1)) refl refl) (rests_making (task.LoadVariable None 0) refl refl))
+        (rests_two (nat_lt (place + 1) OWN_SLOTS) (task.LoadSlot (place + 1)) (task.LoadVariable None 0)
+        (rests_making (task.LoadSlot (place + 1)) refl refl (λ a. tt)) (rests_making (task.LoadVariable None 0) refl refl (λ a. tt)))
 
-    own_slots : PartsKeep w m s i (making_next p w (actors i) (task.LoadSlot place)) (λ old. (making_moved p w (actors i) (task.LoadSlot place) old, making_outcome w (actors i) (task.LoadSlot place) old)) h
+    own_slots : Keeps (task.LoadSlot place)
     own_slots = (
       x,
       record {
-        there = record { field = numbered_field TaskSlots; record_slot = (context_placed p w m events s actors i before (task.LoadSlot place) at).row; within = (let few = (fits p w m events s actors i before (task.LoadSlot place) at).1 in omega (arith, few)) };
+        there = record {
+          field = numbered_field TaskSlots;
+          record_slot = (context_placed p w m events s actors i before (task.LoadSlot place) at).row;
+          within = (let few = (fits p w m events s actors i before (task.LoadSlot place) at).1 in omega (arith, few));
+        };
         address = refl;
       },
       by_slot (found_in m x == 0),
@@ -114,20 +132,32 @@ module _ (p : Program) (w : List ℕ) (m : Memory) (events : List (ℕ × Event)
         omega (arith, most, none))
 
     by_life : (b : Bool) → is_free (found_in m y) ≡ b
-        → KeepsParts w m s i (op.Load (of_place w (own_place a slot) TaskLife)) y
-        (to_task (if b then task.Take place (record { 0 = object_in (own_place a slot) (found_in m y) }) else task.LoadLife place (next_slot w tasks slot)) a, if b then outcome.Quiet else outcome.NotReady (of_place w (own_place a slot) TaskLife) (found_in m y)) h
+        → KeepsParts w m s i (op.Load (of_place w (own_place a slot) TaskLife)) y (
+          to_task
+              (if b then task.Take place (record { 0 = object_in (own_place a slot) (found_in m y) })
+              else task.LoadLife place (next_slot w tasks slot))
+              a,
+          if b then outcome.Quiet else outcome.NotReady (of_place w (own_place a slot) TaskLife) (found_in m y),
+        ) h
     by_life true free =
         task_found_free w m s i a mine h _ slot given.expected given.region given.task
-        (to_task (task.Take place (record { 0 = object_in (own_place a slot) (found_in m y) })) a) refl free refl tt
+        (to_task (task.Take place (record { 0 = object_in (own_place a slot) (found_in m y) })) a) refl free refl tt tt
     by_life false taken =
         task_passed w m s i a mine h _ slot given.expected given.region given.task
         (to_task (task.LoadLife place (next_slot w tasks slot)) a) refl _
         (placed p w m events s actors i before (task.LoadLife place slot) at) one_task refl refl tt
 
-    task_search : PartsKeep w m s i (making_next p w (actors i) (task.LoadLife place slot)) (λ old. (making_moved p w (actors i) (task.LoadLife place slot) old, making_outcome w (actors i) (task.LoadLife place slot) old)) h
+    task_search : Keeps (task.LoadLife place slot)
     task_search = (
       y,
-      record { there = record_word p w m events s actors i before tasks (actors i).thread slot TaskLife refl (record { made_by = own_maker p w m events s actors i before; within = placed p w m events s actors i before (task.LoadLife place slot) at }); address = refl },
+      record {
+        there = record_word p w m events s actors i before tasks (actors i).thread slot TaskLife refl
+            (record {
+              made_by = own_maker p w m events s actors i before;
+              within = placed p w m events s actors i before (task.LoadLife place slot) at;
+            });
+        address = refl;
+      },
       by_life (is_free (found_in m y)) refl,
     )
 
@@ -145,13 +175,19 @@ module _ (p : Program) (w : List ℕ) (m : Memory) (events : List (ℕ × Event)
         record { there = variable_word w k word below (context_placed p w m events s actors i before (task.LoadVariable place word) at).task; address = refl },
         quiet_rests w m s i (op.Load (of_variable w k word)) x _ h
             (calm_at a (counter.Task (task.LoadVariable place word)) h.search refl refl refl given) no_region no_task
-            (rests_two (nat_lt (word + 1) VARIABLE_WORDS) (task.LoadVariable place (word + 1)) (task.LoadLife place 0) (rests_making (task.LoadVariable place (word + 1)) refl refl) (rests_making (task.LoadLife place 0) refl refl)),
+            (rests_two (nat_lt (word + 1) VARIABLE_WORDS) (task.LoadVariable place (word + 1)) (task.LoadLife place 0)
+            (rests_making (task.LoadVariable place (word + 1)) refl refl (λ a. tt)) (rests_making (task.LoadLife place 0) refl refl (λ a. refl))),
       )
   making_parts (task.LoadLife place slot) at given = task_search place slot at given
   making_parts (task.Take place t) at given = (
     word_of t.0.creator t.0.slot TaskLife,
-    record { there = record_word p w m events s actors i before tasks t.0.creator t.0.slot TaskLife refl (placed p w m events s actors i before (task.Take place t) at); address = refl },
-    task_taken w m s i a mine h _ t.0 _ ((fits p w m events s actors i before (task.Take place t) at).1 ∙ mine) (either_none given.expected) given.region given.task (rests_making (task.Fill place t 0) refl refl),
+    record {
+      there = record_word p w m events s actors i before tasks t.0.creator t.0.slot TaskLife refl
+          (placed p w m events s actors i before (task.Take place t) at);
+      address = refl;
+    },
+    task_taken w m s i a mine h _ t.0 _ ((fits p w m events s actors i before (task.Take place t) at).1 ∙ mine)
+        (either_none given.expected) given.region given.task (rests_making (task.Fill place t 0) refl refl (λ a. tt)),
   )
   making_parts (task.Fill place t word) at given =
       let (x, on) = any (task.Fill place t word) at in (
@@ -159,17 +195,30 @@ module _ (p : Program) (w : List ℕ) (m : Memory) (events : List (ℕ × Event)
         on,
         quiet_rests w m s i _ x _ h
             (calm_at a (counter.Task (task.Fill place t word)) h.search refl refl refl given) refl refl
-            (rests_two (nat_lt (word + 1) TASK_WORDS) (task.Fill place t (word + 1)) (task.AddPending place t) (rests_making (task.Fill place t (word + 1)) refl refl) (rests_making (task.AddPending place t) refl refl)),
+            (rests_two (nat_lt (word + 1) TASK_WORDS) (task.Fill place t (word + 1)) (task.AddPending place t)
+            (rests_making (task.Fill place t (word + 1)) refl refl (λ a. tt)) (rests_making (task.AddPending place t) refl refl (λ a. tt))),
       )
   making_parts (task.AddPending place t) at given =
-      let (x, on) = any (task.AddPending place t) at in
-      (x, on, quiet_rests w m s i _ x _ h (calm_at a (counter.Task (task.AddPending place t)) h.search refl refl refl given) refl refl (rests_making (task.AddChildren place t) refl refl))
+      let (x, on) = any (task.AddPending place t) at in (
+        x,
+        on,
+        quiet_rests w m s i _ x _ h (calm_at a (counter.Task (task.AddPending place t)) h.search refl refl refl given) refl refl
+            (rests_making (task.AddChildren place t) refl refl (λ a. tt)),
+      )
   making_parts (task.AddChildren place t) at given =
-      let (x, on) = any (task.AddChildren place t) at in
-      (x, on, quiet_rests w m s i _ x _ h (calm_at a (counter.Task (task.AddChildren place t)) h.search refl refl refl given) refl refl (rests_making (task.AddReferences place t) refl refl))
+      let (x, on) = any (task.AddChildren place t) at in (
+        x,
+        on,
+        quiet_rests w m s i _ x _ h (calm_at a (counter.Task (task.AddChildren place t)) h.search refl refl refl given) refl refl
+            (rests_making (task.AddReferences place t) refl refl (λ a. tt)),
+      )
   making_parts (task.AddReferences place t) at given =
-      let (x, on) = any (task.AddReferences place t) at in
-      (x, on, quiet_rests w m s i _ x _ h (calm_at a (counter.Task (task.AddReferences place t)) h.search refl refl refl given) refl refl (rests_raised place t))
+      let (x, on) = any (task.AddReferences place t) at in (
+        x,
+        on,
+        quiet_rests w m s i _ x _ h (calm_at a (counter.Task (task.AddReferences place t)) h.search refl refl refl given) refl refl
+            (rests_raised place t),
+      )
   making_parts (task.Defer place t) at given =
       let (x, on) = any (task.Defer place t) at in
       (x, on, event_rests w m s i _ x _ h (calm_at a (counter.Task (task.Defer place t)) h.search refl refl refl given) _ (rests_plain plain.Leave))
@@ -179,7 +228,8 @@ module _ (p : Program) (w : List ℕ) (m : Memory) (events : List (ℕ × Event)
         on,
         event_rests w m s i _ x _ h
             (calm_at a (counter.Task (task.StartNow t)) h.search refl refl refl given) _
-            (rests_settled p (begun_explicit (made_function p a) None (task_context a t (makes_final p a)) a) (λ none. subst Rests (sym at) (rests_making (task.StartNow t) refl refl))),
+            (rests_settled p (begun_explicit (made_function p a) None (task_context a t (makes_final p a)) a)
+            (λ none. subst Rests (sym at) (rests_making (task.StartNow t) refl refl (λ a. tt)))),
       )
 
   -- ---- plain steps
@@ -207,28 +257,31 @@ module _ (p : Program) (w : List ℕ) (m : Memory) (events : List (ℕ × Event)
 
   -- behind an enter: a look may begin
   entered_calm : (debug final : Bool) (x : Option Stmt)
-      → (region_found (behind_enter debug final x) ≡ None) × (task_found (behind_enter debug final x) ≡ None) × ((b : Actor) → IsLookGiven b (behind_enter debug final x) no_look)
-  entered_calm debug final None = (refl, refl, λ b. tt)
-  entered_calm true final (Some (stmt.Parallel f num)) = (refl, refl, λ b. tt)
-  entered_calm false final (Some (stmt.Parallel f num)) = (refl, refl, λ b. tt)
+      → IsFresh (behind_enter debug final x) × ((b : Actor) → IsLookGiven b (behind_enter debug final x) no_look)
+  entered_calm debug final None = (seeks_none refl refl (λ a. refl), λ b. tt)
+  entered_calm true final (Some (stmt.Parallel f num)) = (seeks_none refl refl (λ a. refl), λ b. tt)
+  entered_calm false final (Some (stmt.Parallel f num)) = (seeks_none refl refl (λ a. refl), λ b. tt)
   entered_calm debug final (Some (stmt.Task f undeferred given)) =
-      let rests = rests_task (undeferred || final) in (rests.region, rests.task, λ b. rests.look b no_look)
-  entered_calm true final (Some stmt.Taskwait) = (refl, refl, λ b. tt)
-  entered_calm false final (Some stmt.Taskwait) = (refl, refl, λ b. record { looked = refl; seen = refl })
-  entered_calm debug final (Some stmt.Taskyield) = (refl, refl, λ b. record { looked = refl; seen = refl })
-  entered_calm true final (Some stmt.Barrier) = (refl, refl, λ b. tt)
-  entered_calm false final (Some stmt.Barrier) = (refl, refl, λ b. tt)
-  entered_calm true final (Some (stmt.Critical k f)) = (refl, refl, λ b. tt)
-  entered_calm false final (Some (stmt.Critical k f)) = (refl, refl, λ b. tt)
-  entered_calm debug final (Some x) = (refl, refl, λ b. tt)
+      let rests = rests_task (undeferred || final) in (rests.fresh, λ b. rests.look b no_look)
+  entered_calm true final (Some stmt.Taskwait) = (seeks_none refl refl (λ a. refl), λ b. tt)
+  entered_calm false final (Some stmt.Taskwait) = (seeks_none refl refl (λ a. refl), λ b. record { looked = refl; seen = refl })
+  entered_calm debug final (Some stmt.Taskyield) = (seeks_none refl refl (λ a. refl), λ b. record { looked = refl; seen = refl })
+  entered_calm true final (Some stmt.Barrier) = (seeks_none refl refl (λ a. refl), λ b. tt)
+  entered_calm false final (Some stmt.Barrier) = (seeks_none refl refl (λ a. refl), λ b. tt)
+  entered_calm true final (Some (stmt.Critical k f)) = (seeks_none refl refl (λ a. refl), λ b. tt)
+  entered_calm false final (Some (stmt.Critical k f)) = (seeks_none refl refl (λ a. refl), λ b. tt)
+  entered_calm debug final (Some x) = (seeks_none refl refl (λ a. refl), λ b. tt)
 
   module _ (at : (actors i).counter ≡ counter.Plain plain.Lock)
       (given : IsSearchGiven (actors i) (counter.Plain plain.Lock) h.search) where
     abbrev lock : RecordWord
     lock = record { creator = 0; slot = 0; field = RuntimeLocks; place = lock_in (in_work p (actors i)) }
 
-    by_lock : (b : Bool) → KeepsParts w m s i (plain_next p w (actors i) plain.Lock) lock
-        (if b then back_to_work p a else a, if b then outcome.Event (event.Lock (lock_in (in_work p a))) else outcome.NotReady (of_lock w (lock_in (in_work p a))) (found_in m lock)) h
+    by_lock : (b : Bool) → KeepsParts w m s i (plain_next p w (actors i) plain.Lock) lock (
+      if b then back_to_work p a else a,
+      if b then outcome.Event (event.Lock (lock_in (in_work p a)))
+          else outcome.NotReady (of_lock w (lock_in (in_work p a))) (found_in m lock),
+    ) h
     by_lock true =
         event_rests w m s i _ lock _ h (calm_plain plain.Lock at given) _
         (rests_working p a (λ none. here plain.Lock at given))
@@ -236,16 +289,21 @@ module _ (p : Program) (w : List ℕ) (m : Memory) (events : List (ℕ × Event)
         waits_rests w m s i _ lock a h (calm_plain plain.Lock at given) _ _ refl refl refl
         (here plain.Lock at given)
 
-    locks : PartsKeep w m s i (plain_next p w (actors i) plain.Lock) (λ old. (plain_moved p (actors i) plain.Lock old, plain_outcome p w (actors i) plain.Lock old)) h
+    locks : KeepsPlain plain.Lock
     locks = (
       lock,
-      record { there = lock_there p w m events s actors i before plain.Lock at (subst (FitsCounter p (actors i)) at (own p w m events s actors i before).fits.counter); address = refl },
+      record {
+        there = lock_there p w m events s actors i before plain.Lock at
+            (subst (FitsCounter p (actors i)) at (own p w m events s actors i before).fits.counter);
+        address = refl;
+      },
       by_lock (found_in m lock == 0),
     )
 
   pub plain_parts : (c : PlainCounter) (at : (actors i).counter ≡ counter.Plain c)
       → IsSearchGiven (actors i) (counter.Plain c) h.search
-      → PartsKeep w m s i (plain_next p w (actors i) c) (λ old. (plain_moved p (actors i) c old, plain_outcome p w (actors i) c old)) h
+      → PartsKeep w m s i (plain_next p w (actors i) c)
+      (λ old. (plain_moved p (actors i) c old, plain_outcome p w (actors i) c old)) h
   plain_parts plain.Work at given =
       commits plain.Work at given _ _ (rests_settled p a (λ none. here plain.Work at given))
   plain_parts plain.Call at given =
@@ -260,8 +318,8 @@ module _ (p : Program) (w : List ℕ) (m : Memory) (events : List (ℕ × Event)
       commits plain.Tool at given _ _ (rests_settled p a (λ none. here plain.Tool at given))
   plain_parts plain.Enter at given =
       let (x, on) = word plain.Enter at given in
-      let (no_region, no_task, look) = entered_calm p.env.debug a.context.is_final (in_work p a) in
-      (x, on, event_parts w m s i _ x _ h (calm_plain plain.Enter at given) _ no_region no_task (look (past_enter p a)))
+      let (fresh, look) = entered_calm p.env.debug a.context.is_final (in_work p a) in
+      (x, on, event_parts w m s i _ x _ h (calm_plain plain.Enter at given) _ fresh (look (past_enter p a)))
   plain_parts plain.Leave at given =
       commits plain.Leave at given _ _ (rests_left (in_work p a) (here plain.Leave at given))
   plain_parts plain.WorkState at given =

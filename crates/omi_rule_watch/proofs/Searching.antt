@@ -18,18 +18,27 @@ use Rattle.omi_step_words.specs.Searches.{next_slot}
 use Rattle.omi_step_words.specs.Words.{is_free, used_word}
 use Rattle.omi_rule.specs.Steps.{RecordWord, found_in}
 use Rattle.omi_rule_watch.specs.Demands.{IsExpected, MayOweRegion, MayOweTask}
-use Rattle.omi_rule_watch.specs.Given.{IsLookGiven, own_life, region_found, sought, task_found}
+use Rattle.omi_rule_watch.specs.Given.{IsFirst, IsLookGiven, own_life, region_found, sought, task_found}
 use Rattle.omi_rule_watch.specs.Watch.{Search, Watch, expected_after, found_after, found_in_slot, is_own, is_own_life, life_behind, looked_at}
 use Rattle.omi_rule_watch.proofs.Parts.{KeepsParts, expects_none, found_none}
 use Rattle.omi_rule_watch.proofs.Resting.{Rests}
 use Rattle.omi_rule_watch.proofs.Standing.{same_number, word_of}
 
+-- a search begins at this life word, which is that of slot 0, or goes on at it
+abbrev pub IsSought : Search → RecordWord → Type 0
+IsSought h x = ((h.expected ≡ None) × (x.slot ≡ 0)) ⊎ (h.expected ≡ Some x)
+
 -- the life word that is expected is loaded
-pub expects_this : (h : Search) (address : ℕ) (x : RecordWord) → (h.expected ≡ None) ⊎ (h.expected ≡ Some x)
+pub expects_this : (h : Search) (address : ℕ) (x : RecordWord) → IsSought h x
     → IsExpected h.expected (op.Load address) x
-expects_this h address x (inl none) = expects_none h (op.Load address) x none
+expects_this h address x (inl (none, first)) = expects_none h (op.Load address) x none
 expects_this h address x (inr some) =
     subst (λ (e : Option RecordWord). IsExpected e (op.Load address) x) (sym some) (refl, refl)
+
+-- a search that goes on does not begin
+pub begins_first : (h : Search) (x : RecordWord) → IsSought h x → h.expected ≡ None → x.slot ≡ 0
+begins_first h x (inl (none, first)) calm = first
+begins_first h x (inr some) calm = absurd (cc (sym some, calm))
 
 -- the slot behind one
 slot_behind : (w : List ℕ) (kind slot : ℕ) → slot < per_thread w kind
@@ -85,20 +94,20 @@ module _ (w : List ℕ) (m : Memory) (s : State) (i : ℕ) (a : Actor) (mine : a
   -- ---- regions
 
   module _ (slot : ℕ)
-      (expected : (h.search.expected ≡ None) ⊎ (h.search.expected ≡ Some (own_life a RegionLife slot)))
+      (expected : IsSought h.search (own_life a RegionLife slot))
       (region : h.search.region ≡ None) (task : h.search.task ≡ None) (b : Actor)
       (no_task : task_found b.counter ≡ None) where
     abbrev x : RecordWord
     x = own_life a RegionLife slot
 
     pub region_found_free : is_free (found_in m x) ≡ true
-        → region_found b.counter ≡ Some (found_in_slot x (found_in m x))
+        → region_found b.counter ≡ Some (found_in_slot x (found_in m x)) → IsFirst (sought b b.counter)
         → IsLookGiven b b.counter (looked_at w s i x (op.Load address) (found_in m x) h.look.looked h.look.seen)
         → KeepsParts w m s i (op.Load address) x (b, outcome.Quiet) h
-    region_found_free free found look = record {
-      meets_search = expects_this h.search address x expected;
+    region_found_free free found first look = record {
+      meets_order = (λ calm some. begins_first h.search x expected calm, expects_this h.search address x expected);
       search = record {
-        expected = inl refl;
+        expected = inl (refl, first);
         region = found_one RegionLife i x address (found_in m x) h.search.region region own_thread free ∙ sym found;
         task = found_none TaskLife i x (op.Load address) (found_in m x) outcome.Quiet h.search.task task refl ∙ sym no_task;
       };
@@ -111,7 +120,11 @@ module _ (w : List ℕ) (m : Memory) (s : State) (i : ℕ) (a : Actor) (mine : a
         → region_found b.counter ≡ None
         → IsLookGiven b b.counter h.look → KeepsParts w m s i (op.Load address) x (b, outcome.NotReady address word) h
     region_passed word within may goes none look = record {
-      meets_search = (expects_this h.search address x expected, record { region = λ own. (region, may); task = λ own. absurd (cc own) });
+      meets_order = (
+        λ calm some. begins_first h.search x expected calm,
+        expects_this h.search address x expected,
+        record { region = λ own. (region, may); task = λ own. absurd (cc own) },
+      );
       search = record {
         expected = inr (goes_behind w i a RegionLife slot address word (ap (λ b. b || false) own_thread) within ∙ sym goes);
         region = found_none RegionLife i x (op.Load address) (found_in m x) (outcome.NotReady address word) h.search.region region refl ∙ sym none;
@@ -127,11 +140,16 @@ module _ (w : List ℕ) (m : Memory) (s : State) (i : ℕ) (a : Actor) (mine : a
       → KeepsParts w m s i (op.Store address (used_word n)) (word_of n.creator n.slot RegionLife)
       (b, outcome.Quiet) h
   region_taken n b maker none region task rests = record {
-    meets_search = expects_none h.search (op.Store address (used_word n)) (word_of n.creator n.slot RegionLife) none;
+    meets_order = (
+      λ calm some. absurd (cc some),
+      expects_none h.search (op.Store address (used_word n)) (word_of n.creator n.slot RegionLife) none,
+    );
     search = record {
-      expected = inl refl;
-      region = taken_one RegionLife i n address (found_in m (word_of n.creator n.slot RegionLife)) h.search.region region (eq-eqb n.creator i maker) ∙ sym rests.region;
-      task = found_none TaskLife i (word_of n.creator n.slot RegionLife) (op.Store address (used_word n)) (found_in m (word_of n.creator n.slot RegionLife)) outcome.Quiet h.search.task task refl ∙ sym rests.task;
+      expected = inl (refl, rests.fresh.first b);
+      region = taken_one RegionLife i n address (found_in m (word_of n.creator n.slot RegionLife)) h.search.region region (eq-eqb n.creator i maker)
+          ∙ sym rests.fresh.region;
+      task = found_none TaskLife i (word_of n.creator n.slot RegionLife) (op.Store address (used_word n))
+          (found_in m (word_of n.creator n.slot RegionLife)) outcome.Quiet h.search.task task refl ∙ sym rests.fresh.task;
     };
     meets_look = tt;
     look = rests.look b _;
@@ -140,20 +158,20 @@ module _ (w : List ℕ) (m : Memory) (s : State) (i : ℕ) (a : Actor) (mine : a
   -- ---- tasks
 
   module _ (slot : ℕ)
-      (expected : (h.search.expected ≡ None) ⊎ (h.search.expected ≡ Some (own_life a TaskLife slot)))
+      (expected : IsSought h.search (own_life a TaskLife slot))
       (region : h.search.region ≡ None) (task : h.search.task ≡ None) (b : Actor)
       (no_region : region_found b.counter ≡ None) where
     abbrev y : RecordWord
     y = own_life a TaskLife slot
 
     pub task_found_free : is_free (found_in m y) ≡ true
-        → task_found b.counter ≡ Some (found_in_slot y (found_in m y))
+        → task_found b.counter ≡ Some (found_in_slot y (found_in m y)) → IsFirst (sought b b.counter)
         → IsLookGiven b b.counter (looked_at w s i y (op.Load address) (found_in m y) h.look.looked h.look.seen)
         → KeepsParts w m s i (op.Load address) y (b, outcome.Quiet) h
-    task_found_free free found look = record {
-      meets_search = expects_this h.search address y expected;
+    task_found_free free found first look = record {
+      meets_order = (λ calm some. begins_first h.search y expected calm, expects_this h.search address y expected);
       search = record {
-        expected = inl refl;
+        expected = inl (refl, first);
         region = found_none RegionLife i y (op.Load address) (found_in m y) outcome.Quiet h.search.region region refl ∙ sym no_region;
         task = found_one TaskLife i y address (found_in m y) h.search.task task own_thread free ∙ sym found;
       };
@@ -166,7 +184,11 @@ module _ (w : List ℕ) (m : Memory) (s : State) (i : ℕ) (a : Actor) (mine : a
         → task_found b.counter ≡ None
         → IsLookGiven b b.counter h.look → KeepsParts w m s i (op.Load address) y (b, outcome.NotReady address word) h
     task_passed word within may goes none look = record {
-      meets_search = (expects_this h.search address y expected, record { region = λ own. absurd (cc own); task = λ own. (task, may) });
+      meets_order = (
+        λ calm some. begins_first h.search y expected calm,
+        expects_this h.search address y expected,
+        record { region = λ own. absurd (cc own); task = λ own. (task, may) },
+      );
       search = record {
         expected = inr (goes_behind w i a TaskLife slot address word own_thread within ∙ sym goes);
         region = found_none RegionLife i y (op.Load address) (found_in m y) (outcome.NotReady address word) h.search.region region refl ∙ sym no_region;
@@ -182,11 +204,16 @@ module _ (w : List ℕ) (m : Memory) (s : State) (i : ℕ) (a : Actor) (mine : a
       → KeepsParts w m s i (op.Store address (used_word n)) (word_of n.creator n.slot TaskLife)
       (b, outcome.Quiet) h
   task_taken n b maker none region task rests = record {
-    meets_search = expects_none h.search (op.Store address (used_word n)) (word_of n.creator n.slot TaskLife) none;
+    meets_order = (
+      λ calm some. absurd (cc some),
+      expects_none h.search (op.Store address (used_word n)) (word_of n.creator n.slot TaskLife) none,
+    );
     search = record {
-      expected = inl refl;
-      region = found_none RegionLife i (word_of n.creator n.slot TaskLife) (op.Store address (used_word n)) (found_in m (word_of n.creator n.slot TaskLife)) outcome.Quiet h.search.region region refl ∙ sym rests.region;
-      task = taken_one TaskLife i n address (found_in m (word_of n.creator n.slot TaskLife)) h.search.task task (eq-eqb n.creator i maker) ∙ sym rests.task;
+      expected = inl (refl, rests.fresh.first b);
+      region = found_none RegionLife i (word_of n.creator n.slot TaskLife) (op.Store address (used_word n))
+          (found_in m (word_of n.creator n.slot TaskLife)) outcome.Quiet h.search.region region refl ∙ sym rests.fresh.region;
+      task = taken_one TaskLife i n address (found_in m (word_of n.creator n.slot TaskLife)) h.search.task task (eq-eqb n.creator i maker)
+          ∙ sym rests.fresh.task;
     };
     meets_look = tt;
     look = rests.look b _;

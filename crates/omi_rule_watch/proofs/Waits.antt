@@ -48,10 +48,10 @@ use Rattle.omi_rule.proofs.Assembly.{Before}
 use Rattle.omi_rule.proofs.OwnTask.{own_list}
 use Rattle.omi_rule.proofs.barrier.AtCounter.{IsOfMember, ahead_is, body, context_placed, fits_counter, here, is_context, placed_counter, row_is, sees, stands}
 use Rattle.omi_rule.proofs.look.Tests.{coded_there}
-use Rattle.omi_rule_watch.specs.Given.{Has, HasAll, IsLookGiven, IsSearchGiven, region_found, task_found}
+use Rattle.omi_rule_watch.specs.Given.{Has, HasAll, IsLookGiven, IsSearchGiven}
 use Rattle.omi_rule_watch.specs.Watch.{SlotLook, Watch, children_start, current_region, is_generating_of, is_gone, is_no_child, is_slot, looked_at, current_member_task, current_team_size}
 use Rattle.omi_rule_watch.proofs.Parts.{IsCalm, KeepsParts, PartsKeep, calm_at, event_parts, event_rests, look_loads, look_passes, look_stays, quiet_parts, quiet_rests, waits_parts}
-use Rattle.omi_rule_watch.proofs.Resting.{Rests, rests_plain, rests_settled, rests_working}
+use Rattle.omi_rule_watch.proofs.Resting.{IsFresh, Rests, rests_plain, rests_settled, rests_working, seeks_none}
 use Rattle.omi_rule_watch.proofs.Standing.{record_word, same_number, some_word, word_of}
 
 -- ---- the team of a waiting thread
@@ -105,27 +105,23 @@ module _ (p : Program) (w : List ℕ) (m : Memory) (events : List (ℕ × Event)
 
 -- ---- the next slot
 
-next_calm : (a : Actor) (v : Wait) (n : ℕ) (row : Place)
-    → (region_found (next_look a v n row) ≡ None) × (task_found (next_look a v n row) ≡ None)
-next_calm a v n row = go (nat_lt n (slots_of a))
+next_fresh : (a : Actor) (v : Wait) (n : ℕ) (row : Place) → IsFresh (next_look a v n row)
+next_fresh a v n row = go (nat_lt n (slots_of a))
   where
-    first : (b : Barrier) (d : Bool)
-        → (region_found (counter.Barrier (if d then barrier.LoadArrived b else barrier.LoadReleased b)) ≡ None) × (task_found (counter.Barrier (if d then barrier.LoadArrived b else barrier.LoadReleased b)) ≡ None)
-    first b true = (refl, refl)
-    first b false = (refl, refl)
+    first : (b : Barrier) (d : Bool) → IsFresh (counter.Barrier (if d then barrier.LoadArrived b else barrier.LoadReleased b))
+    first b true = seeks_none refl refl (λ a. refl)
+    first b false = seeks_none refl refl (λ a. refl)
 
-    behind : (v : Wait) → (region_found (behind_look a v) ≡ None) × (task_found (behind_look a v) ≡ None)
+    behind : (v : Wait) → IsFresh (behind_look a v)
     behind (wait.Barrier b) = first b (a.context.number == 0)
-    behind wait.Taskwait = (refl, refl)
-    behind wait.Taskyield = (refl, refl)
+    behind wait.Taskwait = seeks_none refl refl (λ a. refl)
+    behind wait.Taskyield = seeks_none refl refl (λ a. refl)
 
-    at : (d : Bool)
-        → (region_found (counter.Look (if d then look.LoadRow v n else look.LoadSlot v n row)) ≡ None) × (task_found (counter.Look (if d then look.LoadRow v n else look.LoadSlot v n row)) ≡ None)
-    at true = (refl, refl)
-    at false = (refl, refl)
+    at : (d : Bool) → IsFresh (counter.Look (if d then look.LoadRow v n else look.LoadSlot v n row))
+    at true = seeks_none refl refl (λ a. refl)
+    at false = seeks_none refl refl (λ a. refl)
 
-    go : (b : Bool)
-        → (region_found (if b then counter.Look (look_at v n row) else behind_look a v) ≡ None) × (task_found (if b then counter.Look (look_at v n row) else behind_look a v) ≡ None)
+    go : (b : Bool) → IsFresh (if b then counter.Look (look_at v n row) else behind_look a v)
     go true = at (n % OWN_SLOTS == 0)
     go false = behind v
 
@@ -164,12 +160,16 @@ next_given a b v n row h same within has = go (nat_lt (n + 1) (slots_of a)) refl
 
 rests_look : (c : LookCounter) → ((a : Actor) (h : SlotLook) → IsLookGiven a (counter.Look c) h)
     → Rests (counter.Look c)
-rests_look c given = record { region = refl; task = refl; look = given }
+rests_look c given = record { fresh = seeks_none refl refl (λ a. refl); look = given }
 
 module _ (p : Program) (w : List ℕ) (m : Memory) (events : List (ℕ × Event)) (s : State) (actors : ℕ → Actor)
     (i : ℕ) (before : Before p w m events s actors i) (h : Watch) where
   abbrev a : Actor
   a = actors i
+
+  -- the step at this counter keeps its parts
+  abbrev Keeps : LookCounter → Type 0
+  Keeps c = PartsKeep w m s i (look_next w a c) (λ old. (look_moved p w a c old, look_outcome w a c old)) h
 
   module _ (c : LookCounter) (at : (actors i).counter ≡ counter.Look c)
       (given : IsSearchGiven (actors i) (counter.Look c) h.search) where
@@ -196,10 +196,14 @@ module _ (p : Program) (w : List ℕ) (m : Memory) (events : List (ℕ × Event)
           omega (arith, looks, few, same);
     }
 
-    load_row : PartsKeep w m s i (look_next w (actors i) (look.LoadRow v n)) (λ old. (look_moved p w (actors i) (look.LoadRow v n) old, look_outcome w (actors i) (look.LoadRow v n) old)) h
+    load_row : Keeps (look.LoadRow v n)
     load_row =
-        let x : RecordWord = record { creator = a.context.region.0.creator; slot = a.context.region.0.slot; field = RegionTeam; place = member_at n } in
-        (x, record { there = row_there; address = refl }, quiet_parts w m s i _ x _ h (calm (look.LoadRow v n) at given) refl refl refl refl (look_stays w s i x (look_next w (actors i) (look.LoadRow v n)) (found_in m x) n h.look has (λ k. refl)))
+        let x : RecordWord = record { creator = a.context.region.0.creator; slot = a.context.region.0.slot; field = RegionTeam; place = member_at n } in (
+          x,
+          record { there = row_there; address = refl },
+          quiet_parts w m s i _ x _ h (calm (look.LoadRow v n) at given) refl refl
+              (seeks_none refl refl (λ a. refl)) (look_stays w s i x (look_next w (actors i) (look.LoadRow v n)) (found_in m x) n h.look has (λ k. refl)),
+        )
 
   -- a slot
   module _ (v : Wait) (n : ℕ) (row : Place) (at : (actors i).counter ≡ counter.Look (look.LoadSlot v n row))
@@ -212,10 +216,12 @@ module _ (p : Program) (w : List ℕ) (m : Memory) (events : List (ℕ × Event)
     code_there = found_in m on_slot
 
     loaded_is : (d : Bool) → code_there == 0 ≡ d
-        → looked_at w s i on_slot (op.Load (of_slot w row n)) code_there h.look.looked h.look.seen ≡ (if d then record { looked = n + 1; seen = None } else record { looked = n; seen = Some code_there })
+        → looked_at w s i on_slot (op.Load (of_slot w row n)) code_there h.look.looked h.look.seen
+        ≡ (if d then record { looked = n + 1; seen = None } else record { looked = n; seen = Some code_there })
     loaded_is d e =
         look_loads w s i on_slot (op.Load (of_slot w row n)) code_there n h.look has
-        (slot_is p w m events s actors i before (counter.Look (look.LoadSlot v n row)) at tt row n (row_is p w m events s actors i before (counter.Look (look.LoadSlot v n row)) at tt))
+        (slot_is p w m events s actors i before (counter.Look (look.LoadSlot v n row)) at tt row n
+        (row_is p w m events s actors i before (counter.Look (look.LoadSlot v n row)) at tt))
         ∙ ap
         (λ (d : Bool). if d then record { looked = n + 1; seen = None } else record { looked = n; seen = Some code_there }) e
 
@@ -225,27 +231,35 @@ module _ (p : Program) (w : List ℕ) (m : Memory) (events : List (ℕ × Event)
     seen_code wait.Taskwait h is = is
     seen_code wait.Taskyield h is = is
 
-    code_calm : (v : Wait)
-        → (region_found (counter.Look (behind_code v n row code_there)) ≡ None) × (task_found (counter.Look (behind_code v n row code_there)) ≡ None)
-    code_calm v = (refl, refl)
-
     by_code : (d : Bool) → code_there == 0 ≡ d
-        → KeepsParts w m s i (op.Load (of_slot w row n)) on_slot (if d then looking_on v n row a else to_look (behind_code v n row code_there) a, outcome.Quiet) h
+        → KeepsParts w m s i (op.Load (of_slot w row n)) on_slot
+        (if d then looking_on v n row a else to_look (behind_code v n row code_there) a, outcome.Quiet) h
     by_code true none =
-        let (no_region, no_task) = next_calm a v (n + 1) row in
+        let fresh = next_fresh a v (n + 1) row in
         let fit = fits_counter p w m events s actors i before (counter.Look (look.LoadSlot v n row)) at tt in
         quiet_parts w m s i _ on_slot (looking_on v n row a) h
-        (calm (look.LoadSlot v n row) at given) refl refl no_region no_task
-        (subst (λ (l : SlotLook). IsLookGiven (looking_on v n row a) (next_look a v (n + 1) row) l) (sym (loaded_is true none)) (next_given a (looking_on v n row a) v n row _ refl fit.0.1 (record { looked = refl; seen = refl })))
+        (calm (look.LoadSlot v n row) at given) refl refl fresh
+        (subst
+        (λ (l : SlotLook). IsLookGiven (looking_on v n row a) (next_look a v (n + 1) row) l)
+        (sym (loaded_is true none))
+        (next_given a (looking_on v n row a) v n row _ refl fit.0.1 (record { looked = refl; seen = refl })))
     by_code false some =
         quiet_parts w m s i _ on_slot (to_look (behind_code v n row code_there) a) h
-        (calm (look.LoadSlot v n row) at given) refl refl refl refl
-        (subst (λ (l : SlotLook). IsLookGiven (to_look (behind_code v n row code_there) a) (counter.Look (behind_code v n row code_there)) l) (sym (loaded_is false some)) (seen_code v _ (record { looked = refl; seen = refl })))
+        (calm (look.LoadSlot v n row) at given) refl refl (seeks_none refl refl (λ a. refl))
+        (subst (λ (l : SlotLook). IsLookGiven (to_look (behind_code v n row code_there) a) (counter.Look (behind_code v n row code_there)) l)
+        (sym (loaded_is false some)) (seen_code v _ (record { looked = refl; seen = refl })))
 
-    load_slot : PartsKeep w m s i (look_next w (actors i) (look.LoadSlot v n row)) (λ old. (look_moved p w (actors i) (look.LoadSlot v n row) old, look_outcome w (actors i) (look.LoadSlot v n row) old)) h
+    load_slot : Keeps (look.LoadSlot v n row)
     load_slot = (
       on_slot,
-      record { there = record { field = numbered_field TaskSlots; record_slot = placed_counter p w m events s actors i before (counter.Look (look.LoadSlot v n row)) at tt; within = omega arith }; address = refl },
+      record {
+        there = record {
+          field = numbered_field TaskSlots;
+          record_slot = placed_counter p w m events s actors i before (counter.Look (look.LoadSlot v n row)) at tt;
+          within = omega arith;
+        };
+        address = refl;
+      },
       by_code (code_there == 0) refl,
     )
 
@@ -283,7 +297,9 @@ module _ (p : Program) (w : List ℕ) (m : Memory) (events : List (ℕ × Event)
         fits_counter p w m events s actors i before (counter.Look (look.LoadGenerating v n row code)) at tt in
         ap children_start (list ∙ ahead) ∙ starts_children v fit.2
 
-    no_child : is_no_child w s i on_generating (op.Load (of_task w (coded_task w code) TaskGenerating)) maker code ≡ not (maker == task_address w a.context.task)
+    no_child : is_no_child w s i on_generating
+        (op.Load (of_task w (coded_task w code) TaskGenerating)) maker code
+        ≡ not (maker == task_address w a.context.task)
     no_child =
         ap
         (λ b. b && (children_start (list_of s i) && not (maker == task_word w (s.threads i).current))) generating_is
@@ -292,30 +308,38 @@ module _ (p : Program) (w : List ℕ) (m : Memory) (events : List (ℕ × Event)
         (stands p w m events s actors i before (counter.Look (look.LoadGenerating v n row code)) at tt).current
 
     tested_is : (d : Bool) → maker == task_address w a.context.task ≡ d
-        → looked_at w s i on_generating (op.Load (of_task w (coded_task w code) TaskGenerating)) maker h.look.looked h.look.seen ≡ (if not d then record { looked = n + 1; seen = None } else record { looked = n; seen = Some code })
+        → looked_at w s i on_generating
+        (op.Load (of_task w (coded_task w code) TaskGenerating)) maker h.look.looked h.look.seen
+        ≡ (if not d then record { looked = n + 1; seen = None } else record { looked = n; seen = Some code })
     tested_is d e =
         look_passes w s i on_generating
         (op.Load (of_task w (coded_task w code) TaskGenerating)) maker n code h.look (not d) has
         (no_child ∙ ap not e)
 
     by_maker : (d : Bool) → maker == task_address w a.context.task ≡ d
-        → KeepsParts w m s i (op.Load (of_task w (coded_task w code) TaskGenerating)) on_generating (if d then to_look (look.Take v n row code) a else looking_on v n row a, outcome.Quiet) h
+        → KeepsParts w m s i (op.Load (of_task w (coded_task w code) TaskGenerating)) on_generating
+        (if d then to_look (look.Take v n row code) a else looking_on v n row a, outcome.Quiet) h
     by_maker true same =
         quiet_parts w m s i _ on_generating (to_look (look.Take v n row code) a) h
-        (calm (look.LoadGenerating v n row code) at given) refl refl refl refl
+        (calm (look.LoadGenerating v n row code) at given) refl refl (seeks_none refl refl (λ a. refl))
         (subst (λ (l : SlotLook). Has l n (Some code)) (sym (tested_is true same)) (record { looked = refl; seen = refl }))
     by_maker false other =
-        let (no_region, no_task) = next_calm a v (n + 1) row in
+        let fresh = next_fresh a v (n + 1) row in
         let fit =
         fits_counter p w m events s actors i before (counter.Look (look.LoadGenerating v n row code)) at tt in
         quiet_parts w m s i _ on_generating (looking_on v n row a) h
-        (calm (look.LoadGenerating v n row code) at given) refl refl no_region no_task
-        (subst (λ (l : SlotLook). IsLookGiven (looking_on v n row a) (next_look a v (n + 1) row) l) (sym (tested_is false other)) (next_given a (looking_on v n row a) v n row _ refl fit.0.0.1 (record { looked = refl; seen = refl })))
+        (calm (look.LoadGenerating v n row code) at given) refl refl fresh
+        (subst (λ (l : SlotLook). IsLookGiven (looking_on v n row a) (next_look a v (n + 1) row) l) (sym (tested_is false other))
+        (next_given a (looking_on v n row a) v n row _ refl fit.0.0.1 (record { looked = refl; seen = refl })))
 
-    load_generating : PartsKeep w m s i (look_next w (actors i) (look.LoadGenerating v n row code)) (λ old. (look_moved p w (actors i) (look.LoadGenerating v n row code) old, look_outcome w (actors i) (look.LoadGenerating v n row code) old)) h
+    load_generating : Keeps (look.LoadGenerating v n row code)
     load_generating = (
       on_generating,
-      record { there = record_word p w m events s actors i before tasks (coded_task w code).0.creator (coded_task w code).0.slot TaskGenerating refl (coded_there w before.valid code); address = refl },
+      record {
+        there = record_word p w m events s actors i before tasks (coded_task w code).0.creator (coded_task w code).0.slot TaskGenerating refl
+            (coded_there w before.valid code);
+        address = refl;
+      },
       by_maker (maker == task_address w a.context.task) refl,
     )
 
@@ -334,30 +358,41 @@ module _ (p : Program) (w : List ℕ) (m : Memory) (events : List (ℕ × Event)
     gone_is =
         ap (λ b. b && (is_slot s i n on_seen && not (now == code))) (same_number code)
         ∙ ap (λ b. b && not (now == code))
-        (slot_is p w m events s actors i before (counter.Look (look.Take v n row code)) at tt row n (row_is p w m events s actors i before (counter.Look (look.Take v n row code)) at tt).0)
+        (slot_is p w m events s actors i before (counter.Look (look.Take v n row code)) at tt row n
+        (row_is p w m events s actors i before (counter.Look (look.Take v n row code)) at tt).0)
 
     taken_is : (d : Bool) → now == code ≡ d
-        → looked_at w s i on_seen (op.Cas (of_slot w row n) code 0) now h.look.looked h.look.seen ≡ (if not d || false then record { looked = n + 1; seen = None } else record { looked = n; seen = Some code })
+        → looked_at w s i on_seen (op.Cas (of_slot w row n) code 0) now h.look.looked h.look.seen
+        ≡ (if not d || false then record { looked = n + 1; seen = None } else record { looked = n; seen = Some code })
     taken_is d e =
         look_passes w s i on_seen (op.Cas (of_slot w row n) code 0) now n code h.look (not d || false) has
         (ap (λ b. b || false) (gone_is ∙ ap not e))
 
     by_exchange : (d : Bool) → now == code ≡ d
-        → KeepsParts w m s i (op.Cas (of_slot w row n) code 0) on_seen (if d then to_look (look.LoadFunction v n code (coded_task w code)) a else looking_on v n row a, outcome.Quiet) h
+        → KeepsParts w m s i (op.Cas (of_slot w row n) code 0) on_seen
+        (if d then to_look (look.LoadFunction v n code (coded_task w code)) a else looking_on v n row a, outcome.Quiet) h
     by_exchange true same =
         quiet_rests w m s i _ on_seen _ h (calm (look.Take v n row code) at given) refl refl
         (rests_look (look.LoadFunction v n code (coded_task w code)) (λ a h. tt))
     by_exchange false other =
-        let (no_region, no_task) = next_calm a v (n + 1) row in
+        let fresh = next_fresh a v (n + 1) row in
         let fit = fits_counter p w m events s actors i before (counter.Look (look.Take v n row code)) at tt in
         quiet_parts w m s i _ on_seen (looking_on v n row a) h
-        (calm (look.Take v n row code) at given) refl refl no_region no_task
-        (subst (λ (l : SlotLook). IsLookGiven (looking_on v n row a) (next_look a v (n + 1) row) l) (sym (taken_is false other)) (next_given a (looking_on v n row a) v n row _ refl fit.0.0.1 (record { looked = refl; seen = refl })))
+        (calm (look.Take v n row code) at given) refl refl fresh
+        (subst (λ (l : SlotLook). IsLookGiven (looking_on v n row a) (next_look a v (n + 1) row) l) (sym (taken_is false other))
+        (next_given a (looking_on v n row a) v n row _ refl fit.0.0.1 (record { looked = refl; seen = refl })))
 
-    take : PartsKeep w m s i (look_next w (actors i) (look.Take v n row code)) (λ old. (look_moved p w (actors i) (look.Take v n row code) old, look_outcome w (actors i) (look.Take v n row code) old)) h
+    take : Keeps (look.Take v n row code)
     take = (
       on_seen,
-      record { there = record { field = numbered_field TaskSlots; record_slot = placed_counter p w m events s actors i before (counter.Look (look.Take v n row code)) at tt; within = omega arith }; address = refl },
+      record {
+        there = record {
+          field = numbered_field TaskSlots;
+          record_slot = placed_counter p w m events s actors i before (counter.Look (look.Take v n row code)) at tt;
+          within = omega arith;
+        };
+        address = refl;
+      },
       by_exchange (now == code) refl,
     )
 
@@ -369,20 +404,27 @@ module _ (p : Program) (w : List ℕ) (m : Memory) (events : List (ℕ × Event)
     on_children = word_of a.context.task.0.creator a.context.task.0.slot TaskChildren
 
     by_children : (b : Bool)
-        → KeepsParts w m s i (op.Load (of_task w a.context.task TaskChildren)) on_children
-        (if b then back_to_work p a else to_look (look.LoadRow wait.Taskwait 0) a, if b then outcome.Event event.WaitDone else outcome.NotReady (of_task w a.context.task TaskChildren) (found_in m on_children)) h
+        → KeepsParts w m s i (op.Load (of_task w a.context.task TaskChildren)) on_children (
+          if b then back_to_work p a else to_look (look.LoadRow wait.Taskwait 0) a,
+          if b then outcome.Event event.WaitDone
+              else outcome.NotReady (of_task w a.context.task TaskChildren) (found_in m on_children),
+        ) h
     by_children true =
         event_rests w m s i _ on_children _ h (calm look.LoadChildren at given) _
         (rests_working p a (some_body p w m events s actors i before (counter.Look look.LoadChildren) at tt))
     by_children false =
-        waits_parts w m s i _ on_children _ h (calm look.LoadChildren at given) _ _ refl refl refl refl
+        waits_parts w m s i _ on_children _ h (calm look.LoadChildren at given) _ _ refl refl (seeks_none refl refl (λ a. refl))
         (λ waits. all_slots p w m events s actors i before (counter.Look look.LoadChildren) at tt h.look has)
         (record { looked = refl; seen = refl })
 
-    load_children : PartsKeep w m s i (look_next w (actors i) look.LoadChildren) (λ old. (look_moved p w (actors i) look.LoadChildren old, look_outcome w (actors i) look.LoadChildren old)) h
+    load_children : Keeps look.LoadChildren
     load_children = (
       on_children,
-      record { there = record_word p w m events s actors i before tasks a.context.task.0.creator a.context.task.0.slot TaskChildren refl (context_placed p w m events s actors i before (counter.Look look.LoadChildren) at tt).task; address = refl },
+      record {
+        there = record_word p w m events s actors i before tasks a.context.task.0.creator a.context.task.0.slot TaskChildren refl
+            (context_placed p w m events s actors i before (counter.Look look.LoadChildren) at tt).task;
+        address = refl;
+      },
       by_children (found_in m on_children == 0),
     )
 
@@ -401,30 +443,52 @@ module _ (p : Program) (w : List ℕ) (m : Memory) (events : List (ℕ × Event)
       → PartsKeep w m s i (look_next w (actors i) c)
       (λ old. (look_moved p w (actors i) c old, look_outcome w (actors i) c old)) h
   look_parts (look.State v) at given has =
-      let (x, on) = any (look.State v) at given in
-      (x, on, event_parts w m s i _ x (to_look (look.LoadRow v 0) a) h (calm (look.State v) at given) _ refl refl (record { looked = refl; seen = refl }))
+      let (x, on) = any (look.State v) at given in (
+        x,
+        on,
+        event_parts w m s i _ x (to_look (look.LoadRow v 0) a) h (calm (look.State v) at given) _ (seeks_none refl refl (λ a. refl))
+            (record { looked = refl; seen = refl }),
+      )
   look_parts (look.LoadRow v n) at given has = load_row v n at given has
   look_parts (look.LoadSlot v n row) at given has = load_slot v n row at given has
   look_parts (look.LoadGenerating v n row code) at given has = load_generating v n row code at given has
   look_parts (look.Take v n row code) at given has = take v n row code at given has
   look_parts (look.LoadFunction v n code t) at given has = (
     word_of t.0.creator t.0.slot TaskFunction,
-    record { there = record_word p w m events s actors i before tasks t.0.creator t.0.slot TaskFunction refl (placed_counter p w m events s actors i before (counter.Look (look.LoadFunction v n code t)) at tt); address = refl },
-    quiet_rests w m s i _ (word_of t.0.creator t.0.slot TaskFunction) _ h (calm (look.LoadFunction v n code t) at given) refl refl (rests_look (look.LoadFinal v n code t _) (λ a h. tt)),
+    record {
+      there = record_word p w m events s actors i before tasks t.0.creator t.0.slot TaskFunction refl
+          (placed_counter p w m events s actors i before (counter.Look (look.LoadFunction v n code t)) at tt);
+      address = refl;
+    },
+    quiet_rests w m s i _ (word_of t.0.creator t.0.slot TaskFunction) _ h (calm (look.LoadFunction v n code t) at given) refl refl
+        (rests_look (look.LoadFinal v n code t _) (λ a h. tt)),
   )
   look_parts (look.LoadFinal v n code t f) at given has = (
     word_of t.0.creator t.0.slot TaskFinal,
-    record { there = record_word p w m events s actors i before tasks t.0.creator t.0.slot TaskFinal refl (placed_counter p w m events s actors i before (counter.Look (look.LoadFinal v n code t f)) at tt); address = refl },
-    quiet_rests w m s i _ (word_of t.0.creator t.0.slot TaskFinal) _ h (calm (look.LoadFinal v n code t f) at given) refl refl (rests_look (look.Fill v n code t f _ 0) (λ a h. tt)),
+    record {
+      there = record_word p w m events s actors i before tasks t.0.creator t.0.slot TaskFinal refl
+          (placed_counter p w m events s actors i before (counter.Look (look.LoadFinal v n code t f)) at tt);
+      address = refl;
+    },
+    quiet_rests w m s i _ (word_of t.0.creator t.0.slot TaskFinal) _ h (calm (look.LoadFinal v n code t f) at given) refl refl
+        (rests_look (look.Fill v n code t f _ 0) (λ a h. tt)),
   )
   look_parts (look.Fill v n code t f final word) at given has =
-      let (x, on) = any (look.Fill v n code t f final word) at given in
-      (x, on, quiet_rests w m s i _ x _ h (calm (look.Fill v n code t f final word) at given) refl refl (rests_start word v n code t f final (nat_lt (word + 1) START_WORDS)))
+      let (x, on) = any (look.Fill v n code t f final word) at given in (
+        x,
+        on,
+        quiet_rests w m s i _ x _ h (calm (look.Fill v n code t f final word) at given) refl refl
+            (rests_start word v n code t f final (nat_lt (word + 1) START_WORDS)),
+      )
   look_parts (look.Start v n code t f final) at given has =
       let (x, on) = any (look.Start v n code t f final) at given in
       let now : Rests (actors i).counter =
-      subst Rests (sym at) (rests_look (look.Start v n code t f final) (λ a h. tt)) in
-      (x, on, event_rests w m s i _ x _ h (calm (look.Start v n code t f final) at given) _ (rests_body v (begun_explicit f (Some v) (task_context a t final) a) now))
+      subst Rests (sym at) (rests_look (look.Start v n code t f final) (λ a h. tt)) in (
+        x,
+        on,
+        event_rests w m s i _ x _ h (calm (look.Start v n code t f final) at given) _
+            (rests_body v (begun_explicit f (Some v) (task_context a t final) a) now),
+      )
   look_parts look.LoadChildren at given has = load_children at given has
   look_parts (look.Yield n) at given has =
       let (x, on) = any (look.Yield n) at given in

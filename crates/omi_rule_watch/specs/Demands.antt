@@ -1,12 +1,16 @@
 -- What is demanded of each step of a thread, by its watch: it does not go on quietly for ever, it searches its records one after the
--- other, and before it waits where deferred tasks may start it has looked at every slot of its team.
-use Rattle.std.specs.Prelude.{◌≡◌, ◌⊎◌, ℕ, ◌+◌, ◌*◌, ◌%◌, ◌<◌, ◌≤◌, ◌==◌, ◌&&◌, Bool, true, List, length, is_none, Option, Some, None}
+-- other from slot 0 on, takes none but the one that it found, and before it waits where deferred tasks may start it has looked at every slot
+-- of its team.
+use Rattle.std.specs.Prelude.{◌≡◌, ◌⊎◌, ℕ, ◌+◌, ◌*◌, ◌%◌, ◌<◌, ◌≤◌, ◌==◌, ◌&&◌, ◌||◌, Bool, true, not, List, length, is_none, Option, Some, None}
 use Rattle.omi_word.specs.declared.op.Op.{Op}
+use Rattle.omi_word.specs.Memory.{left_of}
 use Rattle.omi_script.specs.declared.program.Program.{Program}
+use Rattle.omi_model.specs.declared.id.Id.{Id}
 use Rattle.omi_model.specs.declared.slot.Slot.{Slot}
 use Rattle.omi_model.specs.LawClaims.{IsForking}
 use Rattle.omi_model.specs.State.{State}
 use Rattle.omi_model.specs.Teams.{got_threads}
+use Rattle.omi_layout.specs.declared.field.Field.{Field}
 use Rattle.omi_layout.specs.declared.field.Field.TheVariants.{RegionLife, TaskLife}
 use Rattle.omi_layout.specs.Field.{regions, tasks}
 use Rattle.omi_layout.specs.Memory.{Memory}
@@ -16,8 +20,8 @@ use Rattle.omi_numbers.specs.declared.limits.TheConstants.{OWN_SLOTS}
 use Rattle.omi_rep.specs.declared.outcome.Outcome.{Outcome}
 use Rattle.omi_rep.specs.declared.outcome.Outcome.TheVariants as outcome
 use Rattle.omi_rule_words.specs.Counts.{one, sum_below}
-use Rattle.omi_rule.specs.Steps.{RecordWord}
-use Rattle.omi_rule_watch.specs.Watch.{Search, SlotLook, Watch, is_load, is_own, is_waiting, quiet_after, current_team_size}
+use Rattle.omi_rule.specs.Steps.{RecordWord, found_in}
+use Rattle.omi_rule_watch.specs.Watch.{Search, SlotLook, Watch, finds, is_load, is_own, is_own_life, is_waiting, quiet_after, current_team_size, takes}
 
 -- ---- quiet steps
 
@@ -53,6 +57,16 @@ MayOweTask w m s i = (owed_tasks w m s i < 1)
 
 -- ---- the search
 
+-- a step searches where the thread can't go on at the life word of an own record, or finds the record free
+abbrev pub searches : ℕ → RecordWord → Op → ℕ → Outcome → Bool
+searches i x o found (outcome.NotReady address word) = is_own_life i x
+searches i x o found out = finds RegionLife i x o found out || finds TaskLife i x o found out
+
+-- where no search goes on, one begins at slot 0
+abbrev pub BeginsSearch : ℕ → RecordWord → Op → ℕ → Outcome → Search → Type 0
+BeginsSearch i x o found out h =
+    h.expected ≡ None → searches i x o found out ≡ true → x.slot ≡ 0
+
 -- a search passes over a record only where it has found none, and may owe one more
 pub record SearchesOn (w : List ℕ) (m : Memory) (s : State) (i : ℕ) (x : RecordWord) (h : Search)
     : Type 0 where
@@ -64,10 +78,29 @@ abbrev pub IsExpected : Option RecordWord → Op → RecordWord → Type 0
 IsExpected None o x = Unit {0}
 IsExpected (Some y) o x = (is_load o ≡ true) × (x ≡ y)
 
-abbrev pub MeetsSearch : List ℕ → Memory → State → ℕ → RecordWord → Op → Outcome → Search → Type 0
-MeetsSearch w m s i x o (outcome.NotReady address word) h =
-    IsExpected h.expected o x × SearchesOn w m s i x h
-MeetsSearch w m s i x o out h = IsExpected h.expected o x
+abbrev pub MeetsOrder : List ℕ → Memory → State → ℕ → RecordWord → Op → Outcome → Search → Type 0
+MeetsOrder w m s i x o (outcome.NotReady address word) h =
+    BeginsSearch i x o (found_in m x) (outcome.NotReady address word) h
+    × IsExpected h.expected o x × SearchesOn w m s i x h
+MeetsOrder w m s i x o out h =
+    BeginsSearch i x o (found_in m x) out h × IsExpected h.expected o x
+
+-- a step takes an own record where it changes the record's life word to that of a live object, an odd one
+abbrev pub takes_record : Field → ℕ → RecordWord → Op → ℕ → Bool
+takes_record life i x o found =
+    is_own life i x && (left_of o found % 2 == 1 && not (left_of o found == found))
+
+-- and then it stores the life word of the object that the search found
+abbrev pub TakesFound : Field → ℕ → RecordWord → Op → ℕ → Option Id → Type 0
+TakesFound life i x o found h =
+    takes_record life i x o found ≡ true → (n : Id) × (h ≡ Some n) × (takes life i x o n ≡ true)
+
+-- the search goes in order, and what is taken was found by it
+pub record MeetsSearch (w : List ℕ) (m : Memory) (s : State) (i : ℕ) (x : RecordWord) (o : Op)
+    (out : Outcome) (h : Search) : Type 0 where
+  pub order : MeetsOrder w m s i x o out h
+  pub region : TakesFound RegionLife i x o (found_in m x) h.region
+  pub task : TakesFound TaskLife i x o (found_in m x) h.task
 
 -- ---- the look
 

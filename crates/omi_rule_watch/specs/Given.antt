@@ -161,8 +161,13 @@ task_found (counter.Team (team.TakeTask r member t)) = Some t.0
 task_found (counter.Task (task.Take place t)) = Some t.0
 task_found c = None
 
+-- the life word at which a search begins is that of slot 0
+abbrev pub IsFirst : Option RecordWord → Type 0
+IsFirst None = Unit {0}
+IsFirst (Some x) = x.slot ≡ 0
+
 pub record IsSearchGiven (a : Actor) (c : Counter) (h : Search) : Type 0 where
-  pub expected : (h.expected ≡ None) ⊎ (h.expected ≡ sought a c)
+  pub expected : ((h.expected ≡ None) × IsFirst (sought a c)) ⊎ (h.expected ≡ sought a c)
   pub region : h.region ≡ region_found c
   pub task : h.task ≡ task_found c
 

@@ -14,7 +14,7 @@ pub fn openings_give_watch()
 {}
 
 /// Where the rule holds, a step of a thread whose actor gives its watch meets what is demanded, and the actor behind it gives the
-/// watch behind it: the bound of quiet steps, the order of a search, and the look at all slots before a wait.
+/// watch behind it: the bound of quiet steps, the order of a search and what it takes, and the look at all slots before a wait.
 pub fn steps_keep_watch()
     ensures { StepsKeepWatch }
 {}

@@ -1,4 +1,4 @@
-use Rattle.omi_rule_watch.proofs.Kept.{words_one}
+use Rattle.omi_rule_watch.proofs.SameWords.{words_one}
 use Rattle.omi_rule_watch.proofs.laws.words_are_one.Goals as goal
 
 pub returns : goal.returns
