@@ -143,7 +143,8 @@ fn carry_out<F: Files, W: Files, K: Sink>(
 /// core; `run STEPS SCRIPT CORE` does what `stop` does, reads CORE back and prints its report as well;
 /// `recode ORDER CORE CORE2` writes a core anew, with the bytes of each word in the order 0 or 1;
 /// `audit CORE` judges a core's words, and prints that they show a well-formed state, or the first
-/// clause of the audit that fails.
+/// clause of the audit that fails; `follow CORE CORE2` prints of each task of CORE's report whether
+/// it is current in CORE2, a later core of the same target.
 /// It reads from `files` alone, writes to `dest` alone and prints to `out`.
 pub fn run_top<F: Files, W: Files, K: Sink>(
     alloc: Global,
