@@ -137,7 +137,7 @@ module _ (old : Run) (how : Schedule) (stop : Stop) where
   some_thread = (Rules-from_accepted old.program).threads.0
 
   -- before the first step
-  first_drawn : (h : Schedule) → IsDrawn h old.program.threads 0 (first_draw h)
+  pub first_drawn : (h : Schedule) → IsDrawn h old.program.threads 0 (first_draw h)
   first_drawn schedule.RoundRobin = sym (rest_below old.program.threads 0 some_thread)
   first_drawn (schedule.Seed seed) = refl
   first_drawn (schedule.List list) = tt
@@ -235,7 +235,7 @@ module _ (old : Run) (how : Schedule) (stop : Stop) where
           let behind = of_kind_on stop.on met es (step, i, x) goes.too_few are h in
           (record { not_done = snoc_all (λ (y : ℕ × ℕ × Event). y.2 ≢ event.Done) es (step, i, x) goes.not_done (not_done x f); too_few = behind.0 }, behind.1)
 
-  next_drawn : (h : Schedule) (n draw : ℕ) → IsDrawn h old.program.threads n draw
+  pub next_drawn : (h : Schedule) (n draw : ℕ) → IsDrawn h old.program.threads n draw
       → IsDrawn h old.program.threads (n + 1) (next_draw h old.program.threads draw)
   next_drawn schedule.RoundRobin n draw drawn = next_in_turn old.program.threads n draw some_thread drawn
   next_drawn (schedule.Seed seed) n draw drawn =

@@ -22,6 +22,6 @@ pub use opening::opening_image;
 pub use recorded::{Recorded, run_recorded};
 pub use recorder::Recorder;
 pub use run::{Core, list_event, turn_of};
-pub use schedule::Schedule;
+pub use schedule::{Schedule, first_draw, next_draw, thread_at};
 pub use stop::{Break, End, Stop, compact_end_at, end_at};
 pub use thread_run::{RunList, ThreadRun, Until};

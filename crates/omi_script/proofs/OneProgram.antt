@@ -10,7 +10,7 @@ use Rattle.omi_script.proofs.VerdictLemmas.{AreEqual-from_workload}
 one_test : (b : Bool) (x y : IsTrue b) → x ≡ y
 one_test b x y = Bool-set b true x y
 
-same_program : (p q : Program) → AreEqual p q → p ≡ q
+pub same_program : (p q : Program) → AreEqual p q → p ≡ q
 same_program p q e =
     subst
     (λ n. (a : IsTrue (is_program n q.env q.funcs q.main)) → p ≡ record { threads = n; env = q.env; funcs = q.funcs; main = q.main; accepted = a }) e.threads

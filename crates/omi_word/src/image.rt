@@ -3,6 +3,8 @@
 ghost use Rattle.std.specs.Prelude.{◌≡◌, ◌≤◌, ◌↔◌, length, replicate, IfOk, IsSome, IfSome};
 ghost use Rattle.omi_word.specs.Memory.{words_after, address_of, word_at, IsWordOf};
 
+mod same;
+
 use crate::{FIRST_ADDRESS, MOST_WORDS, Op, OutOfMemory, Res};
 use std::alloc::Global;
 use std::marker::Model;
