@@ -498,3 +498,17 @@ spare_after a b program some made events seats steps spare =
     subst (λ (q : Program). a.events.seats / a.program.threads ≤ b.events.seats / q.threads + 1) (sym program)
     (less_div a.events.seats b.events.seats a.program.threads some seats) in
     grind (arith, made, events, room, steps, spare)
+
+-- room that was there stays, where no list got less
+pub spare_kept : (a z : Run) → a ≡ z → (events : Events) (made : Steps) → 1 ≤ a.program.threads
+    → a.made.spare ≤ made.spare → a.events.spare ≤ events.spare → a.events.seats ≤ events.seats
+    → made.items ≡ a.made.items
+    → spare_in z ≤ spare_in (record { program = a.program; table = a.table; words = a.words; actors = a.actors; events = events; made = made })
+spare_kept a z same events made some steps rows seats items =
+    let b : Run = record { program = a.program; table = a.table; words = a.words; actors = a.actors; events = events; made = made } in
+    let whole = div-mul-le_self a.events.seats a.program.threads in
+    let room : a.events.seats / a.program.threads ≤ events.seats / a.program.threads =
+    le-div (a.events.seats / a.program.threads) events.seats a.program.threads (omega (arith, some)) (omega (arith, whole, seats)) in
+    let as_many : length made.items ≡ length a.made.items = ap length items in
+    let least : spare_in a ≤ spare_in b = grind (arith, steps, rows, room, as_many) in
+    subst (λ (y : Run). spare_in y ≤ spare_in b) same least

@@ -1,6 +1,6 @@
 //! What takes the events of a run.
 
-ghost use Rattle.std.specs.Prelude.{◌≡◌, ◌++◌, ◌∷◌, [], ℕ, List, OnOk};
+ghost use Rattle.std.specs.Prelude.{◌≡◌, ◌++◌, ◌∷◌, [], ℕ, List, OnErr, OnOk};
 ghost use Rattle.omi_core.specs.RunSteps.{event_of};
 ghost use Rattle.omi_model.specs.declared.event.Event.{Event};
 ghost use Rattle.omi_run_lists.specs.Compact.{with_team};
@@ -16,7 +16,8 @@ pub trait Recorder {
     /// What is kept tells of these events, each with its step and its thread.
     ghost tells: { Self → List (ℕ × ℕ × Event) → Type 0 };
 
-    /// Takes the next event, with the number of its step and its thread. A fork has this team.
+    /// Takes the next event, with the number of its step and its thread. A fork has this team. Where memory runs out, what is kept
+    /// tells of the events before.
     fn record_event(
         &mut self,
         step: u64,
@@ -24,8 +25,10 @@ pub trait Recorder {
         event: CompactEvent,
         team: &Team,
     ) -> Result<(), OutOfMemory>
-        ensures { OnOk result ((items : List (ℕ × ℕ × Event)) → tells self.old items
-            → tells self.new (items ++ (step, thread, with_team team.now event) ∷ [])) };
+        ensures told { OnOk result ((items : List (ℕ × ℕ × Event)) → tells self.old items
+            → tells self.new (items ++ (step, thread, with_team team.now event) ∷ [])) }
+        ensures kept { OnErr result ((items : List (ℕ × ℕ × Event))
+            → tells self.old items → tells self.new items) };
 }
 
 /// Records the event of an outcome, if it has one.
@@ -36,8 +39,10 @@ pub fn record_outcome<R: Recorder>(
     outcome: CompactOutcome,
     team: &Team,
 ) -> Result<(), OutOfMemory>
-    ensures { OnOk result ((items : List (ℕ × ℕ × Event)) → R.tells recorder.old items
+    ensures told { OnOk result ((items : List (ℕ × ℕ × Event)) → R.tells recorder.old items
         → R.tells recorder.new (items ++ event_of step thread (outcome_with team.now outcome))) }
+    ensures kept { OnErr result ((items : List (ℕ × ℕ × Event))
+        → R.tells recorder.old items → R.tells recorder.new items) }
 {
     match outcome {
         CompactOutcome::Event(event) => recorder.record_event(step, thread, event, team),

@@ -188,11 +188,13 @@ impl Core {
         least(lists, least(teams, steps))
     }
 
-    /// Makes room for so many more steps, each with an event and a team of all threads. A run has at most `MOST_STEPS`.
+    /// Makes room for so many more steps, each with an event and a team of all threads. A run has at most `MOST_STEPS`. Room that was
+    /// there stays, also where memory runs out.
     pub fn reserve(&mut self, n: usize) -> Result<(), OutOfMemory>
         requires { n + length self.old.made.items ≤ MOST_STEPS }
         ensures run { IsSameRun self.old self.new }
         ensures spare { OnOk result (n ≤ spare_in self.new) }
+        ensures no_fewer { spare_in self.old ≤ spare_in self.new }
     {
         self.made.reserve(n)?;
         self.events.reserve(n, n * self.program.threads as usize)?;

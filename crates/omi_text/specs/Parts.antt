@@ -5,7 +5,7 @@ use Rattle.omi_model.specs.declared.view.RegionRow.{RegionRow}
 use Rattle.omi_model.specs.declared.view.TaskRow.{TaskRow}
 use Rattle.omi_model.specs.declared.view.ThreadPart.{ThreadPart}
 use Rattle.omi_text.specs.Ids.{region_id, task_id}
-use Rattle.omi_text.specs.Lines.{line, named_value, or_none}
+use Rattle.omi_text.specs.Lines.{named_value, or_none}
 use Rattle.omi_text.specs.Numbers.{hexadecimal, decimals}
 use Rattle.omi_text.specs.Tasks.{schedule_text, task_kind}
 use Rattle.omi_text.specs.Threads.{shown_state, shown_wait}

@@ -1,6 +1,6 @@
 //! The lines of events without the members of their teams.
 
-ghost use Rattle.std.specs.Prelude.{◌≡◌, ◌++◌, OnOk, string_bytes};
+ghost use Rattle.std.specs.Prelude.{◌≡◌, ◌++◌, IfOk, OnErr, OnOk, string_bytes};
 ghost use Rattle.omi_run_lists.specs.Compact.{with_team};
 ghost use Rattle.omi_text.specs.Events.{event_line, event_words};
 ghost use Rattle.omi_text.specs.Lines.{line};
@@ -12,6 +12,10 @@ use crate::events::{
 };
 use omi_model::Team;
 use omi_run_lists::CompactEvent;
+use std::alloc::Global;
+
+/// The room, in bytes, that a line is begun with. Longer lines get more.
+const LINE_ROOM: usize = 64;
 
 /// Adds the words of an event with its team, and ends the line.
 fn push_compact(text: &mut String, event: CompactEvent, team: &Team) -> Result<(), OutOfMemory>
@@ -54,7 +58,25 @@ fn push_compact(text: &mut String, event: CompactEvent, team: &Team) -> Result<(
     }
 }
 
-/// Adds the line of an event with its team: the number of its step, its thread and the event, ended by a line feed.
+/// The line of an event with its team.
+fn compact_line(
+    alloc: Global,
+    step: u64,
+    thread: u8,
+    event: CompactEvent,
+    team: &Team,
+) -> Result<String, OutOfMemory>
+    ensures { IfOk result
+        (λ line. string_bytes line ≡ event_line step thread (with_team team.now event)) }
+{
+    let mut line = String::with_capacity(alloc, LINE_ROOM)?;
+    push_front(&mut line, step, thread)?;
+    push_compact(&mut line, event, team)?;
+    Ok(line)
+}
+
+/// Adds the line of an event with its team: the number of its step, its thread and the event, ended by a line feed. Where memory runs
+/// out, nothing is added.
 pub fn push_compact_line(
     text: &mut String,
     step: u64,
@@ -62,9 +84,10 @@ pub fn push_compact_line(
     event: CompactEvent,
     team: &Team,
 ) -> Result<(), OutOfMemory>
-    ensures { OnOk result (string_bytes text.new
+    ensures line { OnOk result (string_bytes text.new
         ≡ string_bytes text.old ++ event_line step thread (with_team team.now event)) }
+    ensures kept { OnErr result (string_bytes text.new ≡ string_bytes text.old) }
 {
-    push_front(text, step, thread)?;
-    push_compact(text, event, team)
+    let line = compact_line(*text.allocator(), step, thread, event, team)?;
+    text.push_str(&line)
 }

@@ -229,22 +229,7 @@ pub fn push_front(text: &mut String, step: u64, thread: u8) -> Result<(), OutOfM
     text.push_str(" ")
 }
 
-/// Adds the line of an event: the number of its step, its thread and the event, ended by a line
-/// feed.
-pub fn push_event_line(
-    text: &mut String,
-    step: u64,
-    thread: u8,
-    event: &Event,
-) -> Result<(), OutOfMemory>
-    ensures { OnOk result (string_bytes text.new
-        ≡ string_bytes text.old ++ event_line step thread event.now) }
-{
-    push_front(text, step, thread)?;
-    push_event(text, event)
-}
-
-/// The line of an event, ended by a line feed.
+/// The line of an event: the number of its step, its thread and the event, ended by a line feed.
 pub fn event_text(
     alloc: Global,
     step: u64,
@@ -254,6 +239,7 @@ pub fn event_text(
     ensures { IfOk result (λ text. text.items ≡ event_line step thread event.now) }
 {
     let mut text = String::new(alloc);
-    push_event_line(&mut text, step, thread, event)?;
+    push_front(&mut text, step, thread)?;
+    push_event(&mut text, event)?;
     Ok(text.into_bytes())
 }

@@ -13,7 +13,7 @@ mod tasks;
 mod threads;
 
 pub use compact::push_compact_line;
-pub use events::{event_text, push_event_line};
+pub use events::event_text;
 pub use head::debug_word;
 pub use report::report_text;
 pub use tasks::push_schedule;

@@ -1,6 +1,6 @@
 //! The lines of tasks and their data environments.
 
-ghost use Rattle.std.specs.Prelude.{◌≡◌, ◌++◌, OnOk, string_bytes};
+ghost use Rattle.std.specs.Prelude.{◌≡◌, ◌++◌, IfOk, OnErr, OnOk, string_bytes};
 ghost use Rattle.std.specs.List.{flat_map};
 ghost use Rattle.omi_text.specs.Lines.{line};
 ghost use Rattle.omi_text.specs.Parts.{spaced, task_name, task_region, task_ancestors, task_frames, dynamic_variable, list_variables, task_variables};
@@ -12,6 +12,7 @@ use crate::names::push_kind;
 use crate::numbers::{push_hexadecimal, push_list};
 use omi_model::{TaskRow, TaskRows};
 use omi_numbers::CHUNK_PLACE;
+use std::alloc::Global;
 use std::fmt::Write;
 
 /// The word for the kind of a task.
@@ -86,13 +87,25 @@ fn push_task_line(text: &mut String, row: &TaskRow) -> Result<(), OutOfMemory>
     push_frames(text, row)
 }
 
-/// Adds the schedule of a word.
+/// The schedule of a word.
 #[tactic(auto, unfolding(crate::specs::Tasks::schedule_text))]
-pub fn push_schedule(text: &mut String, word: u64) -> Result<(), OutOfMemory>
-    ensures { OnOk result (string_bytes text.new ≡ string_bytes text.old ++ schedule_text word) }
+fn schedule_text(alloc: Global, word: u64) -> Result<String, OutOfMemory>
+    ensures { IfOk result (λ text. string_bytes text ≡ schedule_text word) }
 {
-    push_kind(text, word % CHUNK_PLACE)?;
-    write!(text, ",{}", word / CHUNK_PLACE)
+    let mut text = String::new(alloc);
+    push_kind(&mut text, word % CHUNK_PLACE)?;
+    write!(&mut text, ",{}", word / CHUNK_PLACE)?;
+    Ok(text)
+}
+
+/// Adds the schedule of a word. Where memory runs out, nothing is added.
+pub fn push_schedule(text: &mut String, word: u64) -> Result<(), OutOfMemory>
+    ensures schedule { OnOk result
+        (string_bytes text.new ≡ string_bytes text.old ++ schedule_text word) }
+    ensures kept { OnErr result (string_bytes text.new ≡ string_bytes text.old) }
+{
+    let schedule = schedule_text(*text.allocator(), word)?;
+    text.push_str(&schedule)
 }
 
 /// Adds the front of the line of a data environment: dyn-var.

@@ -1,4 +1,4 @@
-use Rattle.std.proofs.Common.{◌+◌, ◌++◌, ◌∷◌, [], ℕ, List, ap, ◌∙◌}
+use Rattle.std.proofs.Common.{◌++◌, ◌∷◌, [], ℕ, List, ap, ◌∙◌}
 use Rattle.omi_verbs.specs.Cores.{thread_ids}
 use Rattle.omi_verbs.proofs.ThreadIds.{one_more}
 use Rattle.omi_verbs.proofs.cores.contexts_of.Goals as goal

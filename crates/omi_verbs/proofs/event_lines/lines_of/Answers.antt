@@ -7,4 +7,4 @@ pub loop-at-preserved : goal.loop-at-preserved
 loop-at-preserved c =
     let row = c.get_compact-step in
     one_line_more (string_bytes c.loop-at.lines) (string_bytes c.push_compact_line.new.text) _ c.args.events.now.items c.loop-at.at
-    (row.result.0, row.result.1, with_team row.new.team row.result.2) row.ensures c.in_ok-push_compact_line.ensures c.loop-at.invariant
+    (row.result.0, row.result.1, with_team row.new.team row.result.2) row.ensures c.in_ok-push_compact_line.ensures.line c.loop-at.invariant

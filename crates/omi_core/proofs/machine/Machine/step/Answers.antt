@@ -86,4 +86,4 @@ returns g c a at told =
     let moved = c.advance.ensures ∙ ap (λ (b : Actor). (resumed_at m.program m.layout.table b b.counter c.apply-found.result.old).0) same in
     stepped_on m steps a at i c.requires.thread c.requires.below before here c.next-op.result c.next-op.ensures
     c.apply-found.result.old c.apply-found.ensures.old c.advance.new.a moved c.outcome-came.result c.outcome-came.ensures
-    _ refl refl c.apply-found.ensures.after refl _ (c.in_ok-record_outcome.ensures a.events.items told)
+    _ refl refl c.apply-found.ensures.after refl _ (c.in_ok-record_outcome.ensures.told a.events.items told)
