@@ -97,7 +97,8 @@ RECORDS = {
             ' sched device final tool children refs nth slots',
 }
 FIELDS = [f'{record}.{name}' for record, names in RECORDS.items() for name in names.split()]
-WIDTHS = {'rt.locks': 8, 'task.nth': 4, 'task.slots': 4}
+WIDTHS = {'rt.locks': 8, 'task.nth': 4}
+SLOTS = {1: 4, 2: 10}  # the width of task.slots, by the version
 
 
 def symbol(core, wanted):
@@ -125,7 +126,7 @@ class Layout:
             if word is None:
                 self.refuse(k)
             self.table.append(word)
-        if self.table[0] != 1:
+        if self.table[0] not in SLOTS:
             raise Refused(8, 'incompatible')
         table = self.table
         self.threads, self.regions, self.tasks = table[5], table[8], table[11]
@@ -141,6 +142,8 @@ class Layout:
         raise Refused(7, f'damaged {(self.place + 8 * k) % (1 << 64):#x} layout')
 
     def width(self, name):
+        if name == 'task.slots':
+            return SLOTS[self.table[0]]
         return self.threads if name == 'region.team' else WIDTHS.get(name, 1)
 
     def judge_records(self):

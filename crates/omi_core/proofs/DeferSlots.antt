@@ -18,8 +18,9 @@ use Rattle.omi_model.specs.State.{State}
 use Rattle.omi_layout.specs.Field.{slots, tasks}
 use Rattle.omi_layout.specs.Memory.{replace_at, word_address}
 use Rattle.omi_layout.specs.Place.{index_of, slot_address}
-use Rattle.omi_layout.specs.Table.{offset, size}
+use Rattle.omi_layout.specs.Table.{offset, size, slot_words, version}
 use Rattle.omi_layout.specs.Valid.{IsValid, is_inside, overlap}
+use Rattle.omi_layout.proofs.SlotWords.{own_slots_within}
 use Rattle.omi_rep.specs.declared.outcome.Outcome.{Outcome}
 use Rattle.omi_rep.specs.declared.outcome.Outcome.TheVariants as outcome
 use Rattle.omi_rule.specs.Commits.{ComesOf, defers_next, of_row_slot}
@@ -53,6 +54,7 @@ five_words w v =
     let apart : overlap w 25 slots ≡ false =
     v.apart 25 (record { from = omega arith; to = omega arith }) slots
     (record { from = omega arith; to = omega arith }) (omega arith) in
+    let few : OWN_SLOTS ≤ slot_words (version w) = own_slots_within (version w) in
     grind (arith, nat_tests)
 
 -- so no slot of a record lies behind the slots of one

@@ -1,6 +1,5 @@
 -- A run that keeps the rule has a history.
 use Rattle.std.proofs.Common.{◌≡◌, ◌<◌, ℕ, Some, refl, sym, ap, ◌∙◌, subst, arith}
-use Rattle.std.proofs.lemmas.Bool.Decides.{nat_tests}
 use Rattle.omi_model.specs.declared.id.Rid.{Rid}
 use Rattle.omi_model.specs.Visible.{IsVisibleRegion}
 use Rattle.omi_layout.specs.declared.field.Field.{Field}
@@ -11,11 +10,11 @@ use Rattle.omi_layout.specs.Named.{number}
 use Rattle.omi_layout.specs.Place.{IsSlot}
 use Rattle.omi_word.specs.Words.{words_of}
 use Rattle.omi_layout.specs.Table.{width}
-use Rattle.omi_layout.proofs.Arenas.{some_threads}
 use Rattle.omi_layout.proofs.Numbers.{numbered_field}
 use Rattle.omi_layout.proofs.Stored.{mapped}
 use Rattle.omi_rep.specs.Records.{records_of}
 use Rattle.omi_rep.specs.Shows.{Stands}
+use Rattle.omi_rep.proofs.Codes as codes
 use Rattle.omi_rule.proofs.KeptObjects.{region_kept, region_there}
 use Rattle.omi_core.specs.Histories.{Counts, HasHistory}
 use Rattle.omi_core.specs.Kept.{KeepsRun}
@@ -24,7 +23,7 @@ use Rattle.omi_core.proofs.Stepping.{shows_state}
 
 module _ (a : Run) (k : KeepsRun a) where
   wide : (f : ℕ) → 0 < width a.table f
-  wide f = grind (arith, nat_tests, some_threads a.table k.valid)
+  wide f = codes.wide a.table k.valid f
 
   -- the first word of a field of a region's record stands in the words
   stands : (n : Rid) (seen : IsVisibleRegion k.state n) (f : Field) (x : ℕ) → kind_of (number f) ≡ regions

@@ -8,7 +8,7 @@ ghost use Rattle.omi_pc.specs.Fits.{Fits};
 ghost use Rattle.omi_pc.specs.declared.limits.TheConstants.{TASK_WORDS};
 ghost use Rattle.omi_pc.specs.declared.counter.Counter.TheVariants as counter;
 ghost use Rattle.omi_step_words.specs.Outcomes.{outcome_of};
-ghost use Rattle.omi_step_words.specs.Placed.{HasOptionalTask, HasRegion, HasTask, IsPlaced};
+ghost use Rattle.omi_step_words.specs.Placed.{HasGroupWords, HasOptionalTask, HasRegion, HasTask, IsPlaced};
 ghost use Rattle.omi_step_words.specs.Plan.{filling, task_plan};
 ghost use Rattle.omi_fork.specs.TeamSteps.{team_next, team_outcome};
 
@@ -33,6 +33,7 @@ fn fill_task(l: &Layout, task: Id, new: &NewTask, word: u8) -> Op
     requires thread { new.now.thread < thread_count l.now.table }
     requires generating { HasTask l.now.table new.now.generating }
     requires scheduling { HasOptionalTask l.now.table new.now.scheduling }
+    requires groups { HasGroupWords l.now.table }
     ensures { result ≡ filling l.now.table task (task_plan l.now.table new.now word) }
 {
     fill(l, task, task_plan(l, new, word))

@@ -1,15 +1,15 @@
 -- Each family's layout is valid.
 use Rattle.std.proofs.Common.{◌≡◌, ◌==◌, ℕ, ◌+◌, ◌*◌, ◌%◌, ◌≤◌, ◌&&◌, Bool, true, false, cond, not, nat_le, List, refl, ap, ap₂, ◌∙◌, arith, mul-le-mul}
 use Rattle.std.proofs.lemmas.Bool.Decides.{nat_tests}
-use Rattle.omi_layout.specs.declared.limits.TheConstants.{MOST_THREADS, FRONT_WORDS}
+use Rattle.omi_layout.specs.declared.limits.TheConstants.{FRONT_WORDS, GROUP_VERSION, MOST_THREADS}
 use Rattle.std.specs.Prelude.{IsTrue}
 use Rattle.omi_word.specs.Memory.{place_of}
 use Rattle.omi_word.proofs.Addresses.{place-address}
 use Rattle.omi_layout.specs.Field.{IsKind, kind_of}
-use Rattle.omi_layout.specs.Table.{thread_count, per_thread, offset, width, size, place, records, extent}
+use Rattle.omi_layout.specs.Table.{thread_count, per_thread, offset, width, size, place, records, extent, slot_words}
 use Rattle.omi_layout.specs.Place.{first_word, arena_end, arena_fits, fits, image_words}
-use Rattle.omi_layout.specs.Valid.{IsValid, shares, is_counted, is_placed, is_arena, arenas_share}
-use Rattle.omi_layout.specs.Family.{IsFamily, field_words, family_size, family_extent, family_count}
+use Rattle.omi_layout.specs.Valid.{IsValid, is_known, shares, is_counted, is_placed, is_arena, arenas_share}
+use Rattle.omi_layout.specs.Family.{IsFamily, IsFamilyOf, field_words, family_size, family_extent, family_count}
 use Rattle.omi_layout.proofs.Arenas.{each_kind}
 use Rattle.omi_layout.proofs.Turned.{ends, turned_apart, apart_left, apart_right, kind_is}
 
@@ -23,8 +23,11 @@ le_test a b h = grind (arith, nat_tests)
 eq_test : (a b : ℕ) → a ≡ b → a == b ≡ true
 eq_test a b h = grind (arith, nat_tests)
 
-words_few : (t p : ℕ) → t ≤ 64 → field_words t p ≤ 75
-words_few t p h = grind (arith, nat_tests)
+slots_few : (v : ℕ) → slot_words v ≤ 10
+slots_few v = grind (arith, nat_tests)
+
+words_few : (v t p : ℕ) → t ≤ 64 → field_words v t p ≤ 75
+words_few v t p h = let last = slots_few v in grind (arith, nat_tests)
 
 one_kind : (a b : ℕ) (s : Bool) → (a ≡ b → s ≡ false) → a == b && s ≡ false
 one_kind a b s f = go (a == b) refl
@@ -102,24 +105,25 @@ extent_few c s h h' = mul-le-mul h h'
 product_few : (c s m n : ℕ) → c ≤ m → s ≤ n → c * s ≤ m * n
 product_few c s m n h h' = mul-le-mul h h'
 
-module _ (k t : ℕ) (w : List ℕ) (some : 1 ≤ t) (most : t ≤ MOST_THREADS) (fam : IsFamily k t w) where
+module _ (v k t : ℕ) (w : List ℕ) (known : is_known v ≡ true) (some : 1 ≤ t) (most : t ≤ MOST_THREADS)
+    (fam : IsFamilyOf v k t w) where
   -- the length of the arena of a kind
   abbrev long : ℕ → ℕ
-  long p = family_extent k t p
+  long p = family_extent v k t p
 
   -- whether the arenas stand from the lowest number on
   abbrev forward : Bool
   forward = k % 2 == 0
 
-  size_few : (p : ℕ) → family_size k t p ≤ 78
-  size_few p = omega (arith, words_few t p (omega (arith, most)))
+  size_few : (p : ℕ) → family_size v k t p ≤ 78
+  size_few p = omega (arith, words_few v t p (omega (arith, most)))
 
   few : (p : ℕ) → IsKind p → long p ≤ 1277952
   few = each_kind (λ p. long p ≤ 1277952)
-      (extent_few (family_count t 1) (family_size k t 1) (omega arith) (size_few 1))
-      (extent_few (family_count t 2) (family_size k t 2) (omega (arith, most)) (size_few 2))
-      (extent_few (family_count t 3) (family_size k t 3) (omega (arith, most)) (size_few 3))
-      (extent_few (family_count t 4) (family_size k t 4) (omega (arith, most)) (size_few 4))
+      (extent_few (family_count t 1) (family_size v k t 1) (omega arith) (size_few 1))
+      (extent_few (family_count t 2) (family_size v k t 2) (omega (arith, most)) (size_few 2))
+      (extent_few (family_count t 3) (family_size v k t 3) (omega (arith, most)) (size_few 3))
+      (extent_few (family_count t 4) (family_size v k t 4) (omega (arith, most)) (size_few 4))
 
   k1 : IsKind 1
   k1 = record { from = omega arith; to = omega arith }
@@ -214,17 +218,17 @@ module _ (k t : ℕ) (w : List ℕ) (some : 1 ≤ t) (most : t ≤ MOST_THREADS)
       (one_arena 3 k3 _ (both _ _ s13 (both _ _ s23 refl)))
       (one_arena 4 k4 _ (both _ _ s14 (both _ _ s24 s34)))
 
-  pub family_valid : IsValid w
-  family_valid = record {
+  pub valid_of : IsValid w
+  valid_of = record {
     words = fam.words;
-    known = fam.known;
+    known = ap is_known fam.known ∙ known;
     inside = λ f is.
         let s = fam.sizes (kind_of f) (kind_is f) in
         let sized = le_test (size w (kind_of f)) 4096 (omega (arith, s, size_few (kind_of f))) in
         let within =
-        le_test (offset w f + width w f) (size w (kind_of f)) (omega (arith, s, ends k t w fam f is)) in
+        le_test (offset w f + width w f) (size w (kind_of f)) (omega (arith, s, ends v k t w fam f is)) in
         both _ _ sized within;
-    apart = λ f is g is' order. one_kind (kind_of f) (kind_of g) _ (turned_apart k t w fam f g is is' order);
+    apart = λ f is g is' order. one_kind (kind_of f) (kind_of g) _ (turned_apart v k t w fam f g is is' order);
     arenas = arenas;
   }
 
@@ -235,12 +239,12 @@ module _ (k t : ℕ) (w : List ℕ) (some : 1 ≤ t) (most : t ≤ MOST_THREADS)
   -- and all of them end within the image
   all_few : long 1 + long 2 + long 3 + long 4 ≤ 1000000
   all_few =
-      let one = product_few (family_count t 1) (family_size k t 1) 1 78 (omega arith) (size_few 1) in
-      let two = product_few (family_count t 2) (family_size k t 2) 64 78 (omega (arith, most)) (size_few 2) in
+      let one = product_few (family_count t 1) (family_size v k t 1) 1 78 (omega arith) (size_few 1) in
+      let two = product_few (family_count t 2) (family_size v k t 2) 64 78 (omega (arith, most)) (size_few 2) in
       let three =
-      product_few (family_count t 3) (family_size k t 3) 1024 78 (omega (arith, most)) (size_few 3) in
+      product_few (family_count t 3) (family_size v k t 3) 1024 78 (omega (arith, most)) (size_few 3) in
       let four =
-      product_few (family_count t 4) (family_size k t 4) 16384 48 (omega (arith, most)) (omega arith) in
+      product_few (family_count t 4) (family_size v k t 4) 16384 48 (omega (arith, most)) (omega (arith, slots_few v)) in
       omega (arith, one, two, three, four)
 
   end_is : (p x : ℕ) → IsKind p → place w p ≡ 65536 + 8 * (FRONT_WORDS + x) → arena_end w p ≡ FRONT_WORDS + x + long p
@@ -251,16 +255,16 @@ module _ (k t : ℕ) (w : List ℕ) (some : 1 ≤ t) (most : t ≤ MOST_THREADS)
   arena_fit p x n at ends =
       both _ _ (le_test FRONT_WORDS (first_word w p) (omega (arith, first_is p x at))) (le_test (arena_end w p) n ends)
 
-  pub family_fits : IsTrue (fits w (image_words w))
-  family_fits =
+  pub fits_of : IsTrue (fits w (image_words w))
+  fits_of =
       let fit1 = arena_fit 1 _ (image_words w) row.p1 (omega arith) in
       let fit2 = arena_fit 2 _ (image_words w) row.p2 (omega arith) in
       let fit3 = arena_fit 3 _ (image_words w) row.p3 (omega arith) in
       let fit4 = arena_fit 4 _ (image_words w) row.p4 (omega arith) in
       both _ _ (both _ _ fit1 fit2) (both _ _ fit3 fit4)
 
-  pub family_small : image_words w ≤ 1048576
-  family_small =
+  pub small_of : image_words w ≤ 1048576
+  small_of =
       let e1 = end_is 1 _ k1 row.p1 in
       let e2 = end_is 2 _ k2 row.p2 in
       let e3 = end_is 3 _ k3 row.p3 in
@@ -273,3 +277,14 @@ module _ (k t : ℕ) (w : List ℕ) (some : 1 ≤ t) (most : t ≤ MOST_THREADS)
     where
       less : (x y n : ℕ) → x ≤ n → y ≤ n → cond forward x y ≤ n
       less x y n h h' = cond_few forward x y n h h'
+
+-- so it is in the version with words for groups
+module _ (k t : ℕ) (w : List ℕ) (some : 1 ≤ t) (most : t ≤ MOST_THREADS) (fam : IsFamily k t w) where
+  pub family_valid : IsValid w
+  family_valid = valid_of GROUP_VERSION k t w refl some most fam
+
+  pub family_fits : IsTrue (fits w (image_words w))
+  family_fits = fits_of GROUP_VERSION k t w refl some most fam
+
+  pub family_small : image_words w ≤ 1048576
+  family_small = small_of GROUP_VERSION k t w refl some most fam

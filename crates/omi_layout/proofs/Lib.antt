@@ -14,3 +14,4 @@ pub mod Filling
 pub mod Zeros
 pub mod OneOpening
 pub mod OneFamily
+pub mod SlotWords

@@ -28,7 +28,7 @@ clash b x y = cc
 
 -- a valid table is refused for no fault
 valid_not_refused : (w : List ℕ) (f : LayoutFault) → IsValid w → RefusesTable w f → ⊥
-valid_not_refused w (Version n) v r = r.unknown v.known
+valid_not_refused w (Version n) v r = clash _ v.known r.unknown
 valid_not_refused w (OutOfRecord f) v r = clash _ (v.inside f r.is) r.out
 valid_not_refused w (Overlap f g) v r = clash _ r.overlaps (v.apart f r.first g r.second r.order)
 valid_not_refused w (BadArena p) v r = clash _ (v.arenas p r.is) r.bad
@@ -36,16 +36,16 @@ valid_not_refused w (BadArena p) v r = clash _ (v.arenas p r.is) r.bad
 -- a table is refused for one fault
 one_fault : (w : List ℕ) (e f : LayoutFault) → RefusesTable w e → RefusesTable w f → e ≡ f
 one_fault w (Version n) (Version m) a b = ap Version (a.is ∙ sym b.is)
-one_fault w (Version n) (OutOfRecord f) a b = absurd (a.unknown b.known)
-one_fault w (Version n) (Overlap f g) a b = absurd (a.unknown b.known)
-one_fault w (Version n) (BadArena p) a b = absurd (a.unknown b.known)
-one_fault w (OutOfRecord f) (Version m) a b = absurd (b.unknown a.known)
+one_fault w (Version n) (OutOfRecord f) a b = absurd (clash _ b.known a.unknown)
+one_fault w (Version n) (Overlap f g) a b = absurd (clash _ b.known a.unknown)
+one_fault w (Version n) (BadArena p) a b = absurd (clash _ b.known a.unknown)
+one_fault w (OutOfRecord f) (Version m) a b = absurd (clash _ a.known b.unknown)
 one_fault w (OutOfRecord f) (OutOfRecord g) a b =
     ap OutOfRecord
     (least_one f g (λ h. clash _ (b.least f a.is h) a.out) (λ h. clash _ (a.least g b.is h) b.out))
 one_fault w (OutOfRecord f) (Overlap g h) a b = absurd (clash _ (b.inside f a.is) a.out)
 one_fault w (OutOfRecord f) (BadArena p) a b = absurd (clash _ (b.inside f a.is) a.out)
-one_fault w (Overlap f g) (Version m) a b = absurd (b.unknown a.known)
+one_fault w (Overlap f g) (Version m) a b = absurd (clash _ a.known b.unknown)
 one_fault w (Overlap f g) (OutOfRecord h) a b = absurd (clash _ (a.inside h b.is) b.out)
 one_fault w (Overlap f g) (Overlap h k) a b =
     let first : f ≡ h =
@@ -59,7 +59,7 @@ one_fault w (Overlap f g) (Overlap h k) a b =
     ap₂ Overlap first second
 one_fault w (Overlap f g) (BadArena p) a b =
     absurd (clash _ a.overlaps (b.apart f a.first g a.second a.order))
-one_fault w (BadArena p) (Version m) a b = absurd (b.unknown a.known)
+one_fault w (BadArena p) (Version m) a b = absurd (clash _ a.known b.unknown)
 one_fault w (BadArena p) (OutOfRecord f) a b = absurd (clash _ (a.inside f b.is) b.out)
 one_fault w (BadArena p) (Overlap f g) a b =
     absurd (clash _ b.overlaps (a.apart f b.first g b.second b.order))

@@ -2,12 +2,12 @@
 use Rattle.std.proofs.Common.{◌≡◌, ◌+◌, ◌-◌, ◌<◌, ◌≤◌, ◌⊎◌, inl, inr, ℕ, List, length, slice_index, sym, ◌∙◌, subst, arith}
 use Rattle.std.proofs.lemmas.Bool.{cases_lt}
 use Rattle.std.proofs.lemmas.List.{ext_get_or}
-use Rattle.omi_layout.specs.declared.limits.TheConstants.{FIELDS}
-use Rattle.omi_layout.specs.Family.{IsFamily}
+use Rattle.omi_layout.specs.declared.limits.TheConstants.{FIELDS, GROUP_VERSION}
+use Rattle.omi_layout.specs.Family.{IsFamily, IsFamilyOf}
 use Rattle.omi_layout.proofs.Arenas.{next_below}
 use Rattle.omi_layout.proofs.Frame.{kind_1, kind_2, kind_3, kind_4}
 
-module _ (k t : ℕ) (w u : List ℕ) (a : IsFamily k t w) (b : IsFamily k t u) where
+module _ (v k t : ℕ) (w u : List ℕ) (a : IsFamilyOf v k t w) (b : IsFamilyOf v k t u) where
   abbrev Same : ℕ → Type 0
   Same i = slice_index w i ≡ slice_index u i
 
@@ -50,5 +50,8 @@ module _ (k t : ℕ) (w u : List ℕ) (a : IsFamily k t w) (b : IsFamily k t u) 
           subst Same here
           (a.offsets (i - 11) (record { from = from; to = to }) ∙ sym (b.offsets (i - 11) (record { from = from; to = to })))
 
-  pub one_family : w ≡ u
-  one_family = ext_get_or 0 w u (a.words ∙ sym b.words) same_at
+  one_layout : w ≡ u
+  one_layout = ext_get_or 0 w u (a.words ∙ sym b.words) same_at
+
+pub one_family : (k t : ℕ) (w u : List ℕ) → IsFamily k t w → IsFamily k t u → w ≡ u
+one_family k t w u a b = one_layout GROUP_VERSION k t w u a b

@@ -2,9 +2,9 @@
 use Rattle.std.proofs.Common.{◌≡◌, ◌≢◌, ◌==◌, ℕ, ◌+◌, ◌-◌, ◌%◌, ◌<◌, ◌≤◌, Bool, true, false, nat_le, List, refl, sym, ap, subst, ◌∙◌, arith, leb-true}
 use Rattle.std.proofs.lemmas.Bool.Decides.{nat_tests}
 use Rattle.omi_layout.specs.Field.{IsField, IsKind, kind_of, nth, slots, tasks}
-use Rattle.omi_layout.specs.Table.{thread_count, offset, width}
+use Rattle.omi_layout.specs.Table.{offset, thread_count, version, width}
 use Rattle.omi_layout.specs.Valid.{shares}
-use Rattle.omi_layout.specs.Family.{IsFamily, first_field, field_words, words_before, turned_first, family_offset, field_count}
+use Rattle.omi_layout.specs.Family.{IsFamilyOf, first_field, field_words, words_before, turned_first, family_offset, field_count}
 use Rattle.omi_layout.proofs.Arenas.{each_kind}
 
 before_plain : (f : ℕ) → IsField f → f < slots → words_before f + first_field (kind_of f) ≡ f
@@ -56,9 +56,9 @@ in_order w f g is is' h same = by (g == slots) refl (f == nth) refl
         omega (arith, one, mine, other, first, h)
 
 -- and inside the words of all fields
-pub in_all : (w : List ℕ) (t f : ℕ) → thread_count w ≡ t → IsField f
-    → words_before f + width w f ≤ field_words t (kind_of f)
-in_all w t f threads is = let from = is.from in let to = is.to in grind (arith, nat_tests)
+pub in_all : (w : List ℕ) (v t f : ℕ) → version w ≡ v → thread_count w ≡ t → IsField f
+    → words_before f + width w f ≤ field_words v t (kind_of f)
+in_all w v t f same threads is = let from = is.from in let to = is.to in grind (arith, nat_tests)
 
 -- the field that stands first is one of the record's
 pub first_is : (k p : ℕ) → IsKind p → IsField (turned_first k p)
@@ -94,25 +94,25 @@ apart_left a m b n h = grind (arith, nat_tests)
 pub apart_right : (a m b n : ℕ) → b + n ≤ a → shares a m b n ≡ false
 apart_right a m b n h = grind (arith, nat_tests)
 
-low_value : (k t f first : ℕ) → first ≡ turned_first k (kind_of f) → first ≤ f
-    → family_offset k t f ≡ k % 3 + (words_before f - words_before first)
-low_value k t f first is h =
+low_value : (v k t f first : ℕ) → first ≡ turned_first k (kind_of f) → first ≤ f
+    → family_offset v k t f ≡ k % 3 + (words_before f - words_before first)
+low_value v k t f first is h =
     let e : nat_le first f ≡ true = grind (arith, nat_tests) in
     rw (← is) (rw e refl)
 
-high_value : (k t f first : ℕ) → first ≡ turned_first k (kind_of f) → f < first
-    → family_offset k t f ≡ k % 3 + ((field_words t (kind_of f) - words_before first) + words_before f)
-high_value k t f first is h =
+high_value : (v k t f first : ℕ) → first ≡ turned_first k (kind_of f) → f < first
+    → family_offset v k t f ≡ k % 3 + ((field_words v t (kind_of f) - words_before first) + words_before f)
+high_value v k t f first is h =
     let e : nat_le first f ≡ false = grind (arith, nat_tests) in
     rw (← is) (rw e refl)
 
-module _ (k t : ℕ) (w : List ℕ) (fam : IsFamily k t w) where
+module _ (v k t : ℕ) (w : List ℕ) (fam : IsFamilyOf v k t w) where
   first_ends : (f first : ℕ) → IsField f → first ≡ turned_first k (kind_of f)
-      → words_before first + width w first ≤ field_words t (kind_of f)
+      → words_before first + width w first ≤ field_words v t (kind_of f)
   first_ends f first is e =
       let kinds : kind_of first ≡ kind_of f = ap kind_of e ∙ first_kind k (kind_of f) (kind_is f) in
-      subst (λ p. words_before first + width w first ≤ field_words t p) kinds
-      (in_all w t first fam.threads (subst IsField (sym e) (first_is k (kind_of f) (kind_is f))))
+      subst (λ p. words_before first + width w first ≤ field_words v t p) kinds
+      (in_all w v t first fam.known fam.threads (subst IsField (sym e) (first_is k (kind_of f) (kind_is f))))
 
   first_before : (f first : ℕ) → IsField f → first ≡ turned_first k (kind_of f) → first ≤ f
       → words_before first ≤ words_before f
@@ -133,20 +133,20 @@ module _ (k t : ℕ) (w : List ℕ) (fam : IsFamily k t w) where
       (sym (ap kind_of e ∙ first_kind k (kind_of f) (kind_is f)))
 
   -- each field ends inside its record
-  pub ends : (f : ℕ) → IsField f → offset w f + width w f ≤ (k % 3 + field_words t (kind_of f))
+  pub ends : (f : ℕ) → IsField f → offset w f + width w f ≤ (k % 3 + field_words v t (kind_of f))
   ends f is = go (nat_le (turned_first k (kind_of f)) f) refl
     where
       go : (b : Bool) → nat_le (turned_first k (kind_of f)) f ≡ b
-          → offset w f + width w f ≤ (k % 3 + field_words t (kind_of f))
+          → offset w f + width w f ≤ (k % 3 + field_words v t (kind_of f))
       go true e =
           let h : turned_first k (kind_of f) ≤ f = leb-true _ _ e in
-          let v = fam.offsets f is ∙ low_value k t f (turned_first k (kind_of f)) refl h in
-          omega (arith, v, in_all w t f fam.threads is)
+          let x = fam.offsets f is ∙ low_value v k t f (turned_first k (kind_of f)) refl h in
+          omega (arith, x, in_all w v t f fam.known fam.threads is)
       go false e =
           let h : f < turned_first k (kind_of f) = grind (arith, nat_tests) in
-          let v = fam.offsets f is ∙ high_value k t f (turned_first k (kind_of f)) refl h in
+          let x = fam.offsets f is ∙ high_value v k t f (turned_first k (kind_of f)) refl h in
           omega
-          (arith, v, first_behind f (turned_first k (kind_of f)) is refl h, first_ends f (turned_first k (kind_of f)) is refl)
+          (arith, x, first_behind f (turned_first k (kind_of f)) is refl h, first_ends f (turned_first k (kind_of f)) is refl)
 
   -- two fields of a record are apart
   pub turned_apart : (f g : ℕ) → IsField f → IsField g → f < g → kind_of f ≡ kind_of g
@@ -159,28 +159,28 @@ module _ (k t : ℕ) (w : List ℕ) (fam : IsFamily k t w) where
       also : first ≡ turned_first k (kind_of g)
       also = ap (turned_first k) same
 
-      all : field_words t (kind_of f) ≡ field_words t (kind_of g)
-      all = ap (field_words t) same
+      all : field_words v t (kind_of f) ≡ field_words v t (kind_of g)
+      all = ap (field_words v t) same
 
       go : (b : Bool) → nat_le first f ≡ b → (d : Bool) → nat_le first g ≡ d
           → shares (offset w f) (width w f) (offset w g) (width w g) ≡ false
       go true e d e' =
           let h : first ≤ f = leb-true _ _ e in
-          let v = fam.offsets f is ∙ low_value k t f first refl h in
-          let u = fam.offsets g is' ∙ low_value k t g first also (omega (arith, h, order)) in
+          let x = fam.offsets f is ∙ low_value v k t f first refl h in
+          let u = fam.offsets g is' ∙ low_value v k t g first also (omega (arith, h, order)) in
           apart_left (offset w f) (width w f) (offset w g) (width w g)
-          (omega (arith, v, u, first_before f first is refl h, in_order w f g is is' order same))
+          (omega (arith, x, u, first_before f first is refl h, in_order w f g is is' order same))
       go false e true e' =
           let h : f < first = grind (arith, nat_tests) in
           let h' : first ≤ g = leb-true _ _ e' in
-          let v = fam.offsets f is ∙ high_value k t f first refl h in
-          let u = fam.offsets g is' ∙ low_value k t g first also h' in
+          let x = fam.offsets f is ∙ high_value v k t f first refl h in
+          let u = fam.offsets g is' ∙ low_value v k t g first also h' in
           apart_right (offset w f) (width w f) (offset w g) (width w g)
-          (omega (arith, v, u, all, first_before g first is' also h', in_all w t g fam.threads is', first_ends f first is refl))
+          (omega (arith, x, u, all, first_before g first is' also h', in_all w v t g fam.known fam.threads is', first_ends f first is refl))
       go false e false e' =
           let h : f < first = grind (arith, nat_tests) in
           let h' : g < first = grind (arith, nat_tests) in
-          let v = fam.offsets f is ∙ high_value k t f first refl h in
-          let u = fam.offsets g is' ∙ high_value k t g first also h' in
+          let x = fam.offsets f is ∙ high_value v k t f first refl h in
+          let u = fam.offsets g is' ∙ high_value v k t g first also h' in
           apart_left (offset w f) (width w f) (offset w g) (width w g)
-          (omega (arith, v, u, all, in_order w f g is is' order same))
+          (omega (arith, x, u, all, in_order w f g is is' order same))

@@ -2,6 +2,7 @@
 use Rattle.std.specs.Prelude.{ℕ, ◌==◌, ◌+◌, ◌*◌, List, slice_index, if◌then◌else◌}
 use Rattle.omi_numbers.specs.declared.limits.TheConstants.{OWN_SLOTS}
 use Rattle.omi_script.specs.declared.limits.TheConstants.{MAX_LOCK, MAX_SIZES}
+use Rattle.omi_layout.specs.declared.limits.TheConstants.{GROUP_VERSION, GROUP_WORDS}
 use Rattle.omi_layout.specs.Field.{runtime, threads, regions, tasks, locks, team, nth, slots}
 
 abbrev pub version : List ℕ → ℕ
@@ -53,11 +54,15 @@ offset_index f = 11 + f
 abbrev pub offset : List ℕ → ℕ → ℕ
 offset w f = slice_index w (offset_index f)
 
+-- the words of the last field: the slots, and from version 2 on the words for groups behind them
+abbrev pub slot_words : ℕ → ℕ
+slot_words v = if v == GROUP_VERSION then OWN_SLOTS + GROUP_WORDS else OWN_SLOTS
+
 -- the words of a field: the locks, a member of the team for each thread, the elements of nthreads-var and the slots
 abbrev pub width : List ℕ → ℕ → ℕ
 width w f =
     if f == locks then MAX_LOCK + 1
     else (if f == team then thread_count w
     else (if f == nth then MAX_SIZES
-    else (if f == slots then OWN_SLOTS
+    else (if f == slots then slot_words (version w)
     else 1)))

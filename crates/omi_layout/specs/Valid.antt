@@ -1,11 +1,15 @@
 -- Valid layouts, and the refusals of a table that is none: each at its least field or arena.
-use Rattle.std.specs.Prelude.{◌≡◌, ◌≢◌, ◌==◌, ℕ, ◌+◌, ◌*◌, ◌%◌, ◌<◌, ◌&&◌, Bool, true, false, not, nat_lt, nat_le, List, length, if◌then◌else◌}
+use Rattle.std.specs.Prelude.{◌≡◌, ◌==◌, ℕ, ◌+◌, ◌*◌, ◌%◌, ◌<◌, ◌&&◌, ◌||◌, Bool, true, false, not, nat_lt, nat_le, List, length, if◌then◌else◌}
 use Rattle.omi_word.specs.declared.limits.TheConstants.{FIRST_ADDRESS}
-use Rattle.omi_layout.specs.declared.limits.TheConstants.{TABLE_WORDS, VERSION, MOST_RECORD_WORDS, MOST_THREADS, MOST_REGIONS, MOST_TASKS, LAST_END}
+use Rattle.omi_layout.specs.declared.limits.TheConstants.{TABLE_WORDS, FIRST_VERSION, GROUP_VERSION, MOST_RECORD_WORDS, MOST_THREADS, MOST_REGIONS, MOST_TASKS, LAST_END}
 use Rattle.omi_layout.specs.declared.fault.LayoutFault.{LayoutFault}
 use Rattle.omi_layout.specs.declared.fault.LayoutFault.TheVariants.{Version, Overlap, OutOfRecord, BadArena}
 use Rattle.omi_layout.specs.Field.{IsField, IsKind, kind_of, runtime, threads, regions}
 use Rattle.omi_layout.specs.Table.{version, place, size, thread_count, per_thread, extent, offset, width, place_index, offset_index}
+
+-- a version of the layout table
+abbrev pub is_known : ℕ → Bool
+is_known v = v == FIRST_VERSION || v == GROUP_VERSION
 
 -- the field ends inside its record, and the record isn't too large
 abbrev pub is_inside : List ℕ → ℕ → Bool
@@ -69,21 +73,21 @@ AllApart w = (f : ℕ) → IsField f → IsApart w f
 -- a layout table that is valid
 pub record IsValid (w : List ℕ) : Type 0 where
   pub words : length w ≡ TABLE_WORDS
-  pub known : version w ≡ VERSION
+  pub known : is_known (version w) ≡ true
   pub inside : AllInside w
   pub apart : AllApart w
   pub arenas : (p : ℕ) → IsKind p → is_arena w p ≡ true
 
 -- field `f` is the least that doesn't end inside its record
 pub record IsOutOfRecord (w : List ℕ) (f : ℕ) : Type 0 where
-  pub known : version w ≡ VERSION
+  pub known : is_known (version w) ≡ true
   pub is : IsField f
   pub out : is_inside w f ≡ false
   pub least : (g : ℕ) → IsField g → g < f → is_inside w g ≡ true
 
 -- `f` is the least field that overlaps a later one, and `g` the least of these
 pub record IsOverlap (w : List ℕ) (f g : ℕ) : Type 0 where
-  pub known : version w ≡ VERSION
+  pub known : is_known (version w) ≡ true
   pub inside : AllInside w
   pub first : IsField f
   pub second : IsField g
@@ -94,7 +98,7 @@ pub record IsOverlap (w : List ℕ) (f g : ℕ) : Type 0 where
 
 -- arena `p` is the least that isn't in order
 pub record IsBadArena (w : List ℕ) (p : ℕ) : Type 0 where
-  pub known : version w ≡ VERSION
+  pub known : is_known (version w) ≡ true
   pub inside : AllInside w
   pub apart : AllApart w
   pub is : IsKind p
@@ -103,7 +107,7 @@ pub record IsBadArena (w : List ℕ) (p : ℕ) : Type 0 where
 
 -- a table is refused by this fault
 abbrev pub RefusesTable : List ℕ → LayoutFault → Type 0
-RefusesTable w (Version v) = record { is : v ≡ version w; unknown : version w ≢ VERSION }
+RefusesTable w (Version v) = record { is : v ≡ version w; unknown : is_known (version w) ≡ false }
 RefusesTable w (OutOfRecord f) = IsOutOfRecord w f
 RefusesTable w (Overlap f g) = IsOverlap w f g
 RefusesTable w (BadArena p) = IsBadArena w p

@@ -4,15 +4,16 @@ ghost use Rattle.std.specs.Prelude.{◌≡◌, ◌≤◌, IsTrue};
 ghost use Rattle.omi_word.specs.declared.limits.TheConstants.{MOST_WORDS};
 ghost use Rattle.omi_layout.specs.Field.{IsField, IsKind};
 ghost use Rattle.omi_layout.specs.Family;
-ghost use Rattle.omi_layout.specs.Family.{IsFamily};
+ghost use Rattle.omi_layout.specs.Family.{IsFamily, IsFamilyOf};
 ghost use Rattle.omi_layout.specs.Place.{fits, image_words};
-ghost use Rattle.omi_layout.specs.declared.limits.TheConstants.{MOST_FAMILY_WORDS, MOST_THREADS};
+ghost use Rattle.omi_layout.specs.declared.limits.TheConstants.{FIRST_VERSION, MOST_FAMILY_WORDS, MOST_THREADS};
 
 use crate::field::{Field, REGIONS, RUNTIME, TASKS, THREADS};
 use crate::layout::Layout;
-use crate::limits::{FAMILY_REGIONS, FAMILY_TASKS, FIELDS, FRONT_WORDS, TABLE_WORDS, VERSION};
-use crate::table::kind;
-use omi_numbers::OWN_SLOTS;
+use crate::limits::{
+    FAMILY_REGIONS, FAMILY_TASKS, FIELDS, FIRST_VERSION, FRONT_WORDS, GROUP_VERSION, TABLE_WORDS,
+};
+use crate::table::{kind, slot_words};
 use omi_script::limits::{MAX_LOCK, MAX_SIZES};
 use omi_word::FIRST_ADDRESS;
 
@@ -52,8 +53,8 @@ fn field_count(p: u8) -> u8
 }
 
 /// The words of all fields of a record.
-fn field_words(threads: u8, p: u8) -> u64
-    ensures { result ≡ Family.field_words threads p }
+fn field_words(version: u64, threads: u8, p: u8) -> u64
+    ensures { result ≡ Family.field_words version threads p }
 {
     if p == RUNTIME {
         5 + (u64::from(MAX_LOCK) + 1)
@@ -62,7 +63,7 @@ fn field_words(threads: u8, p: u8) -> u64
     } else if p == REGIONS {
         11 + u64::from(threads)
     } else {
-        TASK_SINGLES + (MAX_SIZES as u64 + u64::from(OWN_SLOTS))
+        TASK_SINGLES + (MAX_SIZES as u64 + slot_words(version))
     }
 }
 
@@ -88,9 +89,9 @@ fn turned_first(k: u8, p: u8) -> u8
 }
 
 /// The words in front of a field in its record.
-fn family_offset(k: u8, threads: u8, field: u8) -> u64
+fn family_offset(version: u64, k: u8, threads: u8, field: u8) -> u64
     requires { IsField field }
-    ensures { result ≡ Family.family_offset k threads field }
+    ensures { result ≡ Family.family_offset version k threads field }
 {
     let first = turned_first(k, kind(field));
     let gap = u64::from(k % 3);
@@ -99,26 +100,26 @@ fn family_offset(k: u8, threads: u8, field: u8) -> u64
     if first <= field {
         gap + (front - turned)
     } else {
-        let all = field_words(threads, kind(field));
+        let all = field_words(version, threads, kind(field));
         gap + ((all - turned) + front)
     }
 }
 
 /// The words of a record.
-fn family_size(k: u8, threads: u8, p: u8) -> u64
-    ensures { result ≡ Family.family_size k threads p }
+fn family_size(version: u64, k: u8, threads: u8, p: u8) -> u64
+    ensures { result ≡ Family.family_size version k threads p }
 {
-    u64::from(k % 3) + field_words(threads, p) + u64::from(k % 2)
+    u64::from(k % 3) + field_words(version, threads, p) + u64::from(k % 2)
 }
 
 /// The words of an arena.
-fn family_extent(k: u8, threads: u8, p: u8) -> u64
+fn family_extent(version: u64, k: u8, threads: u8, p: u8) -> u64
     requires { threads ≤ MOST_THREADS }
-    ensures value { result ≡ Family.family_extent k threads p }
+    ensures value { result ≡ Family.family_extent version k threads p }
     ensures small { result ≤ MOST_FAMILY_WORDS }
 {
     let count = u64::from(threads);
-    let words = family_size(k, threads, p);
+    let words = family_size(version, k, threads, p);
     if p == RUNTIME {
         words
     } else if p == THREADS {
@@ -131,15 +132,15 @@ fn family_extent(k: u8, threads: u8, p: u8) -> u64
 }
 
 /// The byte address at which an arena begins.
-fn family_place(k: u8, threads: u8, p: u8) -> u64
+fn family_place(version: u64, k: u8, threads: u8, p: u8) -> u64
     requires kind { IsKind p }
     requires few { threads ≤ MOST_THREADS }
-    ensures { result ≡ Family.family_place k threads p }
+    ensures { result ≡ Family.family_place version k threads p }
 {
-    let runtime = family_extent(k, threads, RUNTIME);
-    let of_threads = family_extent(k, threads, THREADS);
-    let regions = family_extent(k, threads, REGIONS);
-    let tasks = family_extent(k, threads, TASKS);
+    let runtime = family_extent(version, k, threads, RUNTIME);
+    let of_threads = family_extent(version, k, threads, THREADS);
+    let regions = family_extent(version, k, threads, REGIONS);
+    let tasks = family_extent(version, k, threads, TASKS);
     let front = if k % 2 == 0 {
         if p == RUNTIME {
             0
@@ -164,26 +165,26 @@ fn family_place(k: u8, threads: u8, p: u8) -> u64
     FIRST_ADDRESS + 8 * (FRONT_WORDS + front)
 }
 
-/// The table of a family.
-fn family_table(k: u8, threads: u8) -> [u64; TABLE_WORDS]
+/// The table of a family in a version.
+fn family_table(version: u64, k: u8, threads: u8) -> [u64; TABLE_WORDS]
     requires { threads ≤ MOST_THREADS }
-    ensures { IsFamily k threads result }
+    ensures { IsFamilyOf version k threads result }
 {
     let mut table = [0u64; TABLE_WORDS];
-    table[0] = VERSION;
-    table[1] = family_place(k, threads, RUNTIME);
-    table[2] = family_size(k, threads, RUNTIME);
-    table[3] = family_place(k, threads, THREADS);
-    table[4] = family_size(k, threads, THREADS);
+    table[0] = version;
+    table[1] = family_place(version, k, threads, RUNTIME);
+    table[2] = family_size(version, k, threads, RUNTIME);
+    table[3] = family_place(version, k, threads, THREADS);
+    table[4] = family_size(version, k, threads, THREADS);
     table[5] = u64::from(threads);
-    table[6] = family_place(k, threads, REGIONS);
-    table[7] = family_size(k, threads, REGIONS);
+    table[6] = family_place(version, k, threads, REGIONS);
+    table[7] = family_size(version, k, threads, REGIONS);
     table[8] = FAMILY_REGIONS;
-    table[9] = family_place(k, threads, TASKS);
-    table[10] = family_size(k, threads, TASKS);
+    table[9] = family_place(version, k, threads, TASKS);
+    table[10] = family_size(version, k, threads, TASKS);
     table[11] = FAMILY_TASKS;
     for f in 1..FIELDS + 1 {
-        table[11 + f as usize] = family_offset(k, threads, f);
+        table[11 + f as usize] = family_offset(version, k, threads, f);
     }
     table
 }
@@ -198,7 +199,20 @@ impl Layout {
         ensures fits { IsTrue (fits result.table (image_words result.table)) }
         ensures small { image_words result.table ≤ MOST_WORDS }
     {
-        let table = family_table(k, threads);
+        let table = family_table(GROUP_VERSION, k, threads);
+        Layout { table }
+    }
+
+    /// The layout of family `k` in the first version, without words for groups of tasks.
+    pub fn family_v1(k: u8, threads: u8) -> Layout
+        requires family { k ≤ 15 }
+        requires some { 1 ≤ threads }
+        requires most { threads ≤ MOST_THREADS }
+        ensures family { IsFamilyOf FIRST_VERSION k threads result.table }
+        ensures fits { IsTrue (fits result.table (image_words result.table)) }
+        ensures small { image_words result.table ≤ MOST_WORDS }
+    {
+        let table = family_table(FIRST_VERSION, k, threads);
         Layout { table }
     }
 }

@@ -7,7 +7,7 @@ use crate::table::place_index;
 /// Why a layout table is refused. Fields and arenas go by their numbers, and the least decides.
 #[derive(Clone, Copy, Debug, PartialEq, Eq)]
 pub enum LayoutFault {
-    /// The version of the table is this, and not 1.
+    /// The version of the table is this, and neither 1 nor 2.
     Version(u64),
     /// Two fields of one record share a word.
     Overlap(u8, u8),

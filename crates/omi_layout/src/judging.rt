@@ -11,11 +11,18 @@ ghost use Rattle.omi_layout.specs.Judged.{IsFirstOverlap, AllBelow};
 use crate::fault::LayoutFault;
 use crate::field::{REGIONS, RUNTIME, TASKS, THREADS};
 use crate::limits::{
-    FIELDS, LAST_END, MOST_RECORD_WORDS, MOST_REGIONS, MOST_TASKS, MOST_THREADS, TABLE_WORDS,
-    VERSION,
+    FIELDS, FIRST_VERSION, GROUP_VERSION, LAST_END, MOST_RECORD_WORDS, MOST_REGIONS, MOST_TASKS,
+    MOST_THREADS, TABLE_WORDS,
 };
 use crate::table::{extent, kind, offset, place, size, width};
 use omi_word::FIRST_ADDRESS;
+
+/// Whether this is a version of the layout table.
+fn is_known(version: u64) -> bool
+    ensures { result ≡ Valid.is_known version }
+{
+    version == FIRST_VERSION || version == GROUP_VERSION
+}
 
 /// Whether a field ends inside its record, and the record isn't too large.
 fn is_inside(w: &[u64; TABLE_WORDS], field: u8) -> bool
@@ -131,7 +138,7 @@ fn is_arena(w: &[u64; TABLE_WORDS], p: u8) -> bool
 
 /// Looks at each field's end.
 fn judge_ends(w: &[u64; TABLE_WORDS]) -> Result<(), LayoutFault>
-    requires { Table.version w.now ≡ 1 }
+    requires { Valid.is_known (Table.version w.now) ≡ true }
     ensures { MatchResult result (λ _. AllInside w.now) (λ e. RefusesTable w.now e) }
 {
     for f in 1..FIELDS + 1 {
@@ -144,7 +151,7 @@ fn judge_ends(w: &[u64; TABLE_WORDS]) -> Result<(), LayoutFault>
 
 /// Looks at each two fields.
 fn judge_fields(w: &[u64; TABLE_WORDS]) -> Result<(), LayoutFault>
-    requires known { Table.version w.now ≡ 1 }
+    requires known { Valid.is_known (Table.version w.now) ≡ true }
     requires inside { AllInside w.now }
     ensures { MatchResult result (λ _. AllApart w.now) (λ e. RefusesTable w.now e) }
 {
@@ -158,7 +165,7 @@ fn judge_fields(w: &[u64; TABLE_WORDS]) -> Result<(), LayoutFault>
 
 /// Looks at each arena.
 fn judge_arenas(w: &[u64; TABLE_WORDS]) -> Result<(), LayoutFault>
-    requires known { Table.version w.now ≡ 1 }
+    requires known { Valid.is_known (Table.version w.now) ≡ true }
     requires inside { AllInside w.now }
     requires apart { AllApart w.now }
     ensures { MatchResult result (λ _. IsValid w.now) (λ e. RefusesTable w.now e) }
@@ -175,7 +182,7 @@ fn judge_arenas(w: &[u64; TABLE_WORDS]) -> Result<(), LayoutFault>
 pub fn judge(w: &[u64; TABLE_WORDS]) -> Result<(), LayoutFault>
     ensures { MatchResult result (λ _. IsValid w.now) (λ e. RefusesTable w.now e) }
 {
-    if w[0] != VERSION {
+    if !is_known(w[0]) {
         return Err(LayoutFault::Version(w[0]));
     }
     judge_ends(w)?;

@@ -46,6 +46,13 @@ impl Layout {
         place(&self.table, RUNTIME)
     }
 
+    /// The version of the table, 1 or 2.
+    pub fn version(&self) -> u64
+        ensures { result ≡ Table.version self.now.table }
+    {
+        self.table[0]
+    }
+
     /// The number of threads.
     pub fn threads(&self) -> u8
         ensures { result ≡ Table.thread_count self.now.table }

@@ -10,8 +10,16 @@ pub const FIELDS: u8 = Field::TaskSlots as u8;
 /// The words of a layout table: twelve of version and arenas, and the offset of each field.
 pub const TABLE_WORDS: usize = 12 + FIELDS as usize;
 
-/// The version of the layout table.
-pub const VERSION: u64 = 1;
+/// The versions of the layout table: the first one, and the one with words for groups of tasks.
+pub const FIRST_VERSION: u64 = 1;
+
+pub const GROUP_VERSION: u64 = 2;
+
+/// The groups of tasks that a task may have open at a time.
+pub const OPEN_GROUPS: u8 = 4;
+
+/// The words of a task for groups, behind its slots: its group, how many groups it has open, and a count for each of these.
+pub const GROUP_WORDS: u8 = 2 + OPEN_GROUPS;
 
 /// The most words of a record.
 pub const MOST_RECORD_WORDS: u64 = 4096;

@@ -7,7 +7,7 @@ ghost use Rattle.omi_layout.specs.Field as fields;
 ghost use Rattle.omi_layout.specs.Table;
 
 use crate::field::{Field, REGIONS, RUNTIME, TASKS, THREADS};
-use crate::limits::TABLE_WORDS;
+use crate::limits::{GROUP_VERSION, GROUP_WORDS, TABLE_WORDS};
 use omi_numbers::OWN_SLOTS;
 use omi_script::limits::{MAX_LOCK, MAX_SIZES};
 
@@ -76,6 +76,17 @@ pub fn offset(w: &[u64; TABLE_WORDS], field: u8) -> u64
     w[11 + field as usize]
 }
 
+/// The words of the last field, by the version of the table.
+pub fn slot_words(version: u64) -> u64
+    ensures { result ≡ Table.slot_words version }
+{
+    if version == GROUP_VERSION {
+        u64::from(OWN_SLOTS) + u64::from(GROUP_WORDS)
+    } else {
+        u64::from(OWN_SLOTS)
+    }
+}
+
 /// The words of a field.
 pub fn width(w: &[u64; TABLE_WORDS], field: u8) -> u64
     ensures { result ≡ Table.width w.now field }
@@ -87,7 +98,7 @@ pub fn width(w: &[u64; TABLE_WORDS], field: u8) -> u64
     } else if field == Field::TaskNthreads as u8 {
         MAX_SIZES as u64
     } else if field == Field::TaskSlots as u8 {
-        u64::from(OWN_SLOTS)
+        slot_words(w[0])
     } else {
         1
     }

@@ -14,7 +14,7 @@ pub const VARIABLE_WORDS: usize = 8;
 pub const REGION_WORDS: u8 = 10;
 
 /// The words that are stored into the record of a task, beside its life word.
-pub const TASK_WORDS: u8 = 25;
+pub const TASK_WORDS: u8 = 31;
 
 /// The words that are stored into the record of a deferred task when it starts.
 pub const START_WORDS: u8 = 5;

@@ -1,6 +1,5 @@
 -- The words in a thread's own record: that they are words of the layout, and that the thread's operations are on them.
 use Rattle.std.proofs.Common.{◌≡◌, ◌<◌, ℕ, List, sym, ap, subst, arith}
-use Rattle.std.proofs.lemmas.Bool.Decides.{nat_tests}
 use Rattle.omi_word.specs.declared.op.Op.TheVariants as op
 use Rattle.omi_script.specs.declared.program.Program.{Program}
 use Rattle.omi_model.specs.declared.event.Event.{Event}
@@ -11,8 +10,8 @@ use Rattle.omi_layout.specs.Memory.{IsRecordWord, Memory}
 use Rattle.omi_layout.specs.Named.{number}
 use Rattle.omi_layout.specs.Place.{IsSlot}
 use Rattle.omi_layout.specs.Table.{thread_count, width}
-use Rattle.omi_layout.proofs.Arenas.{some_threads}
 use Rattle.omi_layout.proofs.Numbers.{numbered_field}
+use Rattle.omi_rep.proofs.Codes as codes
 use Rattle.omi_pc.specs.declared.actor.Actor.{Actor}
 use Rattle.omi_step_words.specs.Words.{of_thread}
 use Rattle.omi_rule.specs.Steps.{IsOn, RecordWord}
@@ -28,7 +27,7 @@ module _ (p : Program) (w : List ℕ) (m : Memory) (events : List (ℕ × Event)
   known_thread = subst (λ n. i < n) before.rule.within.count before.known
 
   wide : (f : ℕ) → 0 < width w f
-  wide f = grind (arith, nat_tests, some_threads w before.valid)
+  wide f = codes.wide w before.valid f
 
   -- an actor's thread is i
   pub own_thread : (f : Field) → of_thread w (actors i).thread f ≡ of_thread w i f

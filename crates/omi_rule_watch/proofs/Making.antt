@@ -12,6 +12,7 @@ use Rattle.omi_layout.specs.declared.field.Field.TheVariants.{RuntimeLocks, Task
 use Rattle.omi_layout.specs.Field.{tasks}
 use Rattle.omi_layout.specs.Memory.{Memory}
 use Rattle.omi_layout.proofs.Numbers.{numbered_field}
+use Rattle.omi_layout.proofs.SlotWords.{slot_within}
 use Rattle.omi_pc.specs.declared.actor.Actor.{Actor}
 use Rattle.omi_pc.specs.declared.counter.Counter.TheVariants as counter
 use Rattle.omi_pc.specs.declared.counter.PlainCounter.{PlainCounter}
@@ -112,7 +113,7 @@ module _ (p : Program) (w : List ℕ) (m : Memory) (events : List (ℕ × Event)
         there = record {
           field = numbered_field TaskSlots;
           record_slot = (context_placed p w m events s actors i before (task.LoadSlot place) at).row;
-          within = (let few = (fits p w m events s actors i before (task.LoadSlot place) at).1 in omega (arith, few));
+          within = slot_within w place (fits p w m events s actors i before (task.LoadSlot place) at).1;
         };
         address = refl;
       },

@@ -14,8 +14,8 @@ use Rattle.omi_layout.specs.Memory.{IsRecordWord, Memory}
 use Rattle.omi_layout.specs.Named.{number}
 use Rattle.omi_layout.specs.Place.{IsSlot}
 use Rattle.omi_layout.specs.Table.{thread_count, width}
-use Rattle.omi_layout.proofs.Arenas.{some_threads}
 use Rattle.omi_layout.proofs.Numbers.{numbered_field}
+use Rattle.omi_rep.proofs.Codes as codes
 use Rattle.omi_pc.specs.declared.actor.Actor.{Actor}
 use Rattle.omi_pc.specs.declared.counter.Counter.{Counter}
 use Rattle.omi_pc.specs.declared.place.Place.{Place}
@@ -50,7 +50,7 @@ module _ (p : Program) (w : List ℕ) (m : Memory) (events : List (ℕ × Event)
   own = before.rule.threads i before.known
 
   wide : (f : ℕ) → 0 < width w f
-  wide f = grind (arith, nat_tests, some_threads w before.valid)
+  wide f = codes.wide w before.valid f
 
   pub record_word : (kind creator slot : ℕ) (f : Field) → kind_of (number f) ≡ kind
       → IsSlot w kind creator slot → IsRecordWord w creator slot (number f) 0

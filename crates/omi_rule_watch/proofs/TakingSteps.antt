@@ -15,6 +15,7 @@ use Rattle.omi_layout.specs.Memory.{Memory, word_address}
 use Rattle.omi_layout.specs.Named.{number}
 use Rattle.omi_layout.specs.Place.{IsSlot}
 use Rattle.omi_layout.proofs.Numbers.{numbered_field}
+use Rattle.omi_layout.proofs.SlotWords.{slot_within}
 use Rattle.omi_layout.proofs.Stored.{address_placed}
 use Rattle.omi_numbers.specs.declared.limits.TheConstants.{OWN_SLOTS}
 use Rattle.omi_numbers.specs.declared.variables.TheConstants.{DEFAULT_DEVICE_VAR, DYN_VAR, MAX_ACTIVE_LEVELS_VAR, NTHREADS_VAR, RUN_SCHED_VAR}
@@ -194,7 +195,7 @@ module _ (p : Program) (w : List ℕ) (m : Memory) (events : List (ℕ × Event)
       given.task
   team_finds (team.FillTask r member t word) at given =
       at_task_plan t.0 (task_plan w (new_member p a r member) word) (placed_at (counter.Team (team.FillTask r member t word)) at).1
-      (task_planned w (new_member p a r member) word (fits_at (counter.Team (team.FillTask r member t word)) at).1)
+      (task_planned w (new_member p a r member) word before.suits.groups (fits_at (counter.Team (team.FillTask r member t word)) at).1)
   team_finds (team.StoreMember r member t) at given =
       let got = fits_at (counter.Team (team.StoreMember r member t)) at in
       let few = got.0.0.2 in
@@ -254,8 +255,8 @@ module _ (p : Program) (w : List ℕ) (m : Memory) (events : List (ℕ × Event)
       (on_record _ tasks t.0.creator t.0.slot TaskLife refl (placed_at (counter.Task (task.Take place t)) at) refl)
       given.task
   making_finds (task.Fill place t word) at given =
-      at_task_plan t.0 (task_plan w (new_task p a) word) (placed_at (counter.Task (task.Fill place t word)) at)
-      (task_planned w (new_task p a) word (fits_at (counter.Task (task.Fill place t word)) at).1)
+      at_task_plan t.0 (task_plan w (new_task p a) word) (placed_at (counter.Task (task.Fill place t word)) at).0
+      (task_planned w (new_task p a) word before.suits.groups (fits_at (counter.Task (task.Fill place t word)) at).1)
   making_finds (task.AddPending place t) at given =
       at_record _ regions a.context.region.0.creator a.context.region.0.slot RegionPending refl
       (making.context_placed p w m events s actors i before (task.AddPending place t) at).region refl refl refl
@@ -271,7 +272,7 @@ module _ (p : Program) (w : List ℕ) (m : Memory) (events : List (ℕ × Event)
         there = record {
           field = numbered_field TaskSlots;
           record_slot = (making.context_placed p w m events s actors i before (task.Defer place t) at).row;
-          within = (let few = (fits_at (counter.Task (task.Defer place t)) at).0.1 in omega (arith, few));
+          within = slot_within w place (fits_at (counter.Task (task.Defer place t)) at).0.1;
         };
         address = refl;
       }) refl refl
@@ -285,7 +286,7 @@ module _ (p : Program) (w : List ℕ) (m : Memory) (events : List (ℕ × Event)
   look_finds (look.Take v n row code) at =
       at_word _ (record { creator = row.creator; slot = row.slot; field = TaskSlots; place = n % OWN_SLOTS })
       (record {
-        there = record { field = numbered_field TaskSlots; record_slot = placed_at (counter.Look (look.Take v n row code)) at; within = omega arith };
+        there = record { field = numbered_field TaskSlots; record_slot = placed_at (counter.Look (look.Take v n row code)) at; within = slot_within w (n % OWN_SLOTS) (omega arith) };
         address = refl;
       }) refl refl
   look_finds (look.LoadFunction v n code t) at = loads _

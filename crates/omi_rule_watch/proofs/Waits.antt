@@ -18,6 +18,7 @@ use Rattle.omi_layout.specs.Memory.{IsRecordWord, Memory}
 use Rattle.omi_layout.specs.Named.{number}
 use Rattle.omi_layout.specs.Table.{thread_count}
 use Rattle.omi_layout.proofs.Numbers.{numbered_field}
+use Rattle.omi_layout.proofs.SlotWords.{slot_within}
 use Rattle.omi_pc.specs.declared.actor.Actor.{Actor}
 use Rattle.omi_pc.specs.declared.counter.Counter.{Counter}
 use Rattle.omi_pc.specs.declared.counter.Counter.TheVariants as counter
@@ -47,7 +48,7 @@ use Rattle.omi_rule.specs.Steps.{IsOn, RecordWord, found_in}
 use Rattle.omi_rule.proofs.Assembly.{Before}
 use Rattle.omi_rule.proofs.OwnTask.{own_list}
 use Rattle.omi_rule.proofs.barrier.AtCounter.{IsOfMember, ahead_is, body, context_placed, fits_counter, here, is_context, placed_counter, row_is, sees, stands}
-use Rattle.omi_rule.proofs.look.Tests.{coded_there}
+use Rattle.omi_task.proofs.CodedRecords.{coded_there}
 use Rattle.omi_rule_watch.specs.Given.{Has, HasAll, IsLookGiven, IsSearchGiven}
 use Rattle.omi_rule_watch.specs.Watch.{SlotLook, Watch, children_start, current_region, is_generating_of, is_gone, is_no_child, is_slot, looked_at, current_member_task, current_team_size}
 use Rattle.omi_rule_watch.proofs.Parts.{IsCalm, KeepsParts, PartsKeep, calm_at, event_parts, event_rests, look_loads, look_passes, look_stays, quiet_parts, quiet_rests, waits_parts}
@@ -256,7 +257,7 @@ module _ (p : Program) (w : List ℕ) (m : Memory) (events : List (ℕ × Event)
         there = record {
           field = numbered_field TaskSlots;
           record_slot = placed_counter p w m events s actors i before (counter.Look (look.LoadSlot v n row)) at tt;
-          within = omega arith;
+          within = slot_within w (n % OWN_SLOTS) (omega arith);
         };
         address = refl;
       },
@@ -389,7 +390,7 @@ module _ (p : Program) (w : List ℕ) (m : Memory) (events : List (ℕ × Event)
         there = record {
           field = numbered_field TaskSlots;
           record_slot = placed_counter p w m events s actors i before (counter.Look (look.Take v n row code)) at tt;
-          within = omega arith;
+          within = slot_within w (n % OWN_SLOTS) (omega arith);
         };
         address = refl;
       },

@@ -1,10 +1,11 @@
 -- When the registers of an actor name records of a layout. It speaks of no state.
-use Rattle.std.specs.Prelude.{ℕ, ◌<◌, List, [], ◌∷◌, length, Option, Some, None}
+use Rattle.std.specs.Prelude.{◌≡◌, ℕ, ◌<◌, List, [], ◌∷◌, length, Option, Some, None}
 use Rattle.omi_model.specs.declared.id.Rid.{Rid}
 use Rattle.omi_model.specs.declared.id.Tid.{Tid}
+use Rattle.omi_layout.specs.declared.limits.TheConstants.{GROUP_VERSION}
 use Rattle.omi_layout.specs.Field.{regions, tasks}
 use Rattle.omi_layout.specs.Place.{IsSlot}
-use Rattle.omi_layout.specs.Table.{thread_count, per_thread}
+use Rattle.omi_layout.specs.Table.{thread_count, per_thread, version}
 use Rattle.omi_pc.specs.declared.actor.Actor.{Actor}
 use Rattle.omi_pc.specs.declared.context.Context.{Context}
 use Rattle.omi_pc.specs.declared.counter.Counter.{Counter}
@@ -35,6 +36,10 @@ HasRegion w n = IsSlot w regions n.0.creator n.0.slot
 
 abbrev pub HasTask : List ℕ → Tid → Type 0
 HasTask w k = IsSlot w tasks k.0.creator k.0.slot
+
+-- the record of a task has words for groups, behind its slots
+abbrev pub HasGroupWords : List ℕ → Type 0
+HasGroupWords w = version w ≡ GROUP_VERSION
 
 -- a task or none
 abbrev pub HasOptionalTask : List ℕ → Option Tid → Type 0
@@ -105,7 +110,7 @@ IsPlacedTeam w a (team.FillRegion r word) = HasRegion w r
 IsPlacedTeam w a (team.LoadTaskLife r member slot) = HasRegion w r × Searches w tasks slot
 IsPlacedTeam w a (team.TakeTask r member t) = HasRegion w r × HasTask w t
 IsPlacedTeam w a (team.FillTask r member t word) =
-    HasRegion w r × HasTask w t × AreThreads w a.gathered.team
+    HasRegion w r × HasTask w t × AreThreads w a.gathered.team × HasGroupWords w
 IsPlacedTeam w a (team.StoreMember r member t) = HasRegion w r × HasTask w t
 IsPlacedTeam w a (team.Fork r) = HasRegion w r × HaveTasks w 1 a.gathered.team
 IsPlacedTeam w a (team.Assign member) =
@@ -127,7 +132,7 @@ IsPlacedTask w (task.LoadSlot place) = Unit {0}
 IsPlacedTask w (task.LoadVariable place word) = Unit {0}
 IsPlacedTask w (task.LoadLife place slot) = Searches w tasks slot
 IsPlacedTask w (task.Take place t) = HasTask w t
-IsPlacedTask w (task.Fill place t word) = HasTask w t
+IsPlacedTask w (task.Fill place t word) = HasTask w t × HasGroupWords w
 IsPlacedTask w (task.AddPending place t) = HasTask w t
 IsPlacedTask w (task.AddChildren place t) = HasTask w t
 IsPlacedTask w (task.AddReferences place t) = HasTask w t

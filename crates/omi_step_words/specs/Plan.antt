@@ -57,7 +57,7 @@ region_plan w n word = slice_index_or (region_words w n) word (zero_in RegionLef
 
 -- ---- tasks
 
--- the words of a task's record, but for its life word, in the order of their stores
+-- the words of a task's record, but for its life word, in the order of their stores: behind the slots stand the words for groups
 abbrev pub task_words : List ℕ → NewTask → List Planned
 task_words w t =
     let variable = slice_index t.variables in
@@ -86,10 +86,16 @@ task_words w t =
     ∷ zero_in TaskSlots 1
     ∷ zero_in TaskSlots 2
     ∷ zero_in TaskSlots 3
+    ∷ zero_in TaskSlots 4
+    ∷ zero_in TaskSlots 5
+    ∷ zero_in TaskSlots 6
+    ∷ zero_in TaskSlots 7
+    ∷ zero_in TaskSlots 8
+    ∷ zero_in TaskSlots 9
     ∷ []
 
 abbrev pub task_plan : List ℕ → NewTask → ℕ → Planned
-task_plan w t word = slice_index_or (task_words w t) word (zero_in TaskSlots 3)
+task_plan w t word = slice_index_or (task_words w t) word (zero_in TaskSlots 9)
 
 -- what these words tell of the task, where the words of its data environment are those of these variables
 abbrev pub planned_task : NewTask → Variables → TaskWords

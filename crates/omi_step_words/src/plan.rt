@@ -6,7 +6,7 @@ ghost use Rattle.omi_layout.specs.Named.{number};
 ghost use Rattle.omi_layout.specs.Table.{thread_count, width};
 ghost use Rattle.omi_pc.specs.declared.limits.TheConstants.{VARIABLE_WORDS, REGION_WORDS, TASK_WORDS};
 ghost use Rattle.omi_rep.specs.Records.{task_word};
-ghost use Rattle.omi_step_words.specs.Placed.{HasOptionalTask, HasRegion, HasTask};
+ghost use Rattle.omi_step_words.specs.Placed.{HasGroupWords, HasOptionalTask, HasRegion, HasTask};
 ghost use Rattle.omi_step_words.specs.Plan.{IsPlannedIn, filled, inherited_words, region_plan, task_plan, variable_at};
 
 use omi_layout::{Field, Layout};
@@ -100,6 +100,9 @@ pub fn region_plan(l: &Layout, n: &NewRegion, word: u8) -> Planned
     }
 }
 
+/// The number at which the first slot of a task is stored. Behind it are its other slots and its words for groups.
+const FIRST_SLOT: u8 = 21;
+
 /// The word of a task's record that is stored at this number.
 pub fn task_plan(l: &Layout, t: &NewTask, word: u8) -> Planned
     requires word { word < TASK_WORDS }
@@ -107,9 +110,13 @@ pub fn task_plan(l: &Layout, t: &NewTask, word: u8) -> Planned
     requires thread { t.now.thread < thread_count l.now.table }
     requires generating { HasTask l.now.table t.now.generating }
     requires scheduling { HasOptionalTask l.now.table t.now.scheduling }
+    requires groups { HasGroupWords l.now.table }
     ensures planned { result ≡ task_plan l.now.table t.now word }
     ensures within { IsPlannedIn l.now.table tasks result }
 {
+    if word >= FIRST_SLOT {
+        return filled(Field::TaskSlots, word - FIRST_SLOT, 0);
+    }
     let v = &t.variables;
     match word {
         0 => filled(Field::TaskImplicit, 0, u64::from(t.implicit)),
@@ -140,11 +147,7 @@ pub fn task_plan(l: &Layout, t: &NewTask, word: u8) -> Planned
         17 => filled(Field::TaskNthreads, 0, v[4]),
         18 => filled(Field::TaskNthreads, 1, v[5]),
         19 => filled(Field::TaskNthreads, 2, v[6]),
-        20 => filled(Field::TaskNthreads, 3, v[7]),
-        21 => filled(Field::TaskSlots, 0, 0),
-        22 => filled(Field::TaskSlots, 1, 0),
-        23 => filled(Field::TaskSlots, 2, 0),
-        _ => filled(Field::TaskSlots, 3, 0),
+        _ => filled(Field::TaskNthreads, 3, v[7]),
     }
 }
 

@@ -1,2 +1,3 @@
 pub mod CodesBack
+pub mod CodedRecords
 pub mod StartedBodies

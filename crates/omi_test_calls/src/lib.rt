@@ -2,5 +2,7 @@
 #![tactic(auto)]
 
 mod calls;
+mod older;
 
 pub use calls::{CHANGED, Done, EMPTY, call, call_over, core_of, run, with_word, words};
+pub use older::opening_core_v1;

@@ -1,9 +1,11 @@
-//! The core of an empty run with one word changed, and what `show` says of it.
+//! The core of an empty run with one word changed, and what `show` says of it, in either version of the layout.
 
 use crate::calls::{BEFORE, NONE, call};
 use omi_outside::Status;
-use omi_test_calls::{core_of, with_word};
+use omi_test_calls::{core_of, opening_core_v1, with_word};
 use omi_test_rows::AN_EMPTY_RUN;
+use std::alloc::{AllocError, Global};
+use std::process::Abort;
 use std::test::Fail;
 
 /// The report of a core whose one context is the native id of no thread.
@@ -34,17 +36,26 @@ const WORDS: [(usize, u64, Status, &str); 11] = [
     (321, 5, Status::Damaged, "damaged 0x109b0 task.nthn\n"),
 ];
 
-#[test]
-fn one_changed_word(rt: HostRuntime) -> Result<(), Fail> {
-    let alloc = rt.alloc();
-    let core = core_of(alloc, "0", AN_EMPTY_RUN)?;
-    assert_eq!(rt; core.len(), 55_768);
+/// Each change of a word of this core is told as the table has it.
+fn expect_changes(rt: &impl Abort, alloc: Global, core: &[u8]) -> Result<(), AllocError> {
     for (number, word, status, text) in &WORDS {
-        let changed = with_word(alloc, &core, *number, *word)?;
+        let changed = with_word(alloc, core, *number, *word)?;
         let done = call(alloc, &["show", "c"], "", &changed, NONE)?;
         assert_eq!(rt; done.status, *status, "word {number}");
         assert_eq!(rt; done.out.bytes(), text.as_bytes(), "word {number}");
         assert_eq!(rt; done.dest.bytes("c"), Some(BEFORE), "word {number}");
     }
+    Ok(())
+}
+
+#[test]
+fn one_changed_word(rt: HostRuntime) -> Result<(), Fail> {
+    let alloc = rt.alloc();
+    let first = opening_core_v1(alloc, AN_EMPTY_RUN)?;
+    assert_eq!(rt; first.len(), 55_768);
+    expect_changes(&rt, alloc, &first)?;
+    let second = core_of(alloc, "0", AN_EMPTY_RUN)?;
+    assert_eq!(rt; second.len(), 68_056);
+    expect_changes(&rt, alloc, &second)?;
     Ok(())
 }

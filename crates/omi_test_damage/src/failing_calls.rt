@@ -19,13 +19,13 @@ fn expect_fault(rt: &impl Abort, done: &Done, put: &[u8], left: &[u8]) {
     assert_eq!(rt; done.dest.bytes("other"), Some(OTHER));
 }
 
-/// The core has fourteen pieces. Where the j-th can't be added, those before it stay.
+/// The core has seventeen pieces. Where the j-th can't be added, those before it stay.
 #[test]
 fn each_append_of_a_core(rt: HostRuntime) -> Result<(), Fail> {
     let alloc = rt.alloc();
     let core = core_of(alloc, "0", AN_EMPTY_RUN)?;
     let line = ["stop", "0", "s", "c"];
-    for number in 1..15usize {
+    for number in 1..18usize {
         let writes = [(Call::Append, number as u64)];
         let failing = Failing {
             writes: &writes,
@@ -37,7 +37,7 @@ fn each_append_of_a_core(rt: HostRuntime) -> Result<(), Fail> {
         expect_fault(&rt, &done, b"", left);
     }
     let failing = Failing {
-        writes: &[(Call::Append, 15)],
+        writes: &[(Call::Append, 18)],
         ..NONE
     };
     let done = call(alloc, &line, AN_EMPTY_RUN, b"", failing)?;

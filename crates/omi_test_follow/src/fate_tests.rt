@@ -69,59 +69,59 @@ parallel f num 2
 end
 ";
 
-/// A script, the steps of two stops of its threads in turn, and what is put. A task that starts at once is given back at step 47, and its record is taken
-/// again behind step 52. The task with a child starts at step 56, finishes at the 102nd and is given back at the 130th, its child at the 125th.
-/// The team of two is forked at step 173, its second member begins at the 192nd, and the records of both are given back at the 235th and the
-/// 241st; the second team is forked at step 421.
+/// A script, the steps of two stops of its threads in turn, and what is put. A task that starts at once is given back at step 53, and its record is taken
+/// again behind step 58. The task with a child starts at step 62, finishes at the 114th and is given back at the 142nd, its child at the 137th.
+/// The team of two is forked at step 197, its second member begins at the 216th, and the records of both are given back at the 259th and the
+/// 265th; the second team is forked at step 469.
 const STOPS: [(&str, &str, &str, &str); 15] = [
-    (TWO_TASKS, "41", "46", BOTH_CURRENT),
-    (TWO_TASKS, "41", "47", USED_AGAIN),
-    (TWO_TASKS, "0", "114", "task k0.0.0 current\n"),
-    (AN_ENDED_ANCESTOR, "56", "129", BOTH_CURRENT),
-    (AN_ENDED_ANCESTOR, "56", "130", USED_AGAIN),
+    (TWO_TASKS, "47", "52", BOTH_CURRENT),
+    (TWO_TASKS, "47", "53", USED_AGAIN),
+    (TWO_TASKS, "0", "126", "task k0.0.0 current\n"),
+    (AN_ENDED_ANCESTOR, "62", "141", BOTH_CURRENT),
+    (AN_ENDED_ANCESTOR, "62", "142", USED_AGAIN),
     (
         AN_ENDED_ANCESTOR,
-        "118",
-        "124",
+        "130",
+        "136",
         "task k0.2.0 current\ntask k0.0.0 current\n",
     ),
     (
         AN_ENDED_ANCESTOR,
-        "118",
-        "125",
+        "130",
+        "137",
         "task k0.2.0 stale\ntask k0.0.0 current\n",
     ),
-    (A_TEAM_OF_TWO, "172", "271", "task k0.0.0 current\n"),
-    (A_TEAM_OF_TWO, "173", "234", BOTH_CURRENT),
-    (A_TEAM_OF_TWO, "173", "235", USED_AGAIN),
+    (A_TEAM_OF_TWO, "196", "295", "task k0.0.0 current\n"),
+    (A_TEAM_OF_TWO, "197", "258", BOTH_CURRENT),
+    (A_TEAM_OF_TWO, "197", "259", USED_AGAIN),
     (
         A_TEAM_OF_TWO,
-        "192",
-        "234",
+        "216",
+        "258",
         "task k0.1.0 current\ntask k0.0.0 current\ntask k0.2.0 current\n",
     ),
     (
         A_TEAM_OF_TWO,
-        "192",
-        "240",
+        "216",
+        "264",
         "task k0.1.0 stale\ntask k0.0.0 current\ntask k0.2.0 current\n",
     ),
     (
         A_TEAM_OF_TWO,
-        "192",
-        "241",
+        "216",
+        "265",
         "task k0.1.0 stale\ntask k0.0.0 current\ntask k0.2.0 stale\n",
     ),
     (
         TWO_TEAMS,
-        "192",
-        "421",
+        "216",
+        "469",
         "task k0.1.0 stale\ntask k0.0.0 current\ntask k0.2.0 stale\n",
     ),
     (
         TWO_TEAMS,
-        "440",
-        "482",
+        "488",
+        "530",
         "task k0.1.1 current\ntask k0.0.0 current\ntask k0.2.1 current\n",
     ),
 ];
@@ -147,8 +147,8 @@ fn every_family(rt: HostRuntime) -> Result<(), Fail> {
     let alloc = rt.alloc();
     for family in &FAMILIES {
         let options = ["--layout", *family];
-        let first = core_with(alloc, "192", TWO_TEAMS, &options)?;
-        let later = core_with(alloc, "240", TWO_TEAMS, &options)?;
+        let first = core_with(alloc, "216", TWO_TEAMS, &options)?;
+        let later = core_with(alloc, "264", TWO_TEAMS, &options)?;
         let text = "task k0.1.0 stale\ntask k0.0.0 current\ntask k0.2.0 current\n";
         let cores = Cores::of(&first, &later);
         expect(&rt, alloc, cores, Status::Success, text)?;
@@ -166,8 +166,8 @@ fn turned(alloc: Global, core: &[u8]) -> Result<Vec<u8>, AllocError> {
 #[test]
 fn either_order_of_bytes(rt: HostRuntime) -> Result<(), Fail> {
     let alloc = rt.alloc();
-    let first = core_of(alloc, "41", TWO_TASKS)?;
-    let later = core_of(alloc, "92", TWO_TASKS)?;
+    let first = core_of(alloc, "47", TWO_TASKS)?;
+    let later = core_of(alloc, "104", TWO_TASKS)?;
     let (first_turned, later_turned) = (turned(alloc, &first)?, turned(alloc, &later)?);
     for cores in [
         Cores::of(&first, &later_turned),
@@ -223,15 +223,15 @@ end
 
 /// The byte of a core of 64 threads at which the life word of k0.3.0 begins: behind a header with 64 contexts, the head of the segment, the 77,296 words
 /// in front of the records of tasks, and three of these records.
-const LIFE: usize = 16 + 64 * 8 + 16 + 8 * (77_296 + 3 * 26);
+const LIFE: usize = 16 + 64 * 8 + 16 + 8 * (77_296 + 3 * 32);
 
-/// The last of 64 members begins at step 258,112. In the second core one of their tasks is given back.
+/// The last of 64 members begins at step 282,688. In the second core one of their tasks is given back.
 #[test]
 fn a_team_of_sixty_four(rt: HostRuntime) -> Result<(), Fail> {
     let alloc = rt.alloc();
-    let first = core_of(alloc, "258112", SIXTY_FOUR)?;
+    let first = core_of(alloc, "282688", SIXTY_FOUR)?;
     let mut later = first.to_vec(alloc)?;
-    assert_eq!(rt; later.len(), 4_026_784);
+    assert_eq!(rt; later.len(), 4_813_216);
     assert_eq!(rt; later.get(LIFE), Some(&1));
     if let Some(byte) = later.get_mut(LIFE) {
         *byte = 2;

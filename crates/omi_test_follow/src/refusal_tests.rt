@@ -3,7 +3,7 @@
 use crate::calls::{Cores, call, core_with, expect, expect_done};
 use crate::fate_tests::{BOTH_CURRENT, TWO_TASKS, USED_AGAIN};
 use omi_outside::{Call, Status};
-use omi_test_calls::{core_of, with_word};
+use omi_test_calls::{core_of, opening_core_v1, with_word};
 use omi_test_rows::{A_TEAM_OF_TWO, AN_EMPTY_RUN};
 use std::alloc::{AllocError, Global};
 use std::process::Abort;
@@ -41,8 +41,8 @@ const TABLES: [(usize, u64, Status, &str); 4] = [
 #[test]
 fn later_files_that_are_refused(rt: HostRuntime) -> Result<(), Fail> {
     let alloc = rt.alloc();
-    let core = core_of(alloc, "41", TWO_TASKS)?;
-    assert_eq!(rt; core.len(), 55_768);
+    let core = core_of(alloc, "47", TWO_TASKS)?;
+    assert_eq!(rt; core.len(), 68_056);
     let none = Cores {
         first: Some(&core),
         later: None,
@@ -51,7 +51,7 @@ fn later_files_that_are_refused(rt: HostRuntime) -> Result<(), Fail> {
     for (bytes, text) in [
         (b"".as_slice(), "core 0 4 Short\n"),
         (b"oMPDCOR1", "core 0 1 BadMagic\n"),
-        (&core[..core.len() - 1], "core 55767 4 Short\n"),
+        (&core[..core.len() - 1], "core 68055 4 Short\n"),
     ] {
         expect(&rt, alloc, Cores::of(&core, bytes), Status::Core, text)?;
     }
@@ -62,14 +62,21 @@ fn later_files_that_are_refused(rt: HostRuntime) -> Result<(), Fail> {
     Ok(())
 }
 
-/// The same program in another family, and a program of more threads.
+/// The same program in another family and in the first version of the layout, and a program of more threads.
 #[test]
 fn other_layouts(rt: HostRuntime) -> Result<(), Fail> {
     let alloc = rt.alloc();
-    let core = core_of(alloc, "41", TWO_TASKS)?;
-    let turned = core_with(alloc, "41", TWO_TASKS, &["--layout", "7"])?;
-    let wider = core_of(alloc, "41", A_TEAM_OF_TWO)?;
-    for (first, later) in [(&core, &turned), (&turned, &core), (&core, &wider)] {
+    let core = core_of(alloc, "47", TWO_TASKS)?;
+    let turned = core_with(alloc, "47", TWO_TASKS, &["--layout", "7"])?;
+    let wider = core_of(alloc, "47", A_TEAM_OF_TWO)?;
+    let older = opening_core_v1(alloc, TWO_TASKS)?;
+    for (first, later) in [
+        (&core, &turned),
+        (&turned, &core),
+        (&core, &wider),
+        (&core, &older),
+        (&older, &core),
+    ] {
         let cores = Cores::of(first, later);
         expect(&rt, alloc, cores, Status::Incompatible, "incompatible\n")?;
     }
@@ -81,24 +88,24 @@ fn other_layouts(rt: HostRuntime) -> Result<(), Fail> {
 /// The numbers of the life word and of the function of the initial task and of the first one behind it.
 const INITIAL: (usize, usize) = (310, 317);
 
-const NEXT: (usize, usize) = (336, 343);
+const NEXT: (usize, usize) = (342, 349);
 
 /// A word of the second core that isn't mapped, and the refusal: of a current task the life word or the function.
 #[test]
 fn words_that_are_missing(rt: HostRuntime) -> Result<(), Fail> {
     let alloc = rt.alloc();
-    let first = core_of(alloc, "41", TWO_TASKS)?;
+    let first = core_of(alloc, "47", TWO_TASKS)?;
     for (number, text) in [
         (INITIAL.0, "damaged 0x109b0 task.life\n"),
         (INITIAL.1, "damaged 0x109b0 task.func\n"),
-        (NEXT.0, "damaged 0x10a80 task.life\n"),
-        (NEXT.1, "damaged 0x10a80 task.func\n"),
+        (NEXT.0, "damaged 0x10ab0 task.life\n"),
+        (NEXT.1, "damaged 0x10ab0 task.func\n"),
     ] {
         let later = without_word(alloc, &first, number)?;
         expect(&rt, alloc, Cores::of(&first, &later), Status::Damaged, text)?;
     }
     // Of a task that isn't current, no function is asked for.
-    let later = without_word(alloc, &core_of(alloc, "92", TWO_TASKS)?, NEXT.1)?;
+    let later = without_word(alloc, &core_of(alloc, "104", TWO_TASKS)?, NEXT.1)?;
     let cores = Cores::of(&first, &later);
     expect(&rt, alloc, cores, Status::Success, USED_AGAIN)?;
     Ok(())
@@ -108,7 +115,7 @@ fn words_that_are_missing(rt: HostRuntime) -> Result<(), Fail> {
 #[test]
 fn a_later_core_without_a_report(rt: HostRuntime) -> Result<(), Fail> {
     let alloc = rt.alloc();
-    let core = core_of(alloc, "41", TWO_TASKS)?;
+    let core = core_of(alloc, "47", TWO_TASKS)?;
     let later = with_word(alloc, &core, 114, 3)?;
     let cores = Cores::of(&core, &later);
     expect(&rt, alloc, cores, Status::Success, BOTH_CURRENT)?;
@@ -193,8 +200,8 @@ fn failing_reads(
 #[test]
 fn each_read_of_both_cores(rt: HostRuntime) -> Result<(), Fail> {
     let alloc = rt.alloc();
-    let first = core_of(alloc, "41", TWO_TASKS)?;
-    let later = core_of(alloc, "92", TWO_TASKS)?;
+    let first = core_of(alloc, "47", TWO_TASKS)?;
+    let later = core_of(alloc, "104", TWO_TASKS)?;
     let cores = Cores::of(&first, &later);
     assert_eq!(rt; failing_reads(&rt, alloc, cores, Call::Size)?, (1, 1));
     let (of_first, of_later) = failing_reads(&rt, alloc, cores, Call::ReadAt)?;

@@ -30,19 +30,19 @@ end
 ";
 
 /// The step of the first stop. Where the threads step in turn, the first team is forked by the step before it, and thread 0 has the next one.
-const FIRST: u64 = 174;
+const FIRST: u64 = 198;
 
-/// A later step, and whether the tasks of both members and the region are current there. The first member's task is given back at the 235th step, the second
-/// one's at the 241st and the region at the 243rd. The region's record is taken again for the second team, which is forked at the 421st step.
+/// A later step, and whether the tasks of both members and the region are current there. The first member's task is given back at the 259th step, the second
+/// one's at the 265th and the region at the 267th. The region's record is taken again for the second team, which is forked at the 469th step.
 const LATER: [(u64, [bool; 3]); 8] = [
-    (174, [true, true, true]),
-    (234, [true, true, true]),
-    (235, [false, true, true]),
-    (240, [false, true, true]),
-    (241, [false, false, true]),
-    (242, [false, false, true]),
-    (243, [false, false, false]),
-    (421, [false, false, false]),
+    (198, [true, true, true]),
+    (258, [true, true, true]),
+    (259, [false, true, true]),
+    (264, [false, true, true]),
+    (265, [false, false, true]),
+    (266, [false, false, true]),
+    (267, [false, false, false]),
+    (469, [false, false, false]),
 ];
 
 /// The number of team-size-var.

@@ -176,10 +176,10 @@ fn each_call_that_fails(rt: HostRuntime) -> Result<(), Fail> {
 }
 
 /// The byte addresses of the records of the second region and the second task. For two threads the records of regions begin at the word 124, those
-/// of tasks at the word 540, and they have 13 and 26 words.
+/// of tasks at the word 540, and they have 13 and 32 words.
 const REGION: u64 = 0x10000 + 8 * 137;
 
-const TASK: u64 = 0x10000 + 8 * 566;
+const TASK: u64 = 0x10000 + 8 * 572;
 
 /// The refusal of a walk over the words of a fork of which one is changed, at a field of the record at an address.
 fn refused<F: ToHost>(

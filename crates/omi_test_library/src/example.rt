@@ -220,7 +220,7 @@ fn two_stops_by<F: ToHost + Copy>(alloc: Global, to_host: F) -> Result<bool, Wro
     requires takes { TakesAll (F.takes to_host) }
     requires gives { GivesNumbers (F.gives to_host) 0 }
 {
-    let (first, second) = two_stops(alloc, NESTED, [752, 100])?;
+    let (first, second) = two_stops(alloc, NESTED, [848, 100])?;
     let calls = MemCalls::over(first, Vec::new(alloc));
     let mut s = open(alloc, Table::new(calls, 0, to_host))?;
     s.reserve(32)?;

@@ -19,7 +19,7 @@ fn images_have_their_sizes(rt: HostRuntime) -> Result<(), Fail> {
         Layout::family(0, 1).image_words(),
         Layout::family(7, 1).image_words(),
     );
-    assert_eq!(rt; words, (6966, 7514));
+    assert_eq!(rt; words, (8502, 9050));
     Ok(())
 }
 
@@ -90,7 +90,7 @@ fn records_are_found_again(rt: HostRuntime) -> Result<(), Fail> {
     assert_eq!(rt; layout.thread_of(0x10380), Some(0));
     assert_eq!(rt; layout.region_of(0x103b0 + 96), Some((0, 1)));
     let tasks = [
-        layout.task_of(0x109b0 + 208 * 255),
+        layout.task_of(0x109b0 + 256 * 255),
         layout.task_of(0x109b0 + 8),
     ];
     assert_eq!(rt; tasks, [Some((0, 255)), None]);
@@ -109,7 +109,7 @@ const PUBLISHED: [(u64, u64); 7] = [
     (0x10000, 8),
     (0x10028, 0x10148),
     (0x10148, 0x10150),
-    (0x10158, 1),
+    (0x10158, 2),
     (0x10160, 0x10318),
     (0x10310, 22),
     (0x10318, 0),
@@ -141,7 +141,7 @@ fn expect_tables(
 #[test]
 fn the_tables_are_published(rt: HostRuntime) -> Result<(), Fail> {
     let layout = Layout::family(0, 1);
-    let mut image = Image::zeroed(rt.alloc(), 6966)?;
+    let mut image = Image::zeroed(rt.alloc(), 8502)?;
     let fits = layout.fits(image.len());
     assert!(rt; fits);
     layout.publish(&mut image);
@@ -172,7 +172,7 @@ fn fields_have_their_names(rt: HostRuntime) -> Result<(), Fail> {
 /// The error of a published image with one word changed.
 fn unread(alloc: Global, at: u64, word: u64) -> Result<Option<LayoutError>, AllocError> {
     let layout = Layout::family(0, 1);
-    let mut image = Image::zeroed(alloc, 6966)?;
+    let mut image = Image::zeroed(alloc, 8502)?;
     if layout.fits(image.len()) {
         layout.publish(&mut image);
     }
@@ -191,8 +191,8 @@ const READ: [(u64, u64, Option<LayoutError>); 6] = [
     (0x10000, 7, Some(LayoutError::NoSymbol)),
     (
         0x10140,
-        0x1d8b0,
-        Some(LayoutError::Unmapped { addr: 0x1d9b0 }),
+        0x208b0,
+        Some(LayoutError::Unmapped { addr: 0x209b0 }),
     ),
     (
         0x10158,

@@ -110,7 +110,7 @@ fn long_script(alloc: Global) -> Result<String, AllocError> {
 fn run_over(alloc: Global, line: &[&str], log: &Log) -> Result<Status, AllocError> {
     let mut source = MemFiles::new(alloc, Vec::new(alloc));
     source.put("s", long_script(alloc)?.as_bytes())?;
-    source.put("c", &core_of(alloc, "173", A_TEAM_OF_TWO)?)?;
+    source.put("c", &core_of(alloc, "197", A_TEAM_OF_TWO)?)?;
     let mut files = Watched {
         files: source,
         object: Object::Source,
@@ -137,7 +137,7 @@ fn calls_of(rt: &impl Abort, alloc: Global, line: &[&str]) -> Result<Vec<Noted>,
 /// `run` reads the core back behind its last write, and so reads what it wrote where both objects are one disk.
 #[test]
 fn the_core_is_written_before_it_is_read_back(rt: HostRuntime) -> Result<(), Fail> {
-    let calls = calls_of(&rt, rt.alloc(), &["run", "173", "s", "c"])?;
+    let calls = calls_of(&rt, rt.alloc(), &["run", "197", "s", "c"])?;
     assert!(rt; are_before(&calls, Those::writing("c"), Those::reading("c")));
     Ok(())
 }
@@ -146,7 +146,7 @@ fn the_core_is_written_before_it_is_read_back(rt: HostRuntime) -> Result<(), Fai
 #[test]
 fn the_script_is_read_before_the_core_is_written(rt: HostRuntime) -> Result<(), Fail> {
     for (verb, core) in [("stop", "c"), ("run", "c"), ("stop", "s")] {
-        let calls = calls_of(&rt, rt.alloc(), &[verb, "173", "s", core])?;
+        let calls = calls_of(&rt, rt.alloc(), &[verb, "197", "s", core])?;
         let (reads, writes) = (Those::reading("s"), Those::writing(core));
         assert!(rt; are_before(&calls, reads, writes), "{verb} {core}");
     }
@@ -157,8 +157,8 @@ fn the_script_is_read_before_the_core_is_written(rt: HostRuntime) -> Result<(), 
 #[test]
 fn each_verb_sizes_what_it_reads(rt: HostRuntime) -> Result<(), Fail> {
     for line in [
-        ["stop", "173", "s", "c"].as_slice(),
-        ["run", "173", "s", "c"].as_slice(),
+        ["stop", "197", "s", "c"].as_slice(),
+        ["run", "197", "s", "c"].as_slice(),
         ["make", "10", "m"].as_slice(),
         ["show", "c"].as_slice(),
     ] {

@@ -45,7 +45,7 @@ fn expect_back(
 #[test]
 fn what_is_read_back(rt: HostRuntime) -> Result<(), Fail> {
     let alloc = rt.alloc();
-    let team = core_of(alloc, "173", A_TEAM_OF_TWO)?;
+    let team = core_of(alloc, "197", A_TEAM_OF_TWO)?;
     expect_back(&rt, alloc, Some(&team), Status::Success, &[NO_STEP, FORKED])?;
     let own = core_of(alloc, "0", EMPTY)?;
     let circular = with_word(alloc, &own, 316, 0x109b0)?;
@@ -115,15 +115,15 @@ const TO_THE_FORK: &str = "1 t0 enter
 4 t1 offer
 25 t0 want 2
 27 t0 ask 1 got
-173 t0 fork r0.1.0 size 2 team k0.1.0@0 k0.2.0@1
-end steps 173 events 7 by break
+197 t0 fork r0.1.0 size 2 team k0.1.0@0 k0.2.0@1
+end steps 197 events 7 by break
 ";
 
 /// A run up to the first event of a kind puts the events up to it, and the report of what is read back behind them. It leaves the core of its last step.
 #[test]
 fn a_run_up_to_a_break(rt: HostRuntime) -> Result<(), Fail> {
     let alloc = rt.alloc();
-    let fork = core_of(alloc, "173", A_TEAM_OF_TWO)?;
+    let fork = core_of(alloc, "197", A_TEAM_OF_TWO)?;
     let line = [
         "run",
         "100000",

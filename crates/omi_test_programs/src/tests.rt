@@ -8,7 +8,7 @@ use std::test::Fail;
 
 /// The word at a place of the one segment of a core with one context.
 fn word_at(core: &[u8], place: usize) -> Option<u64> {
-    if place > 6965 {
+    if place > 8501 {
         return None;
     }
     let at = 40 + 8 * place;
@@ -22,7 +22,7 @@ fn word_at(core: &[u8], place: usize) -> Option<u64> {
 
 /// The core of one thread has these words at these places.
 fn expect_words(rt: &impl Abort, core: &[u8], words: &[(usize, u64)]) {
-    assert_eq!(rt; core.len(), 55_768);
+    assert_eq!(rt; core.len(), 68_056);
     for (place, word) in words {
         assert_eq!(rt; word_at(core, *place), Some(*word), "word {place}");
     }
@@ -30,7 +30,7 @@ fn expect_words(rt: &impl Abort, core: &[u8], words: &[(usize, u64)]) {
 
 /// The first bytes of the core of one thread.
 const FRONT: &[u8] =
-    b"OMPDCOR1\x01\x00\x01\x00\x01\x00\x00\x00\xe8\x03\x00\x00\x00\x00\x00\x00\x00\x00\x01\x00\x00\x00\x00\x00\x36\x1b";
+    b"OMPDCOR1\x01\x00\x01\x00\x01\x00\x00\x00\xe8\x03\x00\x00\x00\x00\x00\x00\x00\x00\x01\x00\x00\x00\x00\x00\x36\x21";
 
 /// Words of the core of an empty run: symbols, entry point, layout table, runtime record, thread 0, r0.0.0, k0.0.0.
 const EMPTY_WORDS: [(usize, u64); 34] = [
@@ -39,7 +39,7 @@ const EMPTY_WORDS: [(usize, u64); 34] = [
     (40, 0x10158),
     (41, 0x10150),
     (42, 0),
-    (43, 1),
+    (43, 2),
     (44, 0x10318),
     (98, 22),
     (99, 201_811),
@@ -67,7 +67,7 @@ const EMPTY_WORDS: [(usize, u64); 34] = [
     (321, 1),
     (322, 1),
     (328, 1),
-    (6965, 0),
+    (8501, 0),
 ];
 
 #[test]
@@ -115,14 +115,14 @@ fn a_layout_by_its_option(rt: HostRuntime) -> Result<(), Fail> {
     let line = ["stop", "1000", "s", "c", "--layout", "7"];
     let done = run(rt.alloc(), &line, CHANGED)?;
     assert_eq!(rt; done.status, Status::Success);
-    assert_eq!(rt; done.dest.bytes("c").ok_or("no core")?.len(), 60_152);
+    assert_eq!(rt; done.dest.bytes("c").ok_or("no core")?.len(), 72_440);
     Ok(())
 }
 
 #[test]
 fn failing_appends_leave_a_prefix(rt: HostRuntime) -> Result<(), Fail> {
     let line = ["stop", "0", "s", "c"];
-    for append in 1..15u64 {
+    for append in 1..18u64 {
         let failing = [(Call::Append, append)];
         let done = call(rt.alloc(), &line, (EMPTY, None), &[], &failing, &[])?;
         assert_eq!(rt; done.status, Status::WriteFault);
@@ -208,6 +208,6 @@ fn a_failing_output(rt: HostRuntime) -> Result<(), Fail> {
     let line = ["stop", "0", "s", "c"];
     let done = call(rt.alloc(), &line, (EMPTY, None), &[], &[], &[1])?;
     assert_eq!(rt; done.status, Status::WriteFault);
-    assert_eq!(rt; done.dest.bytes("c").ok_or("no core")?.len(), 55_768);
+    assert_eq!(rt; done.dest.bytes("c").ok_or("no core")?.len(), 68_056);
     Ok(())
 }

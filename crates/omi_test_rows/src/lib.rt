@@ -6,7 +6,7 @@ pub const AN_EMPTY_RUN: &str = "func main
 end
 ";
 
-/// A team of two threads over a function that works. Where the threads step in turn, the 173rd step is its fork.
+/// A team of two threads over a function that works. Where the threads step in turn, the 197th step is its fork.
 pub const A_TEAM_OF_TWO: &str = "threads 2
 func f
 work

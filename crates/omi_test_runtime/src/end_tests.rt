@@ -141,8 +141,8 @@ fn an_empty_run(rt: HostRuntime) -> Result<(), Fail> {
     for k in 0..16u8 {
         assert!(rt; is_empty(rt.alloc(), k)?);
     }
-    assert_eq!(rt; words_in(rt.alloc(), 0)?, 6966);
-    assert_eq!(rt; words_in(rt.alloc(), 7)?, 7514);
+    assert_eq!(rt; words_in(rt.alloc(), 0)?, 8502);
+    assert_eq!(rt; words_in(rt.alloc(), 7)?, 9050);
     Ok(())
 }
 

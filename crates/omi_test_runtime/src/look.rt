@@ -5,7 +5,7 @@ ghost use Rattle.omi_layout.specs.Field.{kind_of};
 ghost use Rattle.omi_layout.specs.Named.{number};
 ghost use Rattle.omi_layout.specs.Table;
 
-use omi_layout::{Field, Kind, Layout};
+use omi_layout::{Field, GROUP_VERSION, Kind, Layout};
 use omi_model::{Id, Rid, Tid};
 use omi_word::Image;
 
@@ -60,8 +60,10 @@ fn width(l: &Layout, field: Field) -> u8
         8
     } else if f == Field::RegionTeam as u8 {
         l.threads()
-    } else if f == Field::TaskNthreads as u8 || f == Field::TaskSlots as u8 {
+    } else if f == Field::TaskNthreads as u8 {
         4
+    } else if f == Field::TaskSlots as u8 {
+        if l.version() == GROUP_VERSION { 10 } else { 4 }
     } else {
         1
     }

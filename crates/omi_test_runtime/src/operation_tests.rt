@@ -1,5 +1,5 @@
 //! The operations of worked runs, step by step, in the layout of family 0. For two threads its arenas begin at the words 99, 112, 124
-//! and 540, and their records have 13, 6, 13 and 26 words; for one thread at the words 99, 112, 118 and 310, with 13, 6, 12 and 26 words.
+//! and 540, and their records have 13, 6, 13 and 32 words; for one thread at the words 99, 112, 118 and 310, with 13, 6, 12 and 32 words.
 
 use crate::moves::follow;
 use crate::scripts::{A_TEAM_AND_A_TASK, EACH_PLAIN_STATEMENT, TWO_TASKS};
@@ -115,65 +115,77 @@ store @145 0 found 0
 store @146 0 found 0
 store @147 0 found 0
 load @540 found 1
-load @566 found 0
-store @566 1 found 0
-store @567 1 found 0
-store @568 @137 found 0
-store @569 @112 found 0
-store @570 0 found 0
-store @571 @540 found 0
-store @572 @540 found 0
-store @573 0x400000 found 0
-store @574 0x7f00000fff80 found 0
-store @575 0 found 0
+load @572 found 0
+store @572 1 found 0
+store @573 1 found 0
+store @574 @137 found 0
+store @575 @112 found 0
 store @576 0 found 0
-store @577 1 found 0
-store @578 1 found 0
-store @579 0 found 0
-store @580 0 found 0
+store @577 @540 found 0
+store @578 @540 found 0
+store @579 0x400000 found 0
+store @580 0x7f00000fff80 found 0
 store @581 0 found 0
 store @582 0 found 0
-store @583 0 found 0
-store @584 2 found 0
+store @583 1 found 0
+store @584 1 found 0
 store @585 0 found 0
 store @586 0 found 0
 store @587 0 found 0
 store @588 0 found 0
 store @589 0 found 0
-store @590 0 found 0
+store @590 2 found 0
 store @591 0 found 0
-store @148 @566 found 0
-load @540 found 1
-load @566 found 1
-load @592 found 0
-store @592 1 found 0
-store @593 1 found 0
-store @594 @137 found 0
-store @595 @118 found 0
-store @596 1 found 0
-store @597 @540 found 0
+store @592 0 found 0
+store @593 0 found 0
+store @594 0 found 0
+store @595 0 found 0
+store @596 0 found 0
+store @597 0 found 0
 store @598 0 found 0
-store @599 0x400000 found 0
-store @600 0x7f00001fffc0 found 0
+store @599 0 found 0
+store @600 0 found 0
 store @601 0 found 0
 store @602 0 found 0
-store @603 1 found 0
+store @603 0 found 0
+store @148 @572 found 0
+load @540 found 1
+load @572 found 1
+load @604 found 0
 store @604 1 found 0
-store @605 0 found 0
-store @606 0 found 0
-store @607 0 found 0
-store @608 0 found 0
-store @609 0 found 0
-store @610 2 found 0
-store @611 0 found 0
-store @612 0 found 0
+store @605 1 found 0
+store @606 @137 found 0
+store @607 @118 found 0
+store @608 1 found 0
+store @609 @540 found 0
+store @610 0 found 0
+store @611 0x400000 found 0
+store @612 0x7f00001fffc0 found 0
 store @613 0 found 0
 store @614 0 found 0
-store @615 0 found 0
-store @616 0 found 0
+store @615 1 found 0
+store @616 1 found 0
 store @617 0 found 0
-store @149 @592 found 0
-store @114 @566 found @540";
+store @618 0 found 0
+store @619 0 found 0
+store @620 0 found 0
+store @621 0 found 0
+store @622 2 found 0
+store @623 0 found 0
+store @624 0 found 0
+store @625 0 found 0
+store @626 0 found 0
+store @627 0 found 0
+store @628 0 found 0
+store @629 0 found 0
+store @630 0 found 0
+store @631 0 found 0
+store @632 0 found 0
+store @633 0 found 0
+store @634 0 found 0
+store @635 0 found 0
+store @149 @604 found 0
+store @114 @572 found @540";
 
 #[test]
 fn a_team_of_two_is_forked(rt: HostRuntime) -> Result<(), Fail> {
@@ -239,33 +251,39 @@ load @559 found 0
 load @560 found 0
 load @561 found 0
 load @540 found 1
-load @566 found 0
-store @566 1 found 0
-store @567 0 found 0
-store @568 @124 found 0
-store @569 @112 found 0
-store @570 0 found 0
-store @571 @540 found 0
-store @572 @540 found 0
-store @573 0x400000 found 0
-store @574 0x7f00000fff80 found 0
-store @575 0 found 0
+load @572 found 0
+store @572 1 found 0
+store @573 0 found 0
+store @574 @124 found 0
+store @575 @112 found 0
 store @576 0 found 0
-store @577 1 found 0
-store @578 1 found 0
-store @579 0 found 0
-store @580 1 found 0
+store @577 @540 found 0
+store @578 @540 found 0
+store @579 0x400000 found 0
+store @580 0x7f00000fff80 found 0
 store @581 0 found 0
 store @582 0 found 0
 store @583 1 found 0
-store @584 2 found 0
+store @584 1 found 0
 store @585 0 found 0
-store @586 0 found 0
+store @586 1 found 0
 store @587 0 found 0
 store @588 0 found 0
-store @589 0 found 0
-store @590 0 found 0
+store @589 1 found 0
+store @590 2 found 0
 store @591 0 found 0
+store @592 0 found 0
+store @593 0 found 0
+store @594 0 found 0
+store @595 0 found 0
+store @596 0 found 0
+store @597 0 found 0
+store @598 0 found 0
+store @599 0 found 0
+store @600 0 found 0
+store @601 0 found 0
+store @602 0 found 0
+store @603 0 found 0
 add @133 1 found 0
 add @556 1 found 0
 add @557 1 found 0
@@ -283,34 +301,40 @@ load @559 found 0
 load @560 found 0
 load @561 found 0
 load @540 found 1
-load @566 found 1
-load @592 found 0
-store @592 1 found 0
-store @593 0 found 0
-store @594 @124 found 0
-store @595 @112 found 0
-store @596 0 found 0
-store @597 @540 found 0
-store @598 @540 found 0
-store @599 0x400000 found 0
-store @600 0x7f00000fff80 found 0
-store @601 0 found 0
-store @602 0 found 0
-store @603 1 found 0
+load @572 found 1
+load @604 found 0
 store @604 1 found 0
 store @605 0 found 0
-store @606 0 found 0
-store @607 0 found 0
+store @606 @124 found 0
+store @607 @112 found 0
 store @608 0 found 0
-store @609 1 found 0
-store @610 2 found 0
-store @611 0 found 0
-store @612 0 found 0
+store @609 @540 found 0
+store @610 @540 found 0
+store @611 0x400000 found 0
+store @612 0x7f00000fff80 found 0
 store @613 0 found 0
 store @614 0 found 0
-store @615 0 found 0
-store @616 0 found 0
+store @615 1 found 0
+store @616 1 found 0
 store @617 0 found 0
+store @618 0 found 0
+store @619 0 found 0
+store @620 0 found 0
+store @621 1 found 0
+store @622 2 found 0
+store @623 0 found 0
+store @624 0 found 0
+store @625 0 found 0
+store @626 0 found 0
+store @627 0 found 0
+store @628 0 found 0
+store @629 0 found 0
+store @630 0 found 0
+store @631 0 found 0
+store @632 0 found 0
+store @633 0 found 0
+store @634 0 found 0
+store @635 0 found 0
 add @133 1 found 1
 add @556 1 found 1
 add @557 1 found 1
@@ -320,19 +344,19 @@ add @132 1 found 0
 load @135 found @540
 load @562 found 0x1000001
 exchange @562 0x1000001 to 0 found 0x1000001
-load @573 found 0x400000
-load @580 found 1
-store @569 @112 found @112
-store @570 0 found 0
-store @572 @540 found @540
-store @574 0x7f00000fff80 found 0x7f00000fff80
-store @575 0 found 0
-store @114 @566 found @540
-store @114 @540 found @566
-load @571 found @540
+load @579 found 0x400000
+load @586 found 1
+store @575 @112 found @112
+store @576 0 found 0
+store @578 @540 found @540
+store @580 0x7f00000fff80 found 0x7f00000fff80
+store @581 0 found 0
+store @114 @572 found @540
+store @114 @540 found @572
+load @577 found @540
 subtract @556 1 found 2
-subtract @583 1 found 1
-store @566 2 found 1
+subtract @589 1 found 1
+store @572 2 found 1
 load @541 found 1
 subtract @557 1 found 2
 subtract @133 1 found 2
@@ -340,14 +364,14 @@ load @135 found @540
 load @562 found 0
 load @563 found 0x1000002
 exchange @563 0x1000002 to 0 found 0x1000002
-load @599 found 0x400000
-load @606 found 0
-store @595 @112 found @112
-store @596 0 found 0
-store @598 @540 found @540
-store @600 0x7f00000fff80 found 0x7f00000fff80
-store @601 0 found 0
-store @114 @592 found @540";
+load @611 found 0x400000
+load @618 found 0
+store @607 @112 found @112
+store @608 0 found 0
+store @610 @540 found @540
+store @612 0x7f00000fff80 found 0x7f00000fff80
+store @613 0 found 0
+store @114 @604 found @540";
 
 #[test]
 fn two_tasks(rt: HostRuntime) -> Result<(), Fail> {
@@ -385,50 +409,56 @@ store @138 0 found 0
 store @139 0 found 0
 store @140 0 found 0
 load @310 found 1
-load @336 found 0
-store @336 1 found 0
-store @337 1 found 0
-store @338 @130 found 0
-store @339 @112 found 0
-store @340 0 found 0
-store @341 @310 found 0
-store @342 @310 found 0
-store @343 0x400000 found 0
-store @344 0x7f00000fff80 found 0
-store @345 0 found 0
+load @342 found 0
+store @342 1 found 0
+store @343 1 found 0
+store @344 @130 found 0
+store @345 @112 found 0
 store @346 0 found 0
-store @347 1 found 0
-store @348 1 found 0
-store @349 0 found 0
-store @350 0 found 0
+store @347 @310 found 0
+store @348 @310 found 0
+store @349 0x400000 found 0
+store @350 0x7f00000fff80 found 0
 store @351 0 found 0
 store @352 0 found 0
-store @353 0 found 0
+store @353 1 found 0
 store @354 1 found 0
 store @355 0 found 0
 store @356 0 found 0
 store @357 0 found 0
 store @358 0 found 0
 store @359 0 found 0
-store @360 0 found 0
+store @360 1 found 0
 store @361 0 found 0
-store @141 @336 found 0
-store @114 @336 found @310
+store @362 0 found 0
+store @363 0 found 0
+store @364 0 found 0
+store @365 0 found 0
+store @366 0 found 0
+store @367 0 found 0
+store @368 0 found 0
+store @369 0 found 0
+store @370 0 found 0
+store @371 0 found 0
+store @372 0 found 0
+store @373 0 found 0
+store @141 @342 found 0
+store @114 @342 found @310
 add @138 1 found 0
-load @141 found @336
-load @358 found 0
-load @359 found 0
-load @360 found 0
-load @361 found 0
+load @141 found @342
+load @364 found 0
+load @365 found 0
+load @366 found 0
+load @367 found 0
 load @138 found 1
 load @139 found 0
 store @137 1 found 0
 load @137 found 1
 load @140 found 0
-store @114 @310 found @336
-load @141 found @336
-load @336 found 1
-store @336 2 found 1
+store @114 @310 found @342
+load @141 found @342
+load @342 found 1
+store @342 2 found 1
 store @130 2 found 1
 store @319 0 found 0x7f00000fffa0
 store @319 0x7f00000fffa0 found 0
@@ -441,42 +471,48 @@ load @329 found 0
 load @330 found 0
 load @331 found 0
 load @310 found 1
-load @336 found 2
-store @336 3 found 2
-store @337 0 found 1
-store @338 @118 found @130
-store @339 @112 found @112
-store @340 0 found 0
-store @341 @310 found @310
-store @342 @310 found @310
-store @343 0x400000 found 0x400000
-store @344 0x7f00000fff80 found 0x7f00000fff80
-store @345 0 found 0
+load @342 found 2
+store @342 3 found 2
+store @343 0 found 1
+store @344 @118 found @130
+store @345 @112 found @112
 store @346 0 found 0
-store @347 1 found 1
-store @348 1 found 1
-store @349 0 found 0
-store @350 0 found 0
+store @347 @310 found @310
+store @348 @310 found @310
+store @349 0x400000 found 0x400000
+store @350 0x7f00000fff80 found 0x7f00000fff80
 store @351 0 found 0
 store @352 0 found 0
-store @353 1 found 0
+store @353 1 found 1
 store @354 1 found 1
 store @355 0 found 0
 store @356 0 found 0
 store @357 0 found 0
 store @358 0 found 0
-store @359 0 found 0
-store @360 0 found 0
+store @359 1 found 0
+store @360 1 found 1
 store @361 0 found 0
+store @362 0 found 0
+store @363 0 found 0
+store @364 0 found 0
+store @365 0 found 0
+store @366 0 found 0
+store @367 0 found 0
+store @368 0 found 0
+store @369 0 found 0
+store @370 0 found 0
+store @371 0 found 0
+store @372 0 found 0
+store @373 0 found 0
 add @127 1 found 0
 add @326 1 found 0
 add @327 1 found 0
-store @114 @336 found @310
-store @114 @310 found @336
-load @341 found @310
+store @114 @342 found @310
+store @114 @310 found @342
+load @347 found @310
 subtract @326 1 found 1
-subtract @353 1 found 1
-store @336 4 found 3
+subtract @359 1 found 1
+store @342 4 found 3
 load @311 found 1
 subtract @327 1 found 1
 subtract @127 1 found 1

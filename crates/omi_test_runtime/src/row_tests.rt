@@ -17,7 +17,7 @@ use std::test::Fail;
 const MANY: u64 = 10_000;
 
 /// Byte addresses of words by their place in the image. For two threads the arenas begin at the words 99, 112, 124 and 540, and their
-/// records have 13, 6, 13 and 26 words.
+/// records have 13, 6, 13 and 32 words.
 const WORD_112: u64 = 0x10000 + 8 * 112;
 
 const WORD_118: u64 = 0x10000 + 8 * 118;
@@ -28,9 +28,9 @@ const WORD_137: u64 = 0x10000 + 8 * 137;
 
 const WORD_540: u64 = 0x10000 + 8 * 540;
 
-const WORD_566: u64 = 0x10000 + 8 * 566;
+const WORD_572: u64 = 0x10000 + 8 * 572;
 
-const WORD_592: u64 = 0x10000 + 8 * 592;
+const WORD_604: u64 = 0x10000 + 8 * 604;
 
 /// Two workers wait; thread 0 gets one of them, and forks again behind its fork.
 const TO_TWO_FORKS: &str = "\
@@ -91,7 +91,7 @@ const THE_TEAM: [(Place, Field, u64); 35] = [
     (SECOND, Field::RegionSize, 2),
     (SECOND, Field::RegionEnclosing, WORD_124),
     (SECOND, Field::RegionEncountering, WORD_540),
-    (SECOND, Field::RegionTeam, WORD_566),
+    (SECOND, Field::RegionTeam, WORD_572),
     (SECOND, Field::TaskLife, 1),
     (SECOND, Field::TaskImplicit, 1),
     (SECOND, Field::TaskRegion, WORD_137),
@@ -155,8 +155,8 @@ fn is_forked(alloc: Global, t: &Trial) -> Result<bool, Wrong> {
     t.look().have(&THE_REST)?;
     t.look().have(&THE_TEAM)?;
     t.look()
-        .is_at(SECOND, Field::RegionTeam, 1, Some(WORD_592))?;
-    t.look().is(FIRST, Field::ThreadCurrent, WORD_566)?;
+        .is_at(SECOND, Field::RegionTeam, 1, Some(WORD_604))?;
+    t.look().is(FIRST, Field::ThreadCurrent, WORD_572)?;
     let events =
         "enter; state overhead 0; want 2; ask 1 got; fork r0.1.0 size 2 team k0.1.0@0 k0.2.0@1";
     Ok(tells(alloc, t.core(), 0, events)? && tells(alloc, t.core(), 1, "begin; offer")?)

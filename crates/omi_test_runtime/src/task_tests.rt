@@ -26,10 +26,10 @@ const THE_GRANDCHILD: [(Place, Field, u64); 9] = [
     (THIRD, Field::TaskRegion, 0x10000 + 8 * 118),
     (THIRD, Field::TaskThread, 0x10000 + 8 * 112),
     (THIRD, Field::TaskFunction, 0x40_0000),
-    (THIRD, Field::TaskGenerating, 0x10000 + 8 * 336),
+    (THIRD, Field::TaskGenerating, 0x10000 + 8 * 342),
     (THIRD, Field::TaskScheduling, 0x10000 + 8 * 310),
     (THIRD, Field::TaskExit, 0x7f00_000f_ff80),
-    (FIRST, Field::ThreadCurrent, 0x10000 + 8 * 362),
+    (FIRST, Field::ThreadCurrent, 0x10000 + 8 * 374),
 ];
 
 /// Whether the second task begins under the initial task, and the first has finished.
@@ -122,20 +122,20 @@ fn in_transit(rt: HostRuntime) -> Result<(), Fail> {
 /// The chain of thread 1: an implicit task under an explicit one, under a member. For two threads the records of tasks begin at the word 540, those
 /// of regions at the word 124, and thread 1 has 256 and 16 records behind those of thread 0.
 const THE_CHAIN: [(Place, Field, u64); 22] = [
-    (OTHER, Field::ThreadCurrent, 0x10000 + 8 * 7196),
+    (OTHER, Field::ThreadCurrent, 0x10000 + 8 * 8732),
     (OTHER, Field::TaskImplicit, 1),
     (OTHER, Field::TaskThread, 0x10000 + 8 * 118),
     (OTHER, Field::TaskRegion, 0x10000 + 8 * 332),
-    (OTHER, Field::TaskGenerating, 0x10000 + 8 * 618),
-    (OTHER, Field::TaskScheduling, 0x10000 + 8 * 618),
+    (OTHER, Field::TaskGenerating, 0x10000 + 8 * 636),
+    (OTHER, Field::TaskScheduling, 0x10000 + 8 * 636),
     (OTHER, Field::TaskExit, 0x7f00_001f_ff40),
     (OTHER, Field::TaskEnter, 0),
     (FOURTH, Field::TaskImplicit, 0),
     (FOURTH, Field::TaskThread, 0x10000 + 8 * 118),
     (FOURTH, Field::TaskRegion, 0x10000 + 8 * 137),
     (FOURTH, Field::TaskFunction, 0x40_0010),
-    (FOURTH, Field::TaskGenerating, 0x10000 + 8 * 566),
-    (FOURTH, Field::TaskScheduling, 0x10000 + 8 * 592),
+    (FOURTH, Field::TaskGenerating, 0x10000 + 8 * 572),
+    (FOURTH, Field::TaskScheduling, 0x10000 + 8 * 604),
     (FOURTH, Field::TaskExit, 0x7f00_001f_ff80),
     (FOURTH, Field::TaskEnter, 0x7f00_001f_ff60),
     (THIRD, Field::TaskImplicit, 1),

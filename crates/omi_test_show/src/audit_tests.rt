@@ -204,18 +204,18 @@ parallel body
 end
 ";
 
-/// A script, steps of its threads in turn, and the records that they reach: one step before a fork; between the join of this team, its 229th step,
-/// and the last of the three records that are given back behind it, at the 235th, the 241st and the 243rd; and where one member holds
+/// A script, steps of its threads in turn, and the records that they reach: one step before a fork; between the join of this team, its 253rd step,
+/// and the last of the three records that are given back behind it, at the 259th, the 265th and the 267th; and where one member holds
 /// a lock for which the other waits.
 const STEPS: [(&str, &str, &str); 8] = [
-    (A_TEAM_OF_TWO, "172", "audit ok records 2\n"),
-    (A_TEAM_OF_TWO, "229", "audit ok records 2\n"),
-    (A_TEAM_OF_TWO, "234", "audit ok records 2\n"),
-    (A_TEAM_OF_TWO, "235", "audit ok records 2\n"),
-    (A_TEAM_OF_TWO, "240", "audit ok records 2\n"),
-    (A_TEAM_OF_TWO, "241", "audit ok records 2\n"),
-    (A_TEAM_OF_TWO, "242", "audit ok records 2\n"),
-    (A_LOCK, "245", "audit ok records 5\n"),
+    (A_TEAM_OF_TWO, "196", "audit ok records 2\n"),
+    (A_TEAM_OF_TWO, "253", "audit ok records 2\n"),
+    (A_TEAM_OF_TWO, "258", "audit ok records 2\n"),
+    (A_TEAM_OF_TWO, "259", "audit ok records 2\n"),
+    (A_TEAM_OF_TWO, "264", "audit ok records 2\n"),
+    (A_TEAM_OF_TWO, "265", "audit ok records 2\n"),
+    (A_TEAM_OF_TWO, "266", "audit ok records 2\n"),
+    (A_LOCK, "269", "audit ok records 5\n"),
 ];
 
 /// Two of the stops in each family, each in four of them.
@@ -229,7 +229,7 @@ fn stops_at_steps(rt: HostRuntime) -> Result<(), Fail> {
             is_approved(&rt, alloc, script, steps, &options, text)?;
         }
     }
-    let core = core_of(alloc, "245", A_LOCK)?;
+    let core = core_of(alloc, "269", A_LOCK)?;
     let shown = call(alloc, &["show", "c"], ("", Some(&core)), &[], &[], &[])?;
     assert!(&rt; str::from_utf8(shown.out.bytes())?.contains(" state wait_critical wait 4 "));
     Ok(())

@@ -41,7 +41,7 @@ fn every_family_is_shown_alike(rt: HostRuntime) -> Result<(), Fail> {
         let core = core_in(alloc, &Layout::family(k, 1), &p)?;
         expect(&rt, alloc, &core, Status::Success, FINISHED)?;
     }
-    assert_eq!(rt; core_in(alloc, &Layout::family(7, 1), &p)?.len(), 60_152);
+    assert_eq!(rt; core_in(alloc, &Layout::family(7, 1), &p)?.len(), 72_440);
     Ok(())
 }
 
@@ -81,12 +81,13 @@ fn some_order(
     Ok(order)
 }
 
-/// The words of a field.
-fn width(field: usize, threads: u64) -> u64 {
+/// The words of a field, by the version of the layout.
+fn width(version: u64, field: usize, threads: u64) -> u64 {
     match field {
         6 => 8,
         24 => threads,
-        43 | 44 => 4,
+        43 => 4,
+        44 => { if version == 1 { 4 } else { 10 } }
         _ => 1,
     }
 }
@@ -100,27 +101,29 @@ fn place_fields(
     threads: u64,
 ) -> Result<u64, AllocError> {
     let mut end = 0u64;
+    let version = table[0];
     let order = some_order(alloc, numbers, fields.0, fields.1)?;
     for field in &order {
         end = end.wrapping_add(numbers.below(4));
         if let Some(word) = table.get_mut(field.wrapping_add(11)) {
             *word = end;
         }
-        end = end.wrapping_add(width(*field, threads));
+        end = end.wrapping_add(width(version, *field, threads));
     }
     Ok(end.wrapping_add(numbers.below(4)))
 }
 
-/// A valid table of so many threads, regions and tasks.
+/// A valid table of this version with so many threads, regions and tasks.
 fn some_table(
     alloc: Global,
     numbers: &mut Numbers,
+    version: u64,
     threads: u64,
     regions: u64,
     tasks: u64,
 ) -> Result<[u64; 56], AllocError> {
     let mut table = [0u64; 56];
-    table[0] = 1;
+    table[0] = version;
     table[5] = threads;
     table[8] = regions;
     table[11] = tasks;
@@ -152,10 +155,11 @@ fn some_table(
 fn permuted_tables_are_read_back(rt: HostRuntime) -> Result<(), Fail> {
     let mut numbers = Numbers(11);
     for _ in 0..1000 {
+        let version = numbers.below(2) + 1;
         let threads = numbers.below(16) + 1;
         let regions = numbers.below(64) + 1;
         let tasks = numbers.below(4096) + 1;
-        let table = some_table(rt.alloc(), &mut numbers, threads, regions, tasks)?;
+        let table = some_table(rt.alloc(), &mut numbers, version, threads, regions, tasks)?;
         match Layout::of_words(&table) {
             Ok(layout) => {
                 assert_eq!(rt; layout.table, table);
@@ -178,7 +182,7 @@ fn permuted_layouts_are_shown_alike(rt: HostRuntime) -> Result<(), Fail> {
     for _ in 0..1000 {
         let regions = numbers.below(4) + 1;
         let tasks = numbers.below(8) + 1;
-        let table = some_table(alloc, &mut numbers, 1, regions, tasks)?;
+        let table = some_table(alloc, &mut numbers, 2, 1, regions, tasks)?;
         match Layout::of_words(&table) {
             Ok(layout) => {
                 let core = core_in(alloc, &layout, &p)?;

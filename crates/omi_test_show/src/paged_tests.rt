@@ -131,7 +131,7 @@ fn expect_each_failing(
 #[test]
 fn each_read_fails(rt: HostRuntime) -> Result<(), Fail> {
     let alloc = rt.alloc();
-    for (steps, script) in [("0", EMPTY), ("173", A_TEAM_OF_TWO)] {
+    for (steps, script) in [("0", EMPTY), ("197", A_TEAM_OF_TWO)] {
         let core = core_of(alloc, steps, script)?;
         let (status, reads, _) = shown(alloc, &core)?;
         assert_eq!(rt; status, Status::Success);

@@ -121,7 +121,7 @@ fn refused_cores(rt: HostRuntime) -> Result<(), Fail> {
     let mut longer = core.to_vec(alloc)?;
     longer.push(0)?;
     let done = recode(alloc, "1", &longer)?;
-    expect_done(&rt, &done, Status::Core, b"core 55768 8 Trailing\n", None);
+    expect_done(&rt, &done, Status::Core, b"core 68056 8 Trailing\n", None);
     let none = recode_with(alloc, "1", None, &[], &[], &[])?;
     expect_done(&rt, &none, Status::NoFile, b"no file c\n", None);
     Ok(())

@@ -1,7 +1,7 @@
 //! Runs of `show` through the top call, and each of its refusals.
 
 use omi_outside::{Call, MemFiles, MemSink, Status};
-use omi_test_calls::{CHANGED, EMPTY, core_of, with_word, words};
+use omi_test_calls::{CHANGED, EMPTY, core_of, opening_core_v1, with_word, words};
 use omi_top::run_top;
 use std::alloc::{AllocError, Global};
 use std::process::Abort;
@@ -195,6 +195,20 @@ pub const HOSTILE: [(usize, u64, &str); 4] = [
     (114, 0x109b8, "damaged 0x109b8 thread.cur\n"),
 ];
 
+/// The opening words in the layout of version 1 have the report of those in version 2.
+#[test]
+fn the_first_version_of_the_layout(rt: HostRuntime) -> Result<(), Fail> {
+    let alloc = rt.alloc();
+    let core = opening_core_v1(alloc, EMPTY)?;
+    assert_eq!(rt; core.len(), 55_768);
+    expect(&rt, alloc, &core, Status::Success, OPENING)?;
+    for (place, word, text) in &HOSTILE {
+        let changed = with_word(alloc, &core, *place, *word)?;
+        expect(&rt, alloc, &changed, Status::Damaged, text)?;
+    }
+    Ok(())
+}
+
 #[test]
 fn words_that_were_changed(rt: HostRuntime) -> Result<(), Fail> {
     let alloc = rt.alloc();
@@ -217,9 +231,9 @@ const NO_LAYOUT: [(usize, u8); 5] = [
     (40 + 8 * 43, 9),
 ];
 
-/// A table that ends behind the segment, and each refusal of the table, at the word that it names.
+/// A table that lies behind the segment, and each refusal of the table, at the word that it names.
 const BAD_LAYOUT: [(usize, u8, &str); 8] = [
-    (40 + 8 * 40 + 1, 0xd8, "damaged 0x1d9b0 layout\n"),
+    (40 + 8 * 40 + 2, 3, "damaged 0x30158 layout\n"),
     (40 + 8 * 45, 12, "damaged 0x101e0 layout\n"),
     (40 + 8 * 48, 0, "damaged 0x10170 layout\n"),
     (40 + 8 * 48, 2, "damaged 0x10270 layout\n"),
@@ -235,6 +249,10 @@ fn cores_that_give_no_layout(rt: HostRuntime) -> Result<(), Fail> {
     let text = "incompatible\n";
     expect_changed(&rt, alloc, &NO_LAYOUT, Status::Incompatible, text)?;
     expect_each(&rt, alloc, &BAD_LAYOUT, Status::Damaged)?;
+    // A table that ends behind the segment.
+    let cut = with_word(alloc, &core_of(alloc, "0", EMPTY)?, 40, 0x2_0898)?;
+    let text = "damaged 0x209b0 layout\n";
+    expect(&rt, alloc, &cut, Status::Damaged, text)?;
     Ok(())
 }
 
@@ -258,7 +276,7 @@ fn bytes_that_are_no_core(rt: HostRuntime) -> Result<(), Fail> {
 fn cores_that_are_cut_or_too_long(rt: HostRuntime) -> Result<(), Fail> {
     let alloc = rt.alloc();
     let core = core_of(alloc, "0", EMPTY)?;
-    assert_eq!(rt; core.len(), 55_768);
+    assert_eq!(rt; core.len(), 68_056);
     for missing in 1..10usize {
         let length = core.len() - missing;
         let text = format!(in alloc; "core {length} 4 Short\n")?;
@@ -267,7 +285,7 @@ fn cores_that_are_cut_or_too_long(rt: HostRuntime) -> Result<(), Fail> {
     expect(&rt, alloc, b"", Status::Core, "core 0 4 Short\n")?;
     let mut longer = with_byte(alloc, &core, 0, b'O')?;
     longer.push(0)?;
-    expect(&rt, alloc, &longer, Status::Core, "core 55768 8 Trailing\n")?;
+    expect(&rt, alloc, &longer, Status::Core, "core 68056 8 Trailing\n")?;
     Ok(())
 }
 

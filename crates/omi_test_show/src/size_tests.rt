@@ -26,7 +26,7 @@ fn longer_core(alloc: Global, words: u64) -> Result<Vec<u8>, AllocError>
 #[test]
 fn cores_of_many_words(rt: HostRuntime) -> Result<(), Fail> {
     let alloc = rt.alloc();
-    for words in [6967, 1_048_576] {
+    for words in [8503, 1_048_576] {
         let core = longer_core(alloc, words)?;
         expect(&rt, alloc, &core, Status::Success, OPENING)?;
     }
@@ -40,7 +40,7 @@ fn cores_of_many_words(rt: HostRuntime) -> Result<(), Fail> {
 fn sixty_four_threads(rt: HostRuntime) -> Result<(), Fail> {
     let alloc = rt.alloc();
     let core = core_of(alloc, "0", "threads 64\nfunc main\nend\n")?;
-    assert_eq!(&rt; core.len(), 4_026_784);
+    assert_eq!(&rt; core.len(), 4_813_216);
     let shown = call(alloc, &["show", "c"], ("", Some(&core)), &[], &[], &[])?;
     assert_eq!(&rt; shown.status, Status::Success);
     let text = str::from_utf8(shown.out.bytes())?;

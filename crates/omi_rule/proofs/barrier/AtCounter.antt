@@ -1,6 +1,5 @@
 -- A thread at a counter of a member, at a barrier, at a join or in a wait: its task, the words of its region, and the thread where only its counter changes.
-use Rattle.std.proofs.Common.{◌≡◌, ◌<◌, ℕ, List, ◌∷◌, Option, Some, sym, ap, ◌∙◌, subst, arith}
-use Rattle.std.proofs.lemmas.Bool.Decides.{nat_tests}
+use Rattle.std.proofs.Common.{◌≡◌, ◌<◌, ℕ, List, ◌∷◌, Option, Some, sym, ap, ◌∙◌, subst}
 use Rattle.omi_word.specs.declared.op.Op.{Op}
 use Rattle.omi_word.specs.declared.op.Op.TheVariants as op
 use Rattle.omi_script.specs.declared.env.Env.{Env}
@@ -20,7 +19,6 @@ use Rattle.omi_layout.specs.Memory.{IsRecordWord, Memory, Rec}
 use Rattle.omi_layout.specs.Named.{number}
 use Rattle.omi_layout.specs.Place.{IsSlot}
 use Rattle.omi_layout.specs.Table.{width}
-use Rattle.omi_layout.proofs.Arenas.{some_threads}
 use Rattle.omi_layout.proofs.Numbers.{numbered_field}
 use Rattle.omi_pc.specs.declared.actor.Actor.{Actor}
 use Rattle.omi_pc.specs.declared.counter.Counter.{Counter}
@@ -30,6 +28,7 @@ use Rattle.omi_pc.specs.declared.team_counter.WorkerCounter.{WorkerCounter}
 use Rattle.omi_pc.specs.Fits.{FitsCounter}
 use Rattle.omi_pc.specs.OpenBodies.{AreOpen, IsContext}
 use Rattle.omi_rep.specs.declared.outcome.Outcome.TheVariants as outcome
+use Rattle.omi_rep.proofs.Codes as codes
 use Rattle.omi_rule_words.specs.Objects.{KeepsRegion}
 use Rattle.omi_rule_words.specs.Owes.{all_owed, owed, owed_at}
 use Rattle.omi_rule_words.specs.Words.{region_in}
@@ -150,7 +149,7 @@ module _ (p : Program) (w : List ℕ) (m : Memory) (events : List (ℕ × Event)
   of_own_region P o = (a.context.task, here.task, here.region, is_current p s i a stands, region_there, o)
 
   pub wide : (f : ℕ) → 0 < width w f
-  wide f = grind (arith, nat_tests, some_threads w before.valid)
+  wide f = codes.wide w before.valid f
 
   pub context_placed : IsContextPlaced w a.context
   context_placed = let (f, fs, is, o) = body in (subst (AreContextsPlaced w a.context) is own.placed.bodies).0

@@ -14,6 +14,7 @@ use Rattle.omi_layout.specs.Field.{tasks}
 use Rattle.omi_layout.specs.Memory.{IsRecordWord, Memory}
 use Rattle.omi_layout.specs.Named.{number}
 use Rattle.omi_layout.proofs.Numbers.{numbered_field}
+use Rattle.omi_layout.proofs.SlotWords.{slot_within}
 use Rattle.omi_pc.specs.declared.actor.Actor.{Actor}
 use Rattle.omi_pc.specs.declared.counter.Counter.{Counter}
 use Rattle.omi_pc.specs.declared.counter.Counter.TheVariants as counter
@@ -127,7 +128,7 @@ module _ (p : Program) (w : List ℕ) (m : Memory) (events : List (ℕ × Event)
   list_is = ahead_is p w m events s actors i before standing at tt
 
   slot_there : IsRecordWord w row.creator row.slot (number TaskSlots) (n % OWN_SLOTS)
-  slot_there = record { field = numbered_field TaskSlots; record_slot = has_row; within = omega arith }
+  slot_there = record { field = numbered_field TaskSlots; record_slot = has_row; within = slot_within w (n % OWN_SLOTS) (omega arith) }
 
   was_made : code ≢ 0 → WasMade w s code
   was_made some =

@@ -12,6 +12,7 @@ use Rattle.omi_layout.specs.Field.{tasks}
 use Rattle.omi_layout.specs.Memory.{Memory, replace_at, with_word}
 use Rattle.omi_layout.specs.Named.{number}
 use Rattle.omi_layout.proofs.Numbers.{numbered_field}
+use Rattle.omi_layout.proofs.SlotWords.{slot_within}
 use Rattle.omi_layout.proofs.Puts.{word_back}
 use Rattle.omi_pc.specs.declared.actor.Actor.{Actor}
 use Rattle.omi_pc.specs.declared.counter.Counter.{Counter}
@@ -164,4 +165,4 @@ module _ (p : Program) (w : List ℕ) (m : Memory) (events : List (ℕ × Event)
       (goes_next p w m events s actors i before standing at tt refl v n row fits.0 has_row found_row.0 list_is)
 
   pub take_keeps : StepKeeps p w m events s actors i (look_next w (actors i) (look.Take v n row code)) (λ old. (look_moved p w (actors i) (look.Take v n row code) old, look_outcome w (actors i) (look.Take v n row code) old))
-  take_keeps = (on_slot, record { there = record { field = numbered_field TaskSlots; record_slot = has_row; within = omega arith }; address = refl }, by_exchange (found == code) refl)
+  take_keeps = (on_slot, record { there = record { field = numbered_field TaskSlots; record_slot = has_row; within = slot_within w (n % OWN_SLOTS) (omega arith) }; address = refl }, by_exchange (found == code) refl)

@@ -1,6 +1,5 @@
 -- Where only children of the current task may start, a task that is found in a slot is tested: the thread loads the task that made it.
-use Rattle.std.proofs.Common.{◌≡◌, ◌≢◌, ◌+◌, ◌==◌, ◌<◌, ◌%◌, ◌^◌, nat_lt, ℕ, Bool, true, false, List, Option, Some, None, refl, sym, ap, ◌∙◌, arith, eqb-true, ltb-true, if◌then◌else◌}
-use Rattle.std.proofs.lemmas.Nat.{mod_below}
+use Rattle.std.proofs.Common.{◌≡◌, ◌≢◌, ◌+◌, ◌==◌, ℕ, Bool, true, false, List, Option, Some, None, refl, sym, ap, ◌∙◌, arith, eqb-true, if◌then◌else◌}
 use Rattle.omi_word.specs.declared.op.Op.TheVariants as op
 use Rattle.omi_script.specs.declared.program.Program.{Program}
 use Rattle.omi_model.specs.declared.event.Event.{Event}
@@ -12,10 +11,7 @@ use Rattle.omi_layout.specs.declared.field.Field.TheVariants.{TaskGenerating}
 use Rattle.omi_layout.specs.Field.{tasks}
 use Rattle.omi_layout.specs.Memory.{Memory}
 use Rattle.omi_layout.specs.Named.{number}
-use Rattle.omi_layout.specs.Place.{IsSlot}
-use Rattle.omi_layout.specs.Table.{makers, per_thread}
 use Rattle.omi_layout.specs.Valid.{IsValid}
-use Rattle.omi_layout.proofs.Arenas.{some_tasks, some_threads}
 use Rattle.omi_layout.proofs.Numbers.{numbered_field}
 use Rattle.omi_pc.specs.declared.actor.Actor.{Actor}
 use Rattle.omi_pc.specs.declared.counter.Counter.{Counter}
@@ -29,11 +25,12 @@ use Rattle.omi_rep.specs.declared.outcome.Outcome.TheVariants as outcome
 use Rattle.omi_rep.specs.Records.{task_address, task_word}
 use Rattle.omi_rule_words.proofs.Forks.{address_some}
 use Rattle.omi_step_words.specs.Moving.{to_look}
-use Rattle.omi_step_words.specs.Placed.{HasTask, HasTaskPlace}
-use Rattle.omi_step_words.specs.Words.{initial_place, of_task, slot_by, task_place}
+use Rattle.omi_step_words.specs.Placed.{HasTaskPlace}
+use Rattle.omi_step_words.specs.Words.{of_task, task_place}
 use Rattle.omi_step_words.proofs.ReadBack.{places_back}
 use Rattle.omi_task.specs.LookSteps.{look_moved, look_next, look_outcome, looking_on, next_look}
 use Rattle.omi_task.specs.Slots.{coded_task}
+use Rattle.omi_task.proofs.CodedRecords.{coded_there}
 use Rattle.omi_rule.specs.Ahead as Ahead
 use Rattle.omi_rule.specs.Rows.{HasTested, IsRowOf, OfRegion, WasMade, place_of}
 use Rattle.omi_rule.specs.Rule.{Rule}
@@ -42,17 +39,6 @@ use Rattle.omi_rule.proofs.Assembly.{Before, same_name}
 use Rattle.omi_rule.proofs.KeptObjects.{task_kept, task_there}
 use Rattle.omi_rule.proofs.barrier.AtCounter.{GoesTo, ahead_is, fits_counter, here, load_quiet, placed_counter, row_is, sees, wide, front_is}
 use Rattle.omi_rule.proofs.look.LooksOn.{goes_next}
-
--- whatever task a code names, the layout has its record
-pub coded_there : (w : List ℕ) → IsValid w → (code : ℕ) → HasTask w (coded_task w code)
-coded_there w valid code =
-    go (slot_by w tasks (code % 2 ^ 24)) (mod_below (code % 2 ^ 24) (per_thread w tasks) (some_tasks w valid))
-    (nat_lt (slot_by w tasks (code % 2 ^ 24)).creator (makers w tasks)) refl
-  where
-    go : (x : Place) → x.slot < per_thread w tasks → (b : Bool) → nat_lt x.creator (makers w tasks) ≡ b
-        → IsSlot w tasks (if b then x else initial_place).creator (if b then x else initial_place).slot
-    go x below true made = record { made_by = ltb-true x.creator (makers w tasks) made; within = below }
-    go x below false made = record { made_by = some_threads w valid; within = some_tasks w valid }
 
 module _ (p : Program) (w : List ℕ) (m : Memory) (events : List (ℕ × Event)) (s : State) (actors : ℕ → Actor)
     (rule : Rule p w m events s actors) where

@@ -1,6 +1,5 @@
 -- An event of a thread at a plain counter that stores a word of its current task: the frames, the variables and the tool word.
 use Rattle.std.proofs.Common.{◌≡◌, ◌<◌, ℕ, List, [], ◌∷◌, ◌++◌, Option, Some, refl, sym, ap, ◌∙◌, subst, arith}
-use Rattle.std.proofs.lemmas.Bool.Decides.{nat_tests}
 use Rattle.std.specs.Option.{option_map}
 use Rattle.omi_word.specs.declared.op.Op.TheVariants as op
 use Rattle.omi_script.specs.declared.program.Program.{Program}
@@ -24,7 +23,6 @@ use Rattle.omi_layout.specs.Memory.{Memory, with_word, with_word_in}
 use Rattle.omi_layout.specs.Named.{number}
 use Rattle.omi_layout.specs.Place.{IsSlot}
 use Rattle.omi_layout.specs.Table.{per_thread, thread_count, width}
-use Rattle.omi_layout.proofs.Arenas.{some_threads}
 use Rattle.omi_layout.proofs.Numbers.{numbered_field}
 use Rattle.omi_pc.specs.declared.actor.Actor.{Actor}
 use Rattle.omi_pc.specs.declared.counter.Counter.TheVariants as counter
@@ -32,6 +30,7 @@ use Rattle.omi_pc.specs.declared.counter.PlainCounter.{PlainCounter}
 use Rattle.omi_rep.specs.declared.outcome.Outcome.{Outcome}
 use Rattle.omi_rep.specs.declared.outcome.Outcome.TheVariants as outcome
 use Rattle.omi_rep.specs.Codes.{HasCodes, task_code, task_told}
+use Rattle.omi_rep.proofs.Codes as codes
 use Rattle.omi_rule_words.proofs.StoredCodes.{all_codes}
 use Rattle.omi_rule.proofs.OthersStand.{begun_undeferred}
 use Rattle.omi_rule_words.specs.Owes.{all_owed}
@@ -75,7 +74,7 @@ module _ (p : Program) (w : List ℕ) (m : Memory) (events : List (ℕ × Event)
   own_place = before.rule.within.tasks k.0.creator k.0.slot k.0.generation own_task.task own_task.live
 
   wide : (f : ℕ) → 0 < width w f
-  wide f = grind (arith, nat_tests, some_threads w before.valid)
+  wide f = codes.wide w before.valid f
 
   abbrev pub task_word_at : Field → RecordWord
   task_word_at f = record { creator = k.0.creator; slot = k.0.slot; field = f; place = 0 }

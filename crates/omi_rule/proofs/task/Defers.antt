@@ -1,6 +1,5 @@
 -- A new task is deferred: its code is stored into the own slot that is empty, and its thread leaves the construct.
-use Rattle.std.proofs.Common.{◌≡◌, ◌||◌, ◌<◌, nat_lt, inl, inr, slice_get, ℕ, Bool, true, false, List, [], ◌∷◌, ◌++◌, Some, None, refl, sym, ap, ◌∙◌, subst, arith, if◌then◌else◌}
-use Rattle.std.proofs.lemmas.Bool.Decides.{nat_tests}
+use Rattle.std.proofs.Common.{◌≡◌, ◌||◌, ◌<◌, nat_lt, inl, inr, slice_get, ℕ, Bool, true, false, List, [], ◌∷◌, ◌++◌, Some, None, refl, sym, ap, ◌∙◌, subst, arith, if◌then◌else◌, lt-ltb}
 use Rattle.omi_rep.specs.Records.{slot_word}
 use Rattle.omi_word.specs.declared.op.Op.{Op}
 use Rattle.omi_word.specs.declared.op.Op.TheVariants as op
@@ -24,6 +23,7 @@ use Rattle.omi_model.proofs.Steps.{at_current, relisted}
 use Rattle.omi_layout.specs.declared.field.Field.TheVariants.{TaskSlots}
 use Rattle.omi_layout.specs.Field.{tasks}
 use Rattle.omi_layout.specs.Memory.{Memory, replace_at}
+use Rattle.omi_layout.proofs.SlotWords.{slot_within}
 use Rattle.omi_pc.specs.declared.actor.Actor.{Actor}
 use Rattle.omi_pc.specs.declared.counter.Counter.TheVariants as counter
 use Rattle.omi_pc.specs.declared.counter.PlainCounter.TheVariants as plain
@@ -125,7 +125,7 @@ module _ (p : Program) (w : List ℕ) (m : Memory) (events : List (ℕ × Event)
 
   taken : take_item p At (event.Defer t) (task_ahead p At (actors i).stack C) ≡ Some (item.Defer place f final, rest)
   taken =
-      let few : nat_lt place 4 ≡ true = grind (arith, nat_tests, within) in
+      let few : nat_lt place OWN_SLOTS ≡ true = lt-ltb place OWN_SLOTS within in
       ap (take_item p At (event.Defer t))
       (making_is p At (actors i).stack (Some place) f false next.final false next.is not_final)
       ∙ ap (λ (b : Bool). if b then Some (item.Defer place f final, rest) else None) few
@@ -207,7 +207,7 @@ module _ (p : Program) (w : List ℕ) (m : Memory) (events : List (ℕ × Event)
       let o = context p w m events s actors i before C at in
       let slots = own_slots p w m events s actors i before C at in (
         X,
-        record { there = record { field = record { from = omega arith; to = omega arith }; record_slot = (context_placed p w m events s actors i before C at).row; within = within }; address = refl },
+        record { there = record { field = record { from = omega arith; to = omega arith }; record_slot = (context_placed p w m events s actors i before C at).row; within = slot_within w place within }; address = refl },
         event_keeps p w m events s actors i before O X (goes_to plain.Leave (actors i), outcome.Event (event.Defer t)) (event.Defer t) U refl done (
           place,
           (K, o.task, is_current p s i (actors i) (stands p w m events s actors i before C at), defers_here),

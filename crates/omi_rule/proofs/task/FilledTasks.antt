@@ -66,7 +66,7 @@ module _ (w : List ℕ) (n : NewTask) (r : Rec) (filled : IsFilled r (task_plan 
   pub planned_stands : (f : Field) (at word : ℕ) → word_in (task_words w n) (number f) at ≡ Some word
       → Has r f at word
   planned_stands f at word is =
-      stands_in r (task_words w n) (zero_in TaskSlots 3) filled (number f) at word is
+      stands_in r (task_words w n) (zero_in TaskSlots 9) filled (number f) at word is
 
   pub planned_codes : (v : Variables) → AreVariables n.variables v → length v.nthreads ≤ 4
       → HasCodes (task_code w (planned_task n v)) r

@@ -103,7 +103,7 @@ module _ (p : Program) (w : List ℕ) (m : Memory) (events : List (ℕ × Event)
               (Then, outcome.Quiet) refl taken
               (λ j other. spares_own m s i tasks t.0.slot (number TaskLife) 0 (2 * t.0.generation + 1) j (actors j) other (λ _. fresh.empty))
               (goes_on p w m events s actors i before C at N (task.Fill place t 0) (actors i).gathered (own p w m events s actors i before C at).fits.variables refl
-              (fits p w m events s actors i before C at, omega arith) there
+              (fits p w m events s actors i before C at, omega arith) (there, before.suits.groups)
               (loaded_goes p N s (actors i) (task.Fill place t 0) place (loaded_stays C at fresh.empty (number TaskLife) 0 (2 * t.0.generation + 1) (row p w m events s actors i before C at).0), fresh.below, λ j below. absurd (omega (arith, below)))),
         )
 
@@ -128,7 +128,7 @@ module _ (p : Program) (w : List ℕ) (m : Memory) (events : List (ℕ × Event)
     below = (fits p w m events s actors i before D at).1
 
     planned : IsPlannedWord w tasks (number TaskLife) (FIELDS + 1) Word
-    planned = task_planned w (new_task p (actors i)) word below
+    planned = task_planned w (new_task p (actors i)) word before.suits.groups below
 
     making : IsInTheMaking i (s.tasks i) t.0
     making =
@@ -159,7 +159,7 @@ module _ (p : Program) (w : List ℕ) (m : Memory) (events : List (ℕ × Event)
     fill_keeps = (
       Y,
       record {
-        there = planned_there w tasks (number TaskLife) (FIELDS + 1) i t.0.slot Word (omega arith) (subst (λ j. IsSlot w tasks j t.0.slot) making.maker (placed p w m events s actors i before D at)) planned;
+        there = planned_there w tasks (number TaskLife) (FIELDS + 1) i t.0.slot Word (omega arith) (subst (λ j. IsSlot w tasks j t.0.slot) making.maker (placed p w m events s actors i before D at).0) planned;
         address = ap (λ j. word_address w j t.0.slot (number Word.field) Word.at) making.maker;
       },
       go (nat_lt (word + 1) TASK_WORDS) refl,
@@ -192,5 +192,5 @@ module _ (p : Program) (w : List ℕ) (m : Memory) (events : List (ℕ × Event)
             let d : TaskCounter = task.AddPending place t in
             step (to_task d (actors i)) (sym (owes p w m events s actors i before D at))
             (goes_on p w m events s actors i before D at After d (actors i).gathered (own p w m events s actors i before D at).fits.variables refl
-            (fits p w m events s actors i before D at).0 (placed p w m events s actors i before D at)
+            (fits p w m events s actors i before D at).0 (placed p w m events s actors i before D at).0
             (stays_loaded d, (row p w m events s actors i before D at).1, subst (IsFilled (After t.0.creator tasks t.0.slot) (task_plan w (new_task p (actors i)))) all words_filled))

@@ -1,5 +1,5 @@
 -- A `task` construct looks for an own slot that is empty: a slot in which a deferred task stands is passed over.
-use Rattle.std.proofs.Common.{◌≡◌, ◌≢◌, ◌==◌, ◌&&◌, ◌||◌, ◌+◌, ◌<◌, nat_lt, inl, inr, ◌⊎◌, ℕ, Bool, true, false, List, [], ◌∷◌, ◌++◌, slice_get, Option, Some, None, unwrap_or, refl, sym, ap, ◌∙◌, subst, arith, eq-eqb, eqb-true, ltb-true, if◌then◌else◌}
+use Rattle.std.proofs.Common.{◌≡◌, ◌≢◌, ◌==◌, ◌&&◌, ◌||◌, ◌+◌, ◌<◌, nat_lt, inl, inr, ◌⊎◌, ℕ, Bool, true, false, List, [], ◌∷◌, ◌++◌, slice_get, Option, Some, None, unwrap_or, refl, sym, ap, ◌∙◌, subst, arith, eq-eqb, eqb-true, ltb-true, if◌then◌else◌, lt-ltb}
 use Rattle.std.proofs.lemmas.Bool.Decides.{nat_tests}
 use Rattle.omi_rep.specs.Records.{slot_word}
 use Rattle.omi_word.specs.declared.op.Op.TheVariants as op
@@ -25,6 +25,7 @@ use Rattle.omi_model.proofs.Steps.{relisted}
 use Rattle.omi_layout.specs.declared.field.Field.TheVariants.{TaskSlots}
 use Rattle.omi_layout.specs.Field.{tasks}
 use Rattle.omi_layout.specs.Memory.{Memory, replace_at}
+use Rattle.omi_layout.proofs.SlotWords.{slot_within}
 use Rattle.omi_pc.specs.declared.actor.Actor.{Actor}
 use Rattle.omi_pc.specs.declared.counter.Counter.TheVariants as counter
 use Rattle.omi_numbers.specs.declared.limits.TheConstants.{OWN_SLOTS}
@@ -131,7 +132,7 @@ module _ (p : Program) (w : List ℕ) (m : Memory) (events : List (ℕ × Event)
 
   taken : take_item p At (event.Seen place) (task_ahead p At (actors i).stack C) ≡ Some (item.Defer place f final, rest)
   taken =
-      let few : nat_lt place 4 ≡ true = grind (arith, nat_tests, within) in
+      let few : nat_lt place OWN_SLOTS ≡ true = lt-ltb place OWN_SLOTS within in
       ap (take_item p At (event.Seen place)) (ahead (Some place))
       ∙ ap (λ (b : Bool). if b then Some (item.Defer place f final, rest) else None)
       (ap (λ (b : Bool). b && nat_lt place 4) (eq-eqb place place refl) ∙ few)
@@ -219,7 +220,7 @@ module _ (p : Program) (w : List ℕ) (m : Memory) (events : List (ℕ × Event)
   pub slot_keeps : StepKeeps p w m events s actors i (making_next p w (actors i) C) (λ old. (making_moved p w (actors i) C old, making_outcome w (actors i) C old))
   slot_keeps = (
     X,
-    record { there = record { field = record { from = omega arith; to = omega arith }; record_slot = (context_placed p w m events s actors i before C at).row; within = within }; address = refl },
+    record { there = record { field = record { from = omega arith; to = omega arith }; record_slot = (context_placed p w m events s actors i before C at).row; within = slot_within w place within }; address = refl },
     go (found_in m X == 0) refl,
   )
     where

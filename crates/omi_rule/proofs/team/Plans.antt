@@ -13,6 +13,7 @@ use Rattle.omi_pc.specs.declared.limits.TheConstants.{REGION_WORDS, TASK_WORDS}
 use Rattle.omi_step_words.specs.declared.plan.NewRegion.{NewRegion}
 use Rattle.omi_step_words.specs.declared.plan.NewTask.{NewTask}
 use Rattle.omi_step_words.specs.declared.plan.Planned.{Planned}
+use Rattle.omi_step_words.specs.Placed.{HasGroupWords}
 use Rattle.omi_step_words.specs.Plan.{region_plan, region_words, task_plan, task_words}
 use Rattle.omi_step_words.specs.PlanLaws.{rank}
 use Rattle.omi_rule.specs.Rows.{IsFilled}
@@ -59,9 +60,12 @@ pub region_planned : (w : List ℕ) (n : NewRegion) (k : ℕ) → k < REGION_WOR
     → IsPlannedWord w regions 13 24 (region_plan w n k)
 region_planned w n k within = each_planned w regions 13 24 (region_words w n) _ k refl within
 
-pub task_planned : (w : List ℕ) (t : NewTask) (k : ℕ) → k < TASK_WORDS
+-- of a layout that has words for groups
+pub task_planned : (w : List ℕ) (t : NewTask) (k : ℕ) → HasGroupWords w → k < TASK_WORDS
     → IsPlannedWord w tasks (number TaskLife) (FIELDS + 1) (task_plan w t k)
-task_planned w t k within = each_planned w tasks (number TaskLife) (FIELDS + 1) (task_words w t) _ k refl within
+task_planned w t k groups within =
+    let all : are_planned w tasks (number TaskLife) (FIELDS + 1) (task_words w t) ≡ true = rw groups refl in
+    each_planned w tasks (number TaskLife) (FIELDS + 1) (task_words w t) _ k all within
 
 pub planned_there : (w : List ℕ) (kind life last creator slot : ℕ) (x : Planned) → last < FIELDS + 2
     → IsSlot w kind creator slot → IsPlannedWord w kind life last x

@@ -141,6 +141,7 @@ module _ (p : Program) (w : List ℕ) (m : Memory) (events : List (ℕ × Event)
                     let count = before.rule.within.count in
                     let known = before.known in
                     subst (λ c. (member_of Team j).1 < c) count (threads_known i (actors i).gathered.asked s.count (s.threads i).asks Team known asks.asks.few asks.asks.asked (with_task_threads t member (actors i).gathered.team ∙ asks.asks.joined) j within),
+                before.suits.groups,
               ) (
                 team_goes s i (actors i) (team.FillTask r member t 0) Team (with_task_threads t member (actors i).gathered.team) asks,
                 filled_goes p w m N (actors i) r member (team.FillTask r member t 0) Team size
@@ -178,7 +179,7 @@ module _ (p : Program) (w : List ℕ) (m : Memory) (events : List (ℕ × Event)
     below = (fits p w m events s actors i before D at).1
 
     planned : IsPlannedWord w tasks (number TaskLife) (FIELDS + 1) Word
-    planned = task_planned w (new_member p (actors i) r member) word below
+    planned = task_planned w (new_member p (actors i) r member) word before.suits.groups below
 
     made : KeepsMaking s i (record nothing { region = Some r; tasks = take (member + 1) (tasks_of (actors i).gathered.team) })
     made =

@@ -1,12 +1,35 @@
-use Rattle.std.proofs.Common.{◌≡◌, ◌==◌, [], ◌&&◌, ◌||◌, ◌∙◌, true, false, Some, sym, ap}
+use Rattle.std.proofs.Common.{◌≡◌, ◌≤◌, ◌==◌, [], ◌&&◌, ◌||◌, ◌∙◌, ℕ, List, true, false, Some, None, sym, ap, nat_le, arith, leb-true}
 use Rattle.std.specs.Prelude.{nat_eq}
 use Rattle.std.specs.Option.{option_map_or}
 use Rattle.indexmap.specs.IndexSet.{insert_all}
+use Rattle.omi_script.specs.declared.limits.TheConstants.{MAX_SIZES}
+use Rattle.omi_layout.specs.declared.field.Field.{Field}
+use Rattle.omi_layout.specs.declared.field.Field.TheVariants.{RegionSize, TaskNthreadsLength}
+use Rattle.omi_layout.specs.Table.{thread_count}
+use Rattle.omi_layout.specs.Valid.{IsValid}
+use Rattle.omi_layout.proofs.Arenas.{test_right, threads_of_valid}
 use Rattle.omi_session.specs.Named.{record_kind}
-use Rattle.omi_audit.specs.Clauses.{leads_to, may_be_none, clause_4}
+use Rattle.omi_audit.specs.Clauses.{leads_to, may_be_none, clause_4, clause_5, clause_6}
+use Rattle.omi_audit.specs.Found.{counts}
 use Rattle.omi_audit.specs.Judged.{named_of}
 use Rattle.omi_audit.proofs.NamedWords.{pointer_passes, pointer_refused, clause_of}
 use Rattle.omi_audit.proofs.judging.clause_failing.Goals as goal
+
+-- a size or a length that passes is small
+few_counted : (w : List ℕ) → IsValid w → (field : Field) (word : ℕ) → counts field ≡ true → clause_5 w field word ≡ true
+    → clause_6 w field word ≡ true → word ≤ 64
+few_counted w valid RegionSize word counted region task =
+    let most : word ≤ thread_count w = leb-true word (thread_count w) (test_right (nat_le 1 word) (nat_le word (thread_count w)) region) in
+    omega (arith, threads_of_valid w valid)
+few_counted w valid TaskNthreadsLength word counted region task =
+    let most : word ≤ MAX_SIZES = leb-true word MAX_SIZES (test_right (nat_le 1 word) (nat_le word MAX_SIZES) task) in omega arith
+few_counted w valid field word counted region task = absurd (cc)
+
+pub returns-in_default-clause-few : goal.returns-in_default-clause-few
+returns-in_default-clause-few g c = λ passes counted.
+    let none : c.failing.result ≡ None = cc in
+    few_counted c.layout.result.now.table c.layout.result.now.valid c.args.field c.args.word counted
+    (c.failing.ensures.region none) (c.failing.ensures.task none)
 
 pub returns-then-may_stand-clause-failing : goal.returns-then-may_stand-clause-failing
 returns-then-may_stand-clause-failing g c = λ memory tells known.

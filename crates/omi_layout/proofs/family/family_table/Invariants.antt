@@ -10,5 +10,5 @@ abbrev pub invariant-loop-f : goal.invariant-loop-f
 invariant-loop-f l = record {
   words : length l.table ≡ TABLE_WORDS;
   head : (i : ℕ) → i < 12 → slice_index l.table i ≡ slice_index l.initial.table i;
-  offsets : (g : ℕ) → IsField g → g < l.f → offset l.table g ≡ family_offset l.k l.threads g;
+  offsets : (g : ℕ) → IsField g → g < l.f → offset l.table g ≡ family_offset l.version l.k l.threads g;
 }

@@ -10,4 +10,5 @@ returns c = λ p k w is family.
       threads = sym family.threads;
       fits = family_fits k p.threads w few.0 (omega (arith, few.1)) family;
       size = family_small k p.threads w few.0 (omega (arith, few.1)) family;
+      groups = family.known;
     }
