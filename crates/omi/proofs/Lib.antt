@@ -1,2 +1,2 @@
-mod NoTargets
+pub mod NoTargets
 mod FrontsOfCores

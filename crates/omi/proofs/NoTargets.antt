@@ -17,7 +17,7 @@ use Rattle.omi.specs.declared.opened.OpenError.{OpenError}
 use Rattle.omi.specs.declared.opened.OpenError.TheVariants as error
 
 -- callbacks over a core tell its words
-tells_core : (core : CoreImage) (told : Told) → told ≡ told_by core → Tells told (words_of_core core)
+pub tells_core : (core : CoreImage) (told : Told) → told ≡ told_by core → Tells told (words_of_core core)
 tells_core core told is =
     subst (λ (t : Told). Tells t (words_of_core core)) (sym is)
     (record { order = core.order; order_told = refl; words = words_of_segments core.segments; words_told = refl; is = refl })

@@ -40,5 +40,5 @@ pub use omi_session::{
 pub use omi_text::report_text;
 pub use omi_walk::{KeptList, WalkFault, kept, walk};
 pub use omi_word::Natives;
-pub use opened::{OpenCore, OpenError, open_core};
+pub use opened::{OpenCore, OpenError, open_core, session_over};
 pub use tool::{Tool, look_into};

@@ -65,8 +65,9 @@ impl From<AllocError> for OpenError {
     }
 }
 
-/// A session with the words of a core of order 0, by a conversion of the bytes of a word.
-fn session_over<F: ToHost>(
+/// A session with the words of a core of order 0, by a conversion of the bytes of a word. The error is NoTarget, where the core's words
+/// publish no layout that this library knows.
+pub fn session_over<F: ToHost>(
     alloc: Global,
     core: CoreImage,
     to_host: F,

@@ -5,6 +5,7 @@ pub mod OneEnd
 pub mod History
 pub mod Stepping
 pub mod Opened
+pub mod Copied
 pub mod Histories
 pub mod ScheduledSteps
 pub mod DeferSlots

@@ -9,6 +9,8 @@ ghost use Rattle.omi_rep.specs.Suits.{Suits};
 ghost use Rattle.omi_step_words.specs.Outcomes.{outcome_with};
 ghost use Rattle.omi_core.specs.RunSteps.{IsRight, IsStep, RuleHolds, ShowsState, event_of, seats_of};
 
+mod same;
+
 use crate::opening::{opening_actors, opening_image};
 use crate::{Entry, MOST_STEPS, OutOfMemory};
 use omi_actor::{advance, next, outcome};

@@ -24,7 +24,7 @@ use Rattle.omi_top.specs.Command.{Show}
 use Rattle.omi_top.specs.Cores.{IsDamaged, IsIncompatible, IsLooked, ShowsState, Spells, words_of_core}
 use Rattle.omi_verbs.specs.Refusal.{status_of}
 use Rattle.omi_verbs.specs.Cores.{IsReachedCore, thread_ids}
-use Rattle.omi_top.proofs.ImageWords.{image_words}
+use Rattle.omi_verbs.proofs.ImageWords.{image_words}
 use Rattle.omi_rep.proofs.shown.ShownViews.{shown_looked as shown_look}
 use Rattle.omi_top.proofs.ShowVerdicts.{HasFault, Refusing, all_refusing, damaged as damaged_refused, faulty, incompatible as incompatible_refused, missing, one_looked, one_view, report_not_refused, says_core, says_damaged, says_incompatible, says_missing}
 use Rattle.omi_top.proofs.Recoded.{one_report}

@@ -13,7 +13,6 @@ pub mod LeftByRecode
 pub mod Asking
 pub mod Showing
 pub mod Opening
-pub mod ImageWords
 pub mod ShowVerdicts
 pub mod Recoded
 pub mod LeftByShow

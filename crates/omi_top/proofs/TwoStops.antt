@@ -25,7 +25,7 @@ use Rattle.omi_top.specs.Answer.{IsStopped}
 use Rattle.omi_top.specs.Between.{AreOfOneRun, AreStops, HasRecords, IsFollowedFrom, events_between}
 use Rattle.omi_top.specs.Run.{IsRun}
 use Rattle.omi_top.specs.declared.plan.Plan.{Plan}
-use Rattle.omi_top.proofs.ImageWords.{image_words}
+use Rattle.omi_verbs.proofs.ImageWords.{image_words}
 use Rattle.omi_top.proofs.OneRun.{events_more, later_steps}
 
 -- the events behind some of those that lead to a state lead on from the state that these reach

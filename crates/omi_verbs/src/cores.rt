@@ -10,8 +10,8 @@ use omi_numbers::native_id;
 use omi_word::{Image, Natives, OutOfMemory};
 use std::alloc::Global;
 
-/// The native ids of so many threads.
-fn contexts_of(alloc: Global, threads: u8) -> Result<Natives, OutOfMemory>
+/// The native ids of so many threads, which rise.
+pub fn contexts_of(alloc: Global, threads: u8) -> Result<Natives, OutOfMemory>
     ensures { IfOk result (λ ids. ids ≡ thread_ids threads) }
 {
     let mut ids = Natives::new(alloc);

@@ -16,7 +16,7 @@ mod refusal_line;
 mod script;
 mod words;
 
-pub use cores::core_file_of;
+pub use cores::{contexts_of, core_file_of};
 pub use event_lines::push_event_lines;
 pub use lines::Lines;
 pub use names::Names;

@@ -12,7 +12,6 @@ use Rattle.omi_corefile.specs.declared.segment.Segment.{Segment}
 use Rattle.omi_word.specs.Memory.{place_of}
 use Rattle.omi_word.specs.declared.limits.TheConstants.{FIRST_ADDRESS}
 use Rattle.omi_word.specs.Words.{words_of}
-use Rattle.omi_top.specs.Cores.{words_of_core}
 
 -- the words of one segment from the first address on
 at_place : (aligned above within : Bool) (words : List ℕ) (place : ℕ) → nat_lt place (length words) ≡ within
@@ -35,7 +34,7 @@ same_words : (f g : ℕ → Option ℕ) → ((addr : ℕ) → f addr ≡ g addr)
 same_words f g each = λ i addr. each addr i
 
 pub image_words : (ids words : List ℕ) (core : CoreImage) → HoldsImage ids words core
-    → words_of_core core ≡ words_of words
+    → aligned_word_at (segment_words core.segments) ≡ words_of words
 image_words ids words core holds =
     ap (λ (segments : List Segment). aligned_word_at (segment_words segments)) holds.segments
     ∙ same_words (aligned_word_at (segment_words (record { start = FIRST_ADDRESS; words = words } ∷ [])))

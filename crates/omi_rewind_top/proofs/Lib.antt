@@ -1,0 +1,10 @@
+-- The steps that a word names.
+pub mod Parts
+-- What was printed for steps stays while the run goes on, and is the reports of the states that its events reach.
+pub mod Printed
+-- A rewind before its first step, and a thread's state word.
+pub mod Turned
+-- A session over the words of an image.
+pub mod Imaged
+-- What a call leaves, and what the clauses of the top call say of it.
+pub mod Left

@@ -1,0 +1,14 @@
+//! All that the program `ompdat` does: it goes to steps of a run and prints the report there, and finds the first step of a state.
+#![tactic(auto)]
+
+mod at;
+mod command;
+mod image_view;
+pub mod limits;
+mod lines;
+mod steps_word;
+mod top;
+mod turns;
+mod when;
+
+pub use top::rewind_top;
