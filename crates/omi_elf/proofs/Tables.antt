@@ -1,0 +1,42 @@
+-- One more entry of what stands one behind another in the file.
+use Rattle.std.proofs.Common.{◌≡◌, ℕ, zero, suc, ◌+◌, ◌*◌, ◌<◌, List, [], ◌∷◌, ◌++◌, length, refl, ap, sym, ◌∙◌, arith}
+use Rattle.std.specs.Int.{w64}
+use Rattle.std.proofs.lemmas.List.FromFn.{map-range_with_len_more, length-map-range_with_len}
+use Rattle.omi_elf.specs.declared.limits.TheConstants.{PROGRAM_HEADER_BYTES}
+use Rattle.omi_elf.specs.Header.{field, numbers_from, program_header, headers_from}
+
+pub headers_from-none : (order : ℕ) (bytes : List ℕ) (at : ℕ) → headers_from order bytes at 0 ≡ []
+unfolding headers_from
+headers_from-none order bytes at = refl
+
+pub headers_from-more : (order : ℕ) (bytes : List ℕ) (at i : ℕ)
+    → headers_from order bytes at (i + 1)
+    ≡ headers_from order bytes at i ++ program_header order bytes (at + PROGRAM_HEADER_BYTES * i) ∷ []
+unfolding headers_from
+headers_from-more order bytes at i =
+    map-range_with_len_more (λ (k : ℕ). program_header order bytes (at + PROGRAM_HEADER_BYTES * k)) 0 i i (omega arith)
+
+pub numbers_from-none : (order : ℕ) (bytes : List ℕ) (at : ℕ) → numbers_from order bytes at 0 ≡ []
+unfolding numbers_from
+numbers_from-none order bytes at = refl
+
+pub numbers_from-more : (order : ℕ) (bytes : List ℕ) (at i : ℕ)
+    → numbers_from order bytes at (i + 1) ≡ numbers_from order bytes at i ++ field w64 order bytes (at + 8 * i) ∷ []
+unfolding numbers_from
+numbers_from-more order bytes at i =
+    map-range_with_len_more (λ (k : ℕ). field w64 order bytes (at + 8 * k)) 0 i i (omega arith)
+
+pub length-headers_from : (order : ℕ) (bytes : List ℕ) (at n : ℕ) → length (headers_from order bytes at n) ≡ n
+unfolding headers_from
+length-headers_from order bytes at n =
+    length-map-range_with_len (λ (k : ℕ). program_header order bytes (at + PROGRAM_HEADER_BYTES * k)) 0 n
+
+-- where there are none, their place doesn't matter
+pub headers_from-same : (order : ℕ) (bytes : List ℕ) (at other n : ℕ) → (0 < n → at ≡ other)
+    → headers_from order bytes at n ≡ headers_from order bytes other n
+headers_from-same order bytes at other zero h = headers_from-none order bytes at ∙ sym (headers_from-none order bytes other)
+headers_from-same order bytes at other (suc n) h = ap (λ (a : ℕ). headers_from order bytes a (suc n)) (h (omega arith))
+
+pub length-numbers_from : (order : ℕ) (bytes : List ℕ) (at n : ℕ) → length (numbers_from order bytes at n) ≡ n
+unfolding numbers_from
+length-numbers_from order bytes at n = length-map-range_with_len (λ (k : ℕ). field w64 order bytes (at + 8 * k)) 0 n

@@ -1,0 +1,24 @@
+//! ELF64 core files: what one says in the words of the System V ABI, and how a core is written as one.
+#![tactic(auto)]
+
+mod decoding;
+mod encoding;
+mod fault;
+mod gathering;
+mod header;
+mod judging;
+mod limits;
+mod notes;
+mod numbers;
+mod program_header;
+mod reading;
+
+pub use decoding::decode_elf;
+pub use encoding::encode_elf;
+pub use fault::{ElfError, ElfFault};
+pub use limits::{
+    CORE_TYPE, ELF_MAGIC, HEADER_BYTES, LOAD_SEGMENT, MOST_ELF_BYTES, NOTE_FRONT_BYTES, NOTE_NAME,
+    NOTE_SEGMENT, NOTE_TYPE, PROGRAM_HEADER_BYTES,
+};
+pub use omi_list::OutOfMemory;
+pub use program_header::ProgramHeader;
