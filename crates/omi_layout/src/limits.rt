@@ -10,9 +10,10 @@ pub const FIELDS: u8 = Field::TaskSlots as u8;
 /// The words of a layout table: twelve of version and arenas, and the offset of each field.
 pub const TABLE_WORDS: usize = 12 + FIELDS as usize;
 
-/// The versions of the layout table: the first one, and the one with words for groups of tasks.
+/// The first version of the layout table.
 pub const FIRST_VERSION: u64 = 1;
 
+/// The version of the layout table in which a task has words for groups.
 pub const GROUP_VERSION: u64 = 2;
 
 /// The groups of tasks that a task may have open at a time.

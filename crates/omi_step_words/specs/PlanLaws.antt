@@ -7,7 +7,7 @@ use Rattle.omi_step_words.specs.declared.plan.NewTask.{NewTask}
 use Rattle.omi_step_words.specs.declared.plan.Planned.{Planned}
 use Rattle.omi_step_words.specs.Plan.{region_plan, task_plan}
 
--- where a word stands in the order of the fields and of the places in them. No field but the team has more than four words, and the last one
+-- where a word stands in the order of the fields and of the places in them. No field but the team and the last one has more than four words
 abbrev pub rank : Planned → ℕ
 rank x = 4 * number x.field + x.at
 

@@ -165,4 +165,11 @@ module _ (p : Program) (w : List ℕ) (m : Memory) (events : List (ℕ × Event)
       (goes_next p w m events s actors i before standing at tt refl v n row fits.0 has_row found_row.0 list_is)
 
   pub take_keeps : StepKeeps p w m events s actors i (look_next w (actors i) (look.Take v n row code)) (λ old. (look_moved p w (actors i) (look.Take v n row code) old, look_outcome w (actors i) (look.Take v n row code) old))
-  take_keeps = (on_slot, record { there = record { field = numbered_field TaskSlots; record_slot = has_row; within = slot_within w (n % OWN_SLOTS) (omega arith) }; address = refl }, by_exchange (found == code) refl)
+  take_keeps = (
+    on_slot,
+    record {
+      there = record { field = numbered_field TaskSlots; record_slot = has_row; within = slot_within w (n % OWN_SLOTS) (omega arith) };
+      address = refl;
+    },
+    by_exchange (found == code) refl,
+  )
