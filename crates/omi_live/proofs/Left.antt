@@ -117,6 +117,7 @@ module _ (command : LiveCommand) (old new : Told) (counted : Type 0) (out after 
   err_left content (refusal.ReadFault read) (inr (late, half)) said = absurd late
   err_left content (refusal.Script fault) (inr (late, half)) said = absurd late
   err_left content (refusal.Core at why) (inr (late, half)) said = absurd late
+  err_left content (refusal.Elf at why) (inr (late, half)) said = absurd late
   err_left content (refusal.Damaged addr field) (inr (late, half)) said = absurd late
   err_left content (refusal.Cycle addr) (inr (late, half)) said = absurd late
   err_left content refusal.Incompatible (inr (late, half)) said = absurd late

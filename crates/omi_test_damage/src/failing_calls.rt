@@ -122,8 +122,20 @@ fn failing_reads(
 fn each_read_of_a_core(rt: HostRuntime) -> Result<(), Fail> {
     let alloc = rt.alloc();
     let core = core_of(alloc, "0", AN_EMPTY_RUN)?;
-    assert_eq!(rt; failing_reads(&rt, alloc, &core, Call::Size)?, 1);
+    assert_eq!(rt; failing_reads(&rt, alloc, &core, Call::Size)?, 2);
     let reads = failing_reads(&rt, alloc, &core, Call::ReadAt)?;
     assert!(rt; 3 < reads && reads < MANY, "{reads}");
+    Ok(())
+}
+
+/// An ELF file is read whole, behind its first four bytes: 68,220 bytes are seventeen pieces.
+#[test]
+fn each_read_of_an_elf_file(rt: HostRuntime) -> Result<(), Fail> {
+    let alloc = rt.alloc();
+    let core = core_of(alloc, "0", AN_EMPTY_RUN)?;
+    let done = call(alloc, &["elf", "c", "d"], "", &core, NONE)?;
+    let file = done.dest.bytes("d").unwrap_or(b"");
+    assert_eq!(rt; failing_reads(&rt, alloc, file, Call::Size)?, 2);
+    assert_eq!(rt; failing_reads(&rt, alloc, file, Call::ReadAt)?, 18);
     Ok(())
 }

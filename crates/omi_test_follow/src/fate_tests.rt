@@ -179,6 +179,33 @@ fn either_order_of_bytes(rt: HostRuntime) -> Result<(), Fail> {
     Ok(())
 }
 
+/// The core as an ELF file.
+fn as_elf(alloc: Global, core: &[u8]) -> Result<Vec<u8>, AllocError> {
+    let done = call(alloc, &["elf", "c", "d"], ("", Some(core)), &[], &[], &[])?;
+    done.dest.bytes("d").unwrap_or(b"").to_vec(alloc)
+}
+
+/// Each of the two cores may be an ELF file, whatever the other is.
+#[test]
+fn either_kind_of_file(rt: HostRuntime) -> Result<(), Fail> {
+    let alloc = rt.alloc();
+    let first = core_of(alloc, "47", TWO_TASKS)?;
+    let later = core_of(alloc, "104", TWO_TASKS)?;
+    let (first_elf, later_elf) = (as_elf(alloc, &first)?, as_elf(alloc, &later)?);
+    for cores in [
+        Cores::of(&first, &later_elf),
+        Cores::of(&first_elf, &later),
+        Cores::of(&first_elf, &later_elf),
+    ] {
+        expect(&rt, alloc, cores, Status::Success, USED_AGAIN)?;
+    }
+    let cut = later_elf.get(..40).unwrap_or(b"");
+    let short = "core 40 26 Short\n";
+    expect(&rt, alloc, Cores::of(&first, cut), Status::Core, short)?;
+    expect(&rt, alloc, Cores::of(cut, &later), Status::Core, short)?;
+    Ok(())
+}
+
 /// The words of the second core's one task that differ: its life word, by what it is set to.
 fn expect_life(rt: &impl Abort, alloc: Global, life: u64, text: &str) -> Result<(), AllocError> {
     let first = core_of(alloc, "0", TWO_TASKS)?;

@@ -1,20 +1,17 @@
 -- A core has one refusal of `audit` or one verdict: what each says of its bytes and of its words.
-use Rattle.std.proofs.Common.{◌≡◌, ◌⊎◌, inl, inr, ℕ, List, Option, Some, None, Err, refl, sym, ◌∙◌, ap, subst}
-use Rattle.omi_audit.specs.Verdicts.{verdict}
+use Rattle.std.proofs.Common.{◌≡◌, ◌⊎◌, inl, inr, ℕ, List, Option, Some, None, refl, sym, ◌∙◌, ap, subst}
 use Rattle.omi_audit.specs.declared.verdict.Verdict.{Verdict}
 use Rattle.omi_outside.specs.declared.status.Status.{Status}
 use Rattle.omi_outside.specs.declared.status.Status.TheVariants as status
 use Rattle.omi_corefile.specs.declared.core_image.CoreImage.{CoreImage}
-use Rattle.omi_corefile.proofs.FileLaws.{core_not_refused, core_unique}
-use Rattle.omi_layout.specs.Given.{GivesLayout}
-use Rattle.omi_layout.specs.Valid.{IsValid}
-use Rattle.omi_layout.specs.declared.reading.LayoutError.{LayoutError}
 use Rattle.omi_layout.proofs.OneAnswer.{not_both}
 use Rattle.omi_top.specs.Answer.{IsAuditRefusal, IsShowRefusal}
 use Rattle.omi_top.specs.Audit.{IsAudited}
 use Rattle.omi_top.specs.Cores.{HasLayout, HasWrongTable, IsIncompatible, IsWrongTable, LacksTable, Spells, words_of_core}
 use Rattle.omi_top.specs.Questions.{IsLayoutRefusal, refusal_of_layout}
-use Rattle.omi_top.proofs.ShowVerdicts.{HasFault, either_table, lacking_status, one_refusal, wrong_status}
+use Rattle.omi_top.specs.Files.{HasFault}
+use Rattle.omi_top.proofs.Files.{fault_told, file_not_refused, file_unique, told_status}
+use Rattle.omi_top.proofs.ShowVerdicts.{either_table, lacking_status, one_refusal, wrong_status}
 use Rattle.omi_verbs.specs.Refusal.{status_of}
 use Rattle.omi_verbs.specs.declared.refusal.Input.TheVariants as input
 use Rattle.omi_verbs.specs.declared.refusal.Refusal.{Refusal}
@@ -29,10 +26,9 @@ refused_by_show (Some bytes) r (inr (core, spelled, refused)) = inr (core, spell
 -- a core that gives a layout isn't refused
 pub layout_not_refused : (bytes : List ℕ) (r : Refusal) → Spells bytes HasLayout
     → IsAuditRefusal (Some bytes) r → ⊥
-layout_not_refused bytes r (core, spelled, has) (inl refused) =
-    core_not_refused bytes (core, spelled) (refused.0, refused.1, refused.2)
+layout_not_refused bytes r (core, is, has) (inl told) = file_not_refused bytes core r is told
 layout_not_refused bytes r (core, spelled, (w, valid, layout)) (inr (other, also, refused)) =
-    let (e, none, same) = subst (λ (c : CoreImage). IsLayoutRefusal c r) (core_unique bytes other core also spelled) refused in
+    let (e, none, same) = subst (λ (c : CoreImage). IsLayoutRefusal c r) (file_unique bytes other core also spelled) refused in
     not_both (words_of_core core) w e valid layout none
 
 -- and one that has a verdict gives a layout
@@ -49,7 +45,7 @@ pub missing : Declining None status.NoFile
 missing = (refusal.NoFile input.Core, refl, refl)
 
 pub faulty : (bytes : List ℕ) → HasFault bytes → Declining (Some bytes) status.Core
-faulty bytes (at, why, refused) = (refusal.Core at why, inl (at, why, refused, refl), refl)
+faulty bytes fault = let (r, told) = fault_told bytes fault in (r, inl told, told_status bytes r told)
 
 pub incompatible : (bytes : List ℕ) → Spells bytes IsIncompatible → Declining (Some bytes) status.Incompatible
 incompatible bytes (core, spelled, (e, none, lacks)) =
@@ -61,8 +57,8 @@ wrong bytes (core, spelled, (e, none, is)) =
 
 pub says_wrong : (bytes : List ℕ) (r : Refusal) → IsAuditRefusal (Some bytes) r → status_of r ≡ status.Damaged
     → Spells bytes HasWrongTable
-says_wrong bytes r (inl (at, why, refused, same)) is =
-    let never : status.Core ≡ status.Damaged = ap status_of (sym same) ∙ is in absurd (cc)
+says_wrong bytes r (inl told) is =
+    let never : status.Core ≡ status.Damaged = sym (told_status bytes r told) ∙ is in absurd (cc)
 says_wrong bytes r (inr (core, spelled, (e, none, same))) is = go (either_table e)
   where
     go : LacksTable e ⊎ IsWrongTable e → Spells bytes HasWrongTable

@@ -1,7 +1,6 @@
 -- Two cores have one refusal of `follow` or one answer.
 use Rattle.std.proofs.Common.{◌≡◌, inl, inr, ℕ, List, Option, Some, None, Ok, Err, sym, ◌∙◌, ap, subst}
 use Rattle.omi_corefile.specs.declared.core_image.CoreImage.{CoreImage}
-use Rattle.omi_corefile.proofs.FileLaws.{core_not_refused, core_unique}
 use Rattle.omi_layout.proofs.OneAnswer.{one_cause, one_layout, not_both}
 use Rattle.omi_model.specs.declared.view.View.{View}
 use Rattle.omi_rep.specs.Look.{Look}
@@ -13,7 +12,8 @@ use Rattle.omi_top.specs.Cores.{IsLooked, words_of_core}
 use Rattle.omi_top.specs.Follow.{AreUnlike, IsFollowed, IsLaterRefusal, IsUnfollowed, look_fates}
 use Rattle.omi_top.specs.Questions.{refusal_of_layout}
 use Rattle.omi_top.specs.Shown.{refusal_of_look}
-use Rattle.omi_top.proofs.ShowVerdicts.{one_refusal, one_view, report_not_refused, said_by}
+use Rattle.omi_top.proofs.Files.{file_not_refused, file_unique, one_told}
+use Rattle.omi_top.proofs.ShowVerdicts.{one_refusal, one_view, report_not_refused}
 use Rattle.omi_verbs.specs.declared.refusal.Refusal.{Refusal}
 
 -- ---- one answer of the words of two cores
@@ -68,15 +68,12 @@ one_unfollowed core later r s (inr (inr (e, a, p))) (inr (inr (f, b, q))) =
 one_later : (core : CoreImage) (content : Option (List ℕ)) (r s : Refusal) → IsLaterRefusal core content r
     → IsLaterRefusal core content s → r ≡ s
 one_later core None r s p q = p ∙ sym q
-one_later core (Some bytes) r s (inl (at, why, a, p)) (inl (place, fault, b, q)) =
-    p ∙ ap said_by (sym a ∙ b) ∙ sym q
-one_later core (Some bytes) r s (inl (at, why, a, p)) (inr (later, spelled, b)) =
-    absurd (core_not_refused bytes (later, spelled) (at, why, a))
-one_later core (Some bytes) r s (inr (later, spelled, a)) (inl (at, why, b, q)) =
-    absurd (core_not_refused bytes (later, spelled) (at, why, b))
+one_later core (Some bytes) r s (inl a) (inl b) = one_told bytes r s a b
+one_later core (Some bytes) r s (inl a) (inr (later, is, b)) = absurd (file_not_refused bytes later r is a)
+one_later core (Some bytes) r s (inr (later, is, a)) (inl b) = absurd (file_not_refused bytes later s is b)
 one_later core (Some bytes) r s (inr (later, spelled, a)) (inr (other, also, b)) =
     one_unfollowed core later r s a
-    (subst (λ (c : CoreImage). IsUnfollowed core c s) (core_unique bytes other later also spelled) b)
+    (subst (λ (c : CoreImage). IsUnfollowed core c s) (file_unique bytes other later also spelled) b)
 
 followed_not_refused : (core later : CoreImage) (text : List ℕ) (r : Refusal) → IsFollowed core later (Ok text)
     → IsUnfollowed core later r → ⊥
@@ -98,7 +95,7 @@ one_follow_refusal (Some bytes) later r s (inr (v, (core, spelled, (looked, a)))
     absurd (report_not_refused bytes v s (core, spelled, looked) b)
 one_follow_refusal (Some bytes) later r s (inr (v, (core, spelled, (looked, a)))) (inr (u, (other, also, (seen, b)))) =
     one_later core later r s a
-    (subst (λ (c : CoreImage). IsLaterRefusal c later s) (core_unique bytes other core also spelled) b)
+    (subst (λ (c : CoreImage). IsLaterRefusal c later s) (file_unique bytes other core also spelled) b)
 
 -- a first core that is followed has a report
 looked_of : (core later : CoreImage) (x : Look (List ℕ)) (a : IsFollowed core later x) → IsLooked core (Ok a.view)
@@ -112,13 +109,13 @@ follow_not_refused (Some bytes) None text r answer refuses = absurd answer
 follow_not_refused (Some bytes) (Some others) text r (core, spelled, (later, also, a)) (inl refused) =
     report_not_refused bytes a.view r (core, spelled, looked_of core later (Ok text) a) refused
 follow_not_refused (Some bytes) (Some others) text r (core, spelled, (later, also, a)) (inr (v, (other, same, (looked, b)))) =
-    go (subst (λ (c : CoreImage). IsLaterRefusal c (Some others) r) (core_unique bytes other core same spelled) b)
+    go (subst (λ (c : CoreImage). IsLaterRefusal c (Some others) r) (file_unique bytes other core same spelled) b)
   where
     go : IsLaterRefusal core (Some others) r → ⊥
-    go (inl (at, why, refused, p)) = core_not_refused others (later, also) (at, why, refused)
+    go (inl told) = file_not_refused others later r also told
     go (inr (c, spells, unfollowed)) =
         followed_not_refused core later text r a
-        (subst (λ (x : CoreImage). IsUnfollowed core x r) (core_unique others c later spells also) unfollowed)
+        (subst (λ (x : CoreImage). IsUnfollowed core x r) (file_unique others c later spells also) unfollowed)
 
 -- there is one answer
 pub one_follow_answer : (content later : Option (List ℕ)) (x y : List ℕ) → IsFollowAnswer content later (Gives None (Ok x))
@@ -128,8 +125,8 @@ one_follow_answer (Some bytes) None x y a b = absurd a
 one_follow_answer (Some bytes) (Some others) x y (core, spelled, (later, also, a)) (image, same, (next, still, b)) =
     texts_one x y
     (one_followed core later (Ok x) (Ok y) a
-    (subst (λ (c : CoreImage). IsFollowed c later (Ok y)) (core_unique bytes image core same spelled)
-    (subst (λ (c : CoreImage). IsFollowed image c (Ok y)) (core_unique others next later still also) b)))
+    (subst (λ (c : CoreImage). IsFollowed c later (Ok y)) (file_unique bytes image core same spelled)
+    (subst (λ (c : CoreImage). IsFollowed image c (Ok y)) (file_unique others next later still also) b)))
   where
     texts_one : (u v : List ℕ) → (let gives : List ℕ → Look (List ℕ) = λ t. Ok t in gives u ≡ gives v) → u ≡ v
     texts_one u v same = cc

@@ -5,7 +5,6 @@ use Rattle.std.specs.Global.{Vec}
 use Rattle.std.specs.declared.alloc.Global.{Global}
 use Rattle.omi_calls.specs.Memory.{told_by, usual_sizes}
 use Rattle.omi_calls.specs.Told.{Told as Calls}
-use Rattle.omi_corefile.specs.Spelling.{Core}
 use Rattle.omi_corefile.specs.declared.core_image.CoreImage.{CoreImage}
 use Rattle.omi_handle.specs.Ledger.{Ledger}
 use Rattle.omi_handle.specs.declared.handle.TaskHandle.{TaskHandle}
@@ -28,10 +27,12 @@ use Rattle.omi_session.specs.declared.rc.Rc.{Rc}
 use Rattle.omi_session.specs.declared.rc.Rc.TheVariants as code
 use Rattle.omi_top.proofs.Asking.{IsOfCommand}
 use Rattle.omi_top.proofs.Fates.{names}
+use Rattle.omi_top.proofs.Files.{told_as}
 use Rattle.omi_top.proofs.Opening.{cause_refusal, tells_core}
 use Rattle.omi_top.specs.Answer.{IsAnswered, IsEarly}
 use Rattle.omi_top.specs.Command.{Follow}
 use Rattle.omi_top.specs.Cores.{IsLooked, words_of_core}
+use Rattle.omi_top.specs.Files.{IsFileOf, IsFileRefusal}
 use Rattle.omi_top.specs.Follow.{AreFates, AreFatesOf, AreLines, HoldsEach, IsFollowed, IsKept, IsLaterRefusal, KeepsTasks, look_fates, kept_in, of_later}
 use Rattle.omi_top.specs.Questions.{ComesOfWords, IsAnswerOf, refusal_of_code, refusal_of_layout}
 use Rattle.omi_top.specs.Shown.{refusal_of_look}
@@ -176,6 +177,10 @@ later_of_look : (fault : LookFault) → of_later (refusal_of_look fault) ≡ ref
 later_of_look (look.Damaged addr field) = refl
 later_of_look (look.Cycle addr) = refl
 
+-- what is told of a file is told of the later one
+later_told : (bytes : List ℕ) (r : Refusal) → IsFileRefusal (Some bytes) r → IsFileRefusal (Some bytes) (of_later r)
+later_told bytes r told = told_as of_later (λ at why. refl) (λ at why. refl) bytes r told
+
 pub later_of_command : (r : Refusal) → IsOfCommand r → IsOfCommand (of_later r)
 later_of_command (refusal.NoFile input.Core) is = record { no_usage = λ e. cc; no_write = λ e. cc; no_script = λ e. cc }
 later_of_command (refusal.ReadFault input.Core) is = record { no_usage = λ e. cc; no_write = λ e. cc; no_script = λ e. cc }
@@ -242,13 +247,13 @@ module _ (name later : List ℕ) (told : List ℕ → Told) (content others : Op
     later_refused r first answer = go content is first others also answer
       where
         refused : (bytes : List ℕ) (core : CoreImage) (c : Option (List ℕ)) → told name ≡ Some (Some bytes) → told later ≡ Some c
-            → Core bytes core → KeepsTasks core kept → IsLaterRefusal core c (of_later r)
+            → IsFileOf bytes core → KeepsTasks core kept → IsLaterRefusal core c (of_later r)
             → IsAnswered (Follow name later) told (Err (of_later r)) old old
         refused bytes core c here there spelled keeps why =
             inl (None, (Some bytes, here, c, there, inr (keeps.view, (core, spelled, (looked core keeps, why)))), refl)
 
         fates : (bytes spelt : List ℕ) (core second : CoreImage) → told name ≡ Some (Some bytes)
-            → told later ≡ Some (Some spelt) → Core bytes core → Core spelt second → KeepsTasks core kept
+            → told later ≡ Some (Some spelt) → IsFileOf bytes core → IsFileOf spelt second → KeepsTasks core kept
             → AreFatesOf kept.parted.layout (names kept.tasks) second (Err r)
             → IsAnswered (Follow name later) told (Err (of_later r)) old old
         fates bytes spelt core second here there spelled also_spelled keeps (inl free) = unread_later r free
@@ -269,8 +274,8 @@ module _ (name later : List ℕ) (told : List ℕ → Told) (content others : Op
         go (Some bytes) here (core, spelled, keeps) None there (inl missing) =
             refused bytes core None here there spelled keeps (ap of_later missing)
         go (Some bytes) here (core, spelled, keeps) None there (inr free) = unread_later r free
-        go (Some bytes) here (core, spelled, keeps) (Some spelt) there (inl (at, why, refuses, same)) =
-            refused bytes core (Some spelt) here there spelled keeps (inl (at, why, refuses, ap of_later same))
+        go (Some bytes) here (core, spelled, keeps) (Some spelt) there (inl told) =
+            refused bytes core (Some spelt) here there spelled keeps (inl (later_told spelt r told))
         go (Some bytes) here (core, spelled, keeps) (Some spelt) there (inr (inl free)) = unread_later r free
         go (Some bytes) here (core, spelled, keeps) (Some spelt) there (inr (inr (second, also_spelled, answers))) =
             fates bytes spelt core second here there spelled also_spelled keeps (answers keeps.held)

@@ -4,8 +4,8 @@ use Rattle.std.specs.Global.{Vec}
 use Rattle.omi_outside.specs.Outside.{Told, IsPutCut, put_on}
 use Rattle.omi_outside.specs.declared.status.Status.{Status}
 use Rattle.omi_outside.specs.declared.status.Status.TheVariants as status
-use Rattle.omi_top.specs.Command.{Command, Stop, Make, Show, Run, Recode, Audit, Follow, Faulty, names_of, written_name}
-use Rattle.omi_top.specs.Answer.{Answer, Gives, AreTold, IsAnswer, IsAuditAnswer, IsFollowAnswer, IsStopAnswer, IsMakeAnswer, IsRecodeAnswer, IsRunAnswer, IsShowAnswer, IsAnswered, IsLeft}
+use Rattle.omi_top.specs.Command.{Command, Stop, Make, Show, Run, Recode, Elf, Audit, Follow, Faulty, names_of, written_name}
+use Rattle.omi_top.specs.Answer.{Answer, Gives, AreTold, IsAnswer, IsAuditAnswer, IsFollowAnswer, IsStopAnswer, IsCopyAnswer, IsMakeAnswer, IsRunAnswer, IsShowAnswer, IsAnswered, IsLeft}
 use Rattle.omi_verbs.specs.Said.{IsSaid}
 use Rattle.omi_top.specs.declared.plan.Plan.{Plan}
 use Rattle.omi_layout.specs.declared.fault.LayoutFault.TheVariants.{Version, Overlap, OutOfRecord, BadArena}
@@ -14,8 +14,12 @@ use Rattle.omi_layout.specs.declared.reading.LayoutError.TheVariants as layout
 use Rattle.omi_rep.specs.declared.fault.LookFault.{LookFault}
 use Rattle.omi_rep.specs.declared.fault.LookFault.TheVariants as look
 use Rattle.omi_verbs.specs.Refusal.{refusal_line, status_of}
+use Rattle.omi_top.specs.Elf.{IsElfCopy}
+use Rattle.omi_top.specs.Files.{IsFileRefusal}
 use Rattle.omi_top.specs.Follow.{IsLaterRefusal}
 use Rattle.omi_top.specs.Questions.{refusal_of_layout}
+use Rattle.omi_top.specs.Recode.{IsRecodedCopy}
+use Rattle.omi_top.proofs.Files.{told_holds}
 use Rattle.omi_top.specs.Shown.{refusal_of_look}
 use Rattle.omi_verbs.specs.Statuses.{IsPrinting}
 use Rattle.omi_verbs.specs.declared.refusal.Refusal.{Refusal}
@@ -52,10 +56,16 @@ look_proper : (e : LookFault) → is_fault (refusal_of_look e) ≡ false
 look_proper (look.Damaged addr field) = refl
 look_proper (look.Cycle addr) = refl
 
+-- nor what is told of a file
+told_proper : (bytes : List ℕ) (r : Refusal) → is_fault r ≡ true → IsFileRefusal (Some bytes) r → ⊥
+told_proper bytes r fault told =
+    let proper : is_fault r ≡ false = told_holds (λ (x : Refusal). is_fault x ≡ false) (λ at why. refl) (λ at why. refl) bytes r told in
+    let wrong : true ≡ false = sym fault ∙ proper in cc
+
 show_proper : (content core : Option (List ℕ)) (r : Refusal) → is_fault r ≡ true
     → IsShowAnswer content (Gives core (Err r)) → ⊥
 show_proper None None r fault is = another r _ fault is refl
-show_proper (Some bytes) None r fault (inl (at, why, refused, is)) = another r _ fault is refl
+show_proper (Some bytes) None r fault (inl told) = told_proper bytes r fault told
 show_proper (Some bytes) None r fault (inr (core, spelled, inl (e, none, is))) =
     another r (refusal_of_layout e) fault is (layout_proper e)
 show_proper (Some bytes) None r fault (inr (core, spelled, inr (e, looked, is))) =
@@ -72,17 +82,17 @@ run_proper : (plan : Plan) (text content core : Option (List ℕ)) (r : Refusal)
 run_proper plan text content None r fault is = stop_proper plan text None r fault is
 run_proper plan text content (Some core) r fault (lines, is, said) = show_proper content None r fault said
 
-recode_proper : (order : ℕ) (content copy : Option (List ℕ)) (r : Refusal) → is_fault r ≡ true
-    → IsRecodeAnswer order content (Gives copy (Err r)) → ⊥
-recode_proper order None None r fault is = another r _ fault is refl
-recode_proper order (Some bytes) None r fault (at, why, refused, is) = another r _ fault is refl
-recode_proper order None (Some copy) r fault is = is
-recode_proper order (Some bytes) (Some copy) r fault is = is
+copy_proper : (copies : List ℕ → List ℕ → List ℕ → Type 0) (content copy : Option (List ℕ)) (r : Refusal) → is_fault r ≡ true
+    → IsCopyAnswer copies content (Gives copy (Err r)) → ⊥
+copy_proper copies None None r fault is = another r _ fault is refl
+copy_proper copies (Some bytes) None r fault (at, why, refused, is) = another r _ fault is refl
+copy_proper copies None (Some copy) r fault is = is
+copy_proper copies (Some bytes) (Some copy) r fault is = is
 
 audit_proper : (content core : Option (List ℕ)) (r : Refusal) → is_fault r ≡ true
     → IsAuditAnswer content (Gives core (Err r)) → ⊥
 audit_proper None None r fault is = another r _ fault is refl
-audit_proper (Some bytes) None r fault (inl (at, why, refused, is)) = another r _ fault is refl
+audit_proper (Some bytes) None r fault (inl told) = told_proper bytes r fault told
 audit_proper (Some bytes) None r fault (inr (core, spelled, (e, none, is))) =
     another r (refusal_of_layout e) fault is (layout_proper e)
 audit_proper None (Some core) r fault is = is
@@ -97,7 +107,7 @@ follow_proper (Some bytes) others None r fault (inr (v, (first, spelled, (looked
   where
     later_proper : (o : Option (List ℕ)) → IsLaterRefusal first o r → ⊥
     later_proper None is = another r _ fault is refl
-    later_proper (Some bytes) (inl (at, why, refused, is)) = another r _ fault is refl
+    later_proper (Some bytes) (inl told) = told_proper bytes r fault told
     later_proper (Some bytes) (inr (later, spells, inl (e, none, is))) =
         another r (refusal_of_layout e) fault is (layout_proper e)
     later_proper (Some bytes) (inr (later, spells, inr (inl (unlike, is)))) = another r _ fault is refl
@@ -121,7 +131,8 @@ proper (Show written) told core r fault (content, is, answer) = show_proper cont
 proper (Run plan script written) told core r fault (text, here, content, is, answer) =
     run_proper plan text content core r fault answer
 proper (Recode order read copy) told core r fault (content, is, answer) =
-    recode_proper order content core r fault answer
+    copy_proper (IsRecodedCopy order) content core r fault answer
+proper (Elf read copy) told core r fault (content, is, answer) = copy_proper IsElfCopy content core r fault answer
 proper (Audit written) told core r fault (content, is, answer) = audit_proper content core r fault answer
 proper (Follow first later) told core r fault (content, is, others, here, answer) =
     follow_proper content others core r fault answer
@@ -170,6 +181,11 @@ module _ (command : Command) (told : List ℕ → Told) (old new : Told) (counte
   err_left (refusal.Core at why) (inr (inl (early, same))) said = absurd early
   err_left (refusal.Core at why) (inr (inr (inl (late, half)))) said = absurd late
   err_left (refusal.Core at why) (inr (inr (inr (behind, whole)))) said = absurd behind
+  err_left (refusal.Elf at why) (inl (core, is, held)) said =
+      (refusal.Elf at why, refl, core, is, held, said)
+  err_left (refusal.Elf at why) (inr (inl (early, same))) said = absurd early
+  err_left (refusal.Elf at why) (inr (inr (inl (late, half)))) said = absurd late
+  err_left (refusal.Elf at why) (inr (inr (inr (behind, whole)))) said = absurd behind
   err_left (refusal.Damaged addr field) (inl (core, is, held)) said =
       (refusal.Damaged addr field, refl, core, is, held, said)
   err_left (refusal.Damaged addr field) (inr (inl (early, same))) said = absurd early

@@ -1,24 +1,22 @@
 -- What the clauses of the top call say of `audit`, from what it leaves.
 use Rattle.std.proofs.Common.{◌≡◌, inl, inr, ℕ, List, Option, Some, None, Ok, Err, sym, ◌∙◌, ap, subst}
-use Rattle.omi_audit.specs.Promise.{ShowReached}
-use Rattle.omi_audit.specs.Verdicts.{verdict}
 use Rattle.omi_audit.specs.declared.verdict.Verdict.{Verdict}
 use Rattle.omi_audit.specs.declared.verdict.Verdict.TheVariants.{Yes, No}
 use Rattle.omi_audit.proofs.Verdicts.{reached_yes, yes_shows}
 use Rattle.omi_outside.specs.Outside.{Told, put_on}
 use Rattle.omi_outside.specs.declared.status.Status.{Status}
 use Rattle.omi_outside.specs.declared.status.Status.TheVariants as status
-use Rattle.omi_corefile.specs.Spelling.{Core}
 use Rattle.omi_corefile.specs.declared.core_image.CoreImage.{CoreImage}
-use Rattle.omi_corefile.proofs.FileLaws.{core_unique}
 use Rattle.omi_layout.proofs.OneAnswer.{one_layout}
 use Rattle.omi_rep.specs.Shows.{Shows}
-use Rattle.omi_top.specs.Answer.{Answer, Gives, IsAnswer, IsApproved, IsAuditAnswer, IsAuditOf, IsAuditRefusal, IsDoneOrFailed, IsLeft, IsRefused}
+use Rattle.omi_top.specs.Answer.{Answer, Gives, IsAnswer, IsApproved, IsAuditAnswer, IsAuditRefusal, IsDoneOrFailed, IsLeft, IsRefused}
 use Rattle.omi_top.specs.Audit.{IsAudited, ShowsWhereYes, audit_line}
 use Rattle.omi_top.specs.Command.{Audit}
 use Rattle.omi_top.specs.Cores.{HasLayout, HasWrongTable, IsIncompatible, ShowsReached, Spells, words_of_core}
 use Rattle.omi_top.proofs.AuditVerdicts.{Declining, all_declining, audited_layout, faulty, incompatible as incompatible_refused, layout_not_refused, missing, refused_by_show, says_wrong, wrong}
-use Rattle.omi_top.proofs.ShowVerdicts.{HasFault, says_core, says_incompatible, says_missing}
+use Rattle.omi_top.specs.Files.{HasFault, IsFileOf}
+use Rattle.omi_top.proofs.Files.{file_unique}
+use Rattle.omi_top.proofs.ShowVerdicts.{says_core, says_incompatible, says_missing}
 use Rattle.omi_top.proofs.Statuses.{DidMore, DoesMore, IsDoneStatus, one_content, comes_where, never_refused as nothing_refused, written_more}
 use Rattle.omi_verbs.specs.Refusal.{status_of}
 use Rattle.omi_verbs.specs.Statuses.{ComesWhere, IsFaultStatus}
@@ -109,7 +107,7 @@ module _ (core : List ℕ) (told : List ℕ → Told) (old new : Told) (counted 
       (λ r refuses. says_missing content r (refused_by_show content r refuses))
       (λ none. subst (λ (c : Option (List ℕ)). Declining c status.NoFile) (sym none) missing)
 
-  -- the grammar of core files refuses exactly where the status says so
+  -- the file has a fault of its format exactly where the status says so
   pub core_refused : (s : Status) (bytes : List ℕ) → told core ≡ Some (Some bytes)
       → IsLeft (Audit core) told s old new counted out after → ComesWhere status.Core s (HasFault bytes)
   core_refused s bytes is =
@@ -142,7 +140,7 @@ module _ (core : List ℕ) (told : List ℕ → Told) (old new : Told) (counted 
   -- what success puts
   abbrev Judged : List ℕ → Type 0
   Judged bytes =
-      (image : CoreImage) × (v : Verdict) × Core bytes image × IsAudited image v × (after ≡ put_on out (audit_line v))
+      (image : CoreImage) × (v : Verdict) × IsFileOf bytes image × IsAudited image v × (after ≡ put_on out (audit_line v))
       × ShowsWhereYes image v
 
   put_by : (bytes : List ℕ) → told core ≡ Some (Some bytes)
@@ -161,7 +159,7 @@ module _ (core : List ℕ) (told : List ℕ → Told) (old new : Told) (counted 
 
   -- of words that show a state which events reach the verdict is Yes
   module _ (bytes : List ℕ) (is : told core ≡ Some (Some bytes)) (image : CoreImage)
-      (spelled : Core bytes image) (r : ShowsReached image) where
+      (spelled : IsFileOf bytes image) (r : ShowsReached image) where
     never_refused : {C : Type 0} (s : Status) → IsRefused (Audit core) told s old new counted out after → C
     never_refused s (why, same, written, answer, held, said) =
         absurd
@@ -176,7 +174,7 @@ module _ (core : List ℕ) (told : List ℕ → Told) (old new : Told) (counted 
     pub approved : (s : Status) → IsLeft (Audit core) told s old new counted out after → IsApproved s out after
     approved status.Success left =
         let (other, v, also, audited, put, shows) = put_by bytes is left in
-        approved_by v (subst (λ (c : CoreImage). IsAudited c v) (core_unique bytes other image also spelled) audited) put
+        approved_by v (subst (λ (c : CoreImage). IsAudited c v) (file_unique bytes other image also spelled) audited) put
     approved status.ReadFault left = tt
     approved status.WriteFault left = tt
     approved status.OutOfMemory left = tt

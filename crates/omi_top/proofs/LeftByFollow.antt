@@ -3,7 +3,6 @@ use Rattle.std.proofs.Common.{◌≡◌, inl, inr, ℕ, List, Option, Some, None
 use Rattle.omi_outside.specs.Outside.{Told, put_on}
 use Rattle.omi_outside.specs.declared.status.Status.{Status}
 use Rattle.omi_outside.specs.declared.status.Status.TheVariants as status
-use Rattle.omi_corefile.specs.Spelling.{Core}
 use Rattle.omi_corefile.specs.declared.core_image.CoreImage.{CoreImage}
 use Rattle.omi_model.specs.Views.{IsViewOf}
 use Rattle.omi_model.specs.declared.view.View.{View}
@@ -14,6 +13,8 @@ use Rattle.omi_top.specs.Between.{AreOfOneRun, AreStops, IsFollowedFrom, events_
 use Rattle.omi_top.specs.Command.{Follow}
 use Rattle.omi_top.specs.declared.plan.Plan.{Plan}
 use Rattle.omi_top.proofs.Between.{followed_stops}
+use Rattle.omi_top.specs.Files.{IsFileOf}
+use Rattle.omi_top.proofs.Files.{core_is_file}
 use Rattle.omi_top.proofs.FollowVerdicts.{follow_not_refused, one_follow_answer, one_follow_refusal}
 use Rattle.omi_top.proofs.Statuses.{DidMore, DoesMore, IsDoneStatus, one_content, comes_where, never_refused, written_more}
 use Rattle.omi_top.proofs.TwoStops.{by_runs, stops_of}
@@ -122,7 +123,7 @@ module _ (core later : List ℕ) (told : List ℕ → Told) (old new : Told) (co
   -- ---- two stops of one run
 
   module _ (bytes spelt : List ℕ) (content_is : content ≡ Some bytes) (others_is : others ≡ Some spelt)
-      (image next : CoreImage) (spelled : Core bytes image) (also_spelled : Core spelt next)
+      (image next : CoreImage) (spelled : IsFileOf bytes image) (also_spelled : IsFileOf spelt next)
       (stops : AreStops image next) where
     answer : (v : View) × IsViewOf stops.state image.contexts v
         × IsFollowAnswer content others (Gives None (Ok (fates_after stops.between (task_names v))))
@@ -162,5 +163,6 @@ module _ (core later : List ℕ) (told : List ℕ → Told) (old new : Told) (co
       subst (λ (ids : List ℕ). IsFollowedFrom a.state (events_between a.entries b.entries) ids s out after)
       a.core_of.image.contexts_are
       (by_runs p plan next bytes text spelt more a b one a.core_of.core.contexts s out after
-      (followed_from bytes spelt content_is others_is a.core_of.core b.core_of.core a.core_of.spelled b.core_of.spelled
+      (followed_from bytes spelt content_is others_is a.core_of.core b.core_of.core
+      (core_is_file bytes a.core_of.core a.core_of.spelled) (core_is_file spelt b.core_of.core b.core_of.spelled)
       (stops_of p plan next bytes text spelt more a b one) s left))

@@ -10,7 +10,6 @@ use Rattle.omi_script.specs.Grammar.{Grammar, Refused}
 use Rattle.omi_script.specs.declared.fault.ScriptFault.{ScriptFault}
 use Rattle.omi_script.specs.declared.program.Program.{Program}
 use Rattle.omi_script.proofs.VerdictLemmas.{not_both}
-use Rattle.omi_corefile.proofs.FileLaws.{core_unique}
 use Rattle.omi_top.specs.Answer.{Answer, Gives, ComesBehind, IsAnswer, IsDoneOrFailed, IsLeft, IsOutsideStatus, IsReadBackStatus, IsRefused, IsReportOf, IsRunAnswer, IsRunShown, IsShowAnswer, IsShowRefusal, IsStopAnswer, IsStopped}
 use Rattle.omi_verbs.specs.Statuses.{ComesWhere}
 use Rattle.omi_verbs.specs.Scripts.{HoldsProgram, IsScriptRefusal}
@@ -20,7 +19,9 @@ use Rattle.omi_verbs.specs.Refusal.{status_of}
 use Rattle.omi_top.specs.declared.plan.Plan.{Plan}
 use Rattle.omi_verbs.specs.declared.refusal.Refusal.{Refusal}
 use Rattle.omi_top.proofs.LeftByShow.{HasReport, looked_shown, not_refused, run_shown, shown_looked}
-use Rattle.omi_top.proofs.ShowVerdicts.{HasFault, Refusing, all_refusing, damaged as damaged_refused, faulty, incompatible as incompatible_refused, kinds, missing, report_not_refused, says_core, says_damaged, says_incompatible, says_missing}
+use Rattle.omi_top.specs.Files.{HasFault}
+use Rattle.omi_top.proofs.Files.{core_is_file, file_unique}
+use Rattle.omi_top.proofs.ShowVerdicts.{Refusing, all_refusing, damaged as damaged_refused, faulty, incompatible as incompatible_refused, kinds, missing, report_not_refused, says_core, says_damaged, says_incompatible, says_missing}
 use Rattle.omi_top.proofs.Statuses.{DidMore, DoesMore, SaysWith, comes_where, never_refused as nothing_refused, one_content}
 
 -- the script has a fault
@@ -416,7 +417,7 @@ module _ (plan : Plan) (script core : List ℕ) (told : List ℕ → Told) (old 
           let run : IsStopped p plan bytes lines = own p written lines held stopped in
           let (v, looked, view) =
           shown_looked run.core_of.core run.state (run_shown p plan bytes lines run) in
-          report_not_refused bytes v r (run.core_of.core, run.core_of.spelled, looked) refuses
+          report_not_refused bytes v r (run.core_of.core, core_is_file bytes run.core_of.core run.core_of.spelled, looked) refuses
 
       pub shown : (s : Status) → IsLeft (Run plan script core) told s old new counted out after
           → IsRunShown text plan bytes s out after
@@ -426,7 +427,7 @@ module _ (plan : Plan) (script core : List ℕ) (told : List ℕ → Told) (old 
           let run : IsStopped p plan bytes lines = own p written lines held stopped in
           let here : IsLooked run.core_of.core (Ok v) =
           subst (λ (c : CoreImage). IsLooked c (Ok v))
-          (core_unique bytes image run.core_of.core spelled run.core_of.spelled) looked in
+          (file_unique bytes image run.core_of.core spelled (core_is_file bytes run.core_of.core run.core_of.spelled)) looked in
           let view : IsViewOf run.state run.core_of.core.contexts v =
           looked_shown run.core_of.core v here run.state (run_shown p plan bytes lines run) in
           (p, lines, grammar, run, v, subst (λ (ids : List ℕ). IsViewOf run.state ids v) run.core_of.image.contexts_are view, put ∙ ap (λ (t : List ℕ). put_on out (lines ++ t)) report_is)

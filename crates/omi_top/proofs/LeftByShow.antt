@@ -3,9 +3,7 @@ use Rattle.std.proofs.Common.{◌≡◌, inl, inr, ℕ, List, Option, Some, None
 use Rattle.omi_outside.specs.Outside.{Told, put_on}
 use Rattle.omi_outside.specs.declared.status.Status.{Status}
 use Rattle.omi_outside.specs.declared.status.Status.TheVariants as status
-use Rattle.omi_corefile.specs.Spelling.{Core}
 use Rattle.omi_corefile.specs.declared.core_image.CoreImage.{CoreImage}
-use Rattle.omi_corefile.proofs.FileLaws.{core_unique}
 use Rattle.omi_text.specs.Report.{report}
 use Rattle.omi_word.specs.Words.{Words}
 use Rattle.omi_core.specs.Runs.{events_in}
@@ -26,7 +24,9 @@ use Rattle.omi_verbs.specs.Refusal.{status_of}
 use Rattle.omi_verbs.specs.Cores.{IsReachedCore, thread_ids}
 use Rattle.omi_verbs.proofs.ImageWords.{image_words}
 use Rattle.omi_rep.proofs.shown.ShownViews.{shown_looked as shown_look}
-use Rattle.omi_top.proofs.ShowVerdicts.{HasFault, Refusing, all_refusing, damaged as damaged_refused, faulty, incompatible as incompatible_refused, missing, one_looked, one_view, report_not_refused, says_core, says_damaged, says_incompatible, says_missing}
+use Rattle.omi_top.specs.Files.{HasFault, IsFileOf}
+use Rattle.omi_top.proofs.Files.{core_is_file, file_unique}
+use Rattle.omi_top.proofs.ShowVerdicts.{Refusing, all_refusing, damaged as damaged_refused, faulty, incompatible as incompatible_refused, missing, one_looked, one_view, report_not_refused, says_core, says_damaged, says_incompatible, says_missing}
 use Rattle.omi_top.proofs.Recoded.{one_report}
 use Rattle.omi_top.proofs.Statuses.{DidMore, DoesMore, IsDoneStatus, one_content, comes_where, never_refused as nothing_refused, written_more}
 
@@ -138,7 +138,7 @@ module _ (core : List ℕ) (told : List ℕ → Told) (old new : Told) (counted 
       comes content is status.NoFile s (content ≡ None) (λ no. no) (λ no. no) (says_missing content)
       (λ none. subst (λ (c : Option (List ℕ)). Refusing c status.NoFile) (sym none) missing)
 
-  -- the grammar of core files refuses exactly where the status says so
+  -- the file has a fault of its format exactly where the status says so
   pub core_refused : (s : Status) (bytes : List ℕ) → told core ≡ Some (Some bytes)
       → IsLeft (Show core) told s old new counted out after → ComesWhere status.Core s (HasFault bytes)
   core_refused s bytes is =
@@ -171,7 +171,7 @@ module _ (core : List ℕ) (told : List ℕ → Told) (old new : Told) (counted 
   -- what success puts
   abbrev Reported : List ℕ → Type 0
   Reported bytes =
-      (image : CoreImage) × (v : View) × Core bytes image × IsLooked image (Ok v) × (after ≡ put_on out (report v))
+      (image : CoreImage) × (v : View) × IsFileOf bytes image × IsLooked image (Ok v) × (after ≡ put_on out (report v))
       × ((s : State) → ShowsState image s → IsViewOf s image.contexts v)
 
   put_by : (bytes : List ℕ) → told core ≡ Some (Some bytes)
@@ -190,7 +190,7 @@ module _ (core : List ℕ) (told : List ℕ → Told) (old new : Told) (counted 
 
   -- what is put of a core whose words show a state
   module _ (bytes : List ℕ) (is : told core ≡ Some (Some bytes)) (image : CoreImage)
-      (spelled : Core bytes image) (state : State) (shows : ShowsState image state) where
+      (spelled : IsFileOf bytes image) (state : State) (shows : ShowsState image state) where
     never_refused : {C : Type 0} (s : Status) → IsRefused (Show core) told s old new counted out after → C
     never_refused s (r, same, written, answer, held, said) =
         let (v, looked, view) = shown_looked image state shows in
@@ -201,7 +201,7 @@ module _ (core : List ℕ) (told : List ℕ → Told) (old new : Told) (counted 
         → IsShown state image.contexts s out after
     shown status.Success left =
         let (other, v, also, looked, put, views) = put_by bytes is left in
-        (v, looked_shown image v (subst (λ (c : CoreImage). IsLooked c (Ok v)) (core_unique bytes other image also spelled) looked) state shows, put)
+        (v, looked_shown image v (subst (λ (c : CoreImage). IsLooked c (Ok v)) (file_unique bytes other image also spelled) looked) state shows, put)
     shown status.ReadFault left = tt
     shown status.WriteFault left = tt
     shown status.OutOfMemory left = tt
@@ -243,7 +243,7 @@ module _ (core : List ℕ) (told : List ℕ → Told) (old new : Told) (counted 
       → IsLeft (Show core) told s old new counted out after → IsShown state ids s out after
   shown_reached s bytes is p ids state r left =
       subst (λ (xs : List ℕ). IsShown state xs s out after) r.core_of.image.contexts_are
-      (shown bytes is r.core_of.core r.core_of.spelled state (reached_shown p ids bytes state r) s left)
+      (shown bytes is r.core_of.core (core_is_file bytes r.core_of.core r.core_of.spelled) state (reached_shown p ids bytes state r) s left)
 
   pub shown_again : (s : Status) (bytes : List ℕ) → told core ≡ Some (Some bytes)
       → (p : Program) (plan : Plan) (text : List ℕ) (run : IsStopped p plan bytes text)

@@ -3,13 +3,14 @@ pub mod Running
 pub mod Stopping
 pub mod MadeTexts
 pub mod Making
-pub mod Recoding
+pub mod Files
+pub mod Copying
 pub mod Statuses
 pub mod Causes
 pub mod Left
 pub mod LeftByStop
 pub mod LeftByMake
-pub mod LeftByRecode
+pub mod LeftByCopy
 pub mod Asking
 pub mod Showing
 pub mod Opening

@@ -1,5 +1,5 @@
 -- The texts of `make`: what stands around the number, and that each is a program.
-use Rattle.std.proofs.Common.{◌≡◌, ◌≤◌, ◌<◌, ◌+◌, ◌++◌, ◌∷◌, [], ℕ, true, false, List, length, Option, Some, None, refl, subst, sym, ap, ◌∙◌, arith, append_assoc, codes, if◌then◌else◌}
+use Rattle.std.proofs.Common.{◌≡◌, ◌≤◌, ◌+◌, ◌++◌, ◌∷◌, [], ℕ, true, false, List, length, Some, refl, subst, sym, ap, ◌∙◌, arith, append_assoc, codes, if◌then◌else◌}
 use Rattle.std.specs.Prelude.{flat_map, nat_le}
 use Rattle.std.specs.Fmt.{decimal, digits}
 use Rattle.std.proofs.lemmas.Bool.{le-leb}
@@ -9,7 +9,7 @@ use Rattle.omi_script.specs.Grammar.{Refused}
 use Rattle.omi_script.specs.Lines.{lines}
 use Rattle.omi_script.specs.Names.{name_of}
 use Rattle.omi_script.specs.ParserState.{first_state, no_head}
-use Rattle.omi_script.specs.Verdict.{Accepts, Refuses, Verdict, judge, verdict}
+use Rattle.omi_script.specs.Verdict.{Accepts, Refuses, judge, verdict}
 use Rattle.omi_script.specs.declared.fault.ScriptFault.{ScriptFault}
 use Rattle.omi_script.specs.declared.fault.Why.TheVariants.{OverLimit}
 use Rattle.omi_script.specs.declared.function.Func.{Func}

@@ -1,12 +1,12 @@
--- A core and its copy in either order are the same to `show`, which depends on contexts and segments alone.
-use Rattle.std.proofs.Common.{◌≡◌, ◌⊎◌, inl, inr, ℕ, List, Option, Some, None, Ok, Err, sym, ◌∙◌, ap, subst}
-use Rattle.std.specs.Prelude.{◌↔◌, Result}
+-- Files that stand for cores with the same contexts and words are the same to `show`.
+use Rattle.std.proofs.Common.{◌≡◌, inl, inr, ℕ, List, Some, None, Ok, Err, refl, sym, ◌∙◌, ap, subst}
 use Rattle.omi_calls.specs.CoreWords.{words_of_segments as segment_words}
 use Rattle.omi_calls.specs.Told.{aligned_word_at}
-use Rattle.omi_corefile.proofs.FileLaws.{core_not_refused, core_unique}
-use Rattle.omi_corefile.specs.Spelling.{Core}
+use Rattle.omi_corefile.specs.Spelling.{spelling}
 use Rattle.omi_corefile.specs.declared.core_image.CoreImage.{CoreImage}
 use Rattle.omi_corefile.specs.declared.segment.Segment.{Segment}
+use Rattle.omi_elf.specs.ElfCore.{ElfCore}
+use Rattle.omi_elf.proofs.WrittenCore.{written_core}
 use Rattle.omi_layout.specs.Given.{GivesLayout}
 use Rattle.omi_layout.specs.NoLayout.{GivesNone}
 use Rattle.omi_model.specs.declared.view.View.{View}
@@ -16,91 +16,104 @@ use Rattle.omi_text.specs.Report.{report}
 use Rattle.omi_word.specs.Words.{Words}
 use Rattle.omi_top.specs.Answer.{Answer, Gives, IsReportOf, IsShowAnswer, IsShowRefusal}
 use Rattle.omi_top.specs.Cores.{IsLooked, Spells, words_of_core}
+use Rattle.omi_top.specs.Elf.{IsElfCopy}
+use Rattle.omi_top.specs.Files.{IsFileOf}
 use Rattle.omi_top.specs.Recode.{IsRecoded}
+use Rattle.omi_top.specs.Recoded.{AreAlike, HaveOneAnswer}
+use Rattle.omi_top.proofs.Files.{core_is_file, elf_is_file, file_not_refused, file_unique}
 use Rattle.omi_top.specs.Shown.{IsRefusedCore}
 use Rattle.omi_top.proofs.ShowVerdicts.{one_looked, one_refusal, one_view, report_not_refused}
 use Rattle.omi_verbs.specs.declared.refusal.Refusal.{Refusal}
 
--- ---- two cores with the same contexts and segments
+-- ---- two cores with the same contexts and words
 
--- the second has what the first has
-record AreAlike (core other : CoreImage) : Type 0 where
-  pub contexts : core.contexts ≡ other.contexts
-  pub segments : core.segments ≡ other.segments
+looked_alike : (core other : CoreImage) → other.contexts ≡ core.contexts → words_of_core other ≡ words_of_core core
+    → (x : Look View) → IsLooked core x → IsLooked other x
+looked_alike core other contexts words x looked = record {
+  w = looked.w;
+  valid = looked.valid;
+  layout = subst (λ (ws : Words). GivesLayout ws looked.w) (sym words) looked.layout;
+  is = (λ i. look_view looked.w (words i) (contexts i)) ∙ looked.is;
+}
 
-back : (core other : CoreImage) → AreAlike core other → AreAlike other core
-back core other alike = record { contexts = sym alike.contexts; segments = sym alike.segments }
+refused_alike : (core other : CoreImage) → other.contexts ≡ core.contexts → words_of_core other ≡ words_of_core core
+    → (r : Refusal) → IsRefusedCore core r → IsRefusedCore other r
+refused_alike core other contexts words r (inl (cause, none, is)) =
+    inl (cause, subst (λ (ws : Words). GivesNone ws cause) (sym words) none, is)
+refused_alike core other contexts words r (inr (fault, looked, is)) =
+    inr (fault, looked_alike core other contexts words (Err fault) looked, is)
 
-same_words : (core other : CoreImage) → AreAlike core other → words_of_core core ≡ words_of_core other
-same_words core other alike =
-    ap (λ (ss : List Segment). aligned_word_at (segment_words ss)) alike.segments
-
-looked_alike : (core other : CoreImage) → AreAlike core other → (x : Look View) → IsLooked core x
-    → IsLooked other x
-looked_alike core other alike x looked =
-    let words = same_words core other alike in
-    record {
-      w = looked.w;
-      valid = looked.valid;
-      layout = subst (λ (ws : Words). GivesLayout ws looked.w) words looked.layout;
-      is = sym (λ i. look_view looked.w (words i) (alike.contexts i)) ∙ looked.is;
-    }
-
-refused_alike : (core other : CoreImage) → AreAlike core other → (r : Refusal) → IsRefusedCore core r
-    → IsRefusedCore other r
-refused_alike core other alike r (inl (cause, none, is)) =
-    inl (cause, subst (λ (ws : Words). GivesNone ws cause) (same_words core other alike) none, is)
-refused_alike core other alike r (inr (fault, looked, is)) =
-    inr (fault, looked_alike core other alike (Err fault) looked, is)
-
--- what holds of the core that a file spells
-spelled_as : (bytes : List ℕ) (core : CoreImage) (P : CoreImage → Type 0) → Core bytes core → Spells bytes P
+-- what holds of the core that a file stands for
+spelled_as : (bytes : List ℕ) (core : CoreImage) (P : CoreImage → Type 0) → IsFileOf bytes core → Spells bytes P
     → P core
-spelled_as bytes core P spelled (other, also, holds) =
-    subst P (core_unique bytes other core also spelled) holds
+spelled_as bytes core P is (other, also, holds) = subst P (file_unique bytes other core also is) holds
 
 -- ---- the files of two such cores
 
-module _ (bytes copy : List ℕ) (core other : CoreImage) (spelled : Core bytes core)
-    (copied : Core copy other) (alike : AreAlike core other) where
-  report_alike : (text : List ℕ) → IsReportOf bytes text → IsReportOf copy text
-  report_alike text (v, spells, is) =
-      (v, (other, copied, looked_alike core other alike (Ok v) (spelled_as bytes core (λ c. IsLooked c (Ok v)) spelled spells)), is)
+pub back : (bytes other : List ℕ) → AreAlike bytes other → AreAlike other bytes
+back bytes other alike = record {
+  core = alike.second;
+  is = alike.also;
+  second = alike.core;
+  also = alike.is;
+  contexts = sym alike.contexts;
+  words = sym alike.words;
+}
 
-  refusal_alike : (r : Refusal) → IsShowRefusal (Some bytes) r → IsShowRefusal (Some copy) r
-  refusal_alike r (inl (at, why, refused, is)) =
-      absurd (core_not_refused bytes (core, spelled) (at, why, refused))
+module _ (bytes other : List ℕ) (alike : AreAlike bytes other) where
+  pub report_alike : (text : List ℕ) → IsReportOf bytes text → IsReportOf other text
+  report_alike text (v, spells, is) =
+      (v, (alike.second, alike.also, looked_alike alike.core alike.second alike.contexts alike.words (Ok v) (spelled_as bytes alike.core (λ c. IsLooked c (Ok v)) alike.is spells)), is)
+
+  refusal_alike : (r : Refusal) → IsShowRefusal (Some bytes) r → IsShowRefusal (Some other) r
+  refusal_alike r (inl told) = absurd (file_not_refused bytes alike.core r alike.is told)
   refusal_alike r (inr spells) =
       inr
-      (other, copied, refused_alike core other alike r (spelled_as bytes core (λ c. IsRefusedCore c r) spelled spells))
+      (alike.second, alike.also, refused_alike alike.core alike.second alike.contexts alike.words r (spelled_as bytes alike.core (λ c. IsRefusedCore c r) alike.is spells))
 
-  answer_alike : (a : Answer) → IsShowAnswer (Some bytes) a → IsShowAnswer (Some copy) a
+  answer_alike : (a : Answer) → IsShowAnswer (Some bytes) a → IsShowAnswer (Some other) a
   answer_alike (Gives None (Ok text)) said = report_alike text said
   answer_alike (Gives None (Err r)) said = refusal_alike r said
   answer_alike (Gives (Some written) (Ok text)) said = absurd said
   answer_alike (Gives (Some written) (Err r)) said = absurd said
 
-recoded_alike : (order : ℕ) (bytes copy : List ℕ) (r : IsRecoded order bytes copy) → AreAlike r.core r.other
-recoded_alike order bytes copy r = record { contexts = sym r.contexts_are; segments = sym r.segments_are }
+pub shows_alike : (bytes other : List ℕ) → AreAlike bytes other → HaveOneAnswer bytes other
+shows_alike bytes other alike a =
+    (answer_alike bytes other alike a, answer_alike other bytes (back bytes other alike) a)
 
-pub shows_alike : (order : ℕ) (bytes copy : List ℕ) → IsRecoded order bytes copy → (a : Answer)
-    → IsShowAnswer (Some bytes) a ↔ IsShowAnswer (Some copy) a
-shows_alike order bytes copy r a =
-    let alike = recoded_alike order bytes copy r in
-    (answer_alike bytes copy r.core r.other r.spelled r.copied alike a, answer_alike copy bytes r.other r.core r.copied r.spelled (back r.core r.other alike) a)
+-- ---- files of one core
 
--- so the report of a core is that of its copy
-pub copy_reported : (order : ℕ) (bytes copy text : List ℕ) → IsRecoded order bytes copy → IsReportOf bytes text
-    → IsReportOf copy text
-copy_reported order bytes copy text r =
-    report_alike bytes copy r.core r.other r.spelled r.copied (recoded_alike order bytes copy r) text
+-- two files that stand for cores with the same contexts and segments
+same_segments : (bytes other : List ℕ) (core second : CoreImage) → IsFileOf bytes core → IsFileOf other second
+    → second.contexts ≡ core.contexts → second.segments ≡ core.segments → AreAlike bytes other
+same_segments bytes other core second is also contexts segments = record {
+  core = core;
+  is = is;
+  second = second;
+  also = also;
+  contexts = contexts;
+  words = ap (λ (ss : List Segment). aligned_word_at (segment_words ss)) segments;
+}
+
+pub recoded_alike : (order : ℕ) (bytes copy : List ℕ) → IsRecoded order bytes copy → AreAlike bytes copy
+recoded_alike order bytes copy r =
+    same_segments bytes copy r.core r.other (core_is_file bytes r.core r.spelled) (core_is_file copy r.other r.copied) r.contexts_are r.segments_are
+
+pub elf_alike : (bytes : List ℕ) (core : CoreImage) → ElfCore bytes core → AreAlike bytes (spelling core)
+elf_alike bytes core is =
+    same_segments bytes (spelling core) core core (elf_is_file bytes core is) (core_is_file (spelling core) core refl) refl refl
+
+pub elf_copy_alike : (bytes copy line : List ℕ) → IsElfCopy bytes copy line → AreAlike bytes copy
+elf_copy_alike bytes copy line r =
+    same_segments bytes copy r.core r.core (core_is_file bytes r.core r.spelled)
+    (elf_is_file copy r.core (subst (λ (xs : List ℕ). ElfCore xs r.core) (sym r.copied) (written_core r.core))) refl refl
 
 -- ---- one answer
 
 -- a file has one report
 pub one_report : (bytes text other : List ℕ) → IsReportOf bytes text → IsReportOf bytes other → text ≡ other
-one_report bytes text other (v, (core, spelled, looked), is) (u, spells, also) =
-    let there = spelled_as bytes core (λ c. IsLooked c (Ok u)) spelled spells in
+one_report bytes text other (v, (core, stands, looked), is) (u, spells, also) =
+    let there = spelled_as bytes core (λ c. IsLooked c (Ok u)) stands spells in
     is ∙ ap report (one_view v u (one_looked core (Ok v) (Ok u) looked there)) ∙ sym also
 
 pub one_answer : (bytes : List ℕ) (a b : Answer) → IsShowAnswer (Some bytes) a → IsShowAnswer (Some bytes) b

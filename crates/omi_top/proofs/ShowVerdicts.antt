@@ -1,12 +1,8 @@
 -- A core has one refusal or one report: what each says of its bytes and of its words.
 use Rattle.std.proofs.Common.{◌≡◌, ◌⊎◌, inl, inr, ℕ, List, Option, Some, None, Ok, Err, refl, sym, ◌∙◌, ap, subst}
-use Rattle.std.specs.Prelude.{Result}
 use Rattle.omi_outside.specs.declared.status.Status.{Status}
 use Rattle.omi_outside.specs.declared.status.Status.TheVariants as status
-use Rattle.omi_corefile.specs.Refusals.{CoreRefused, ReadRefusal as Reason}
 use Rattle.omi_corefile.specs.declared.core_image.CoreImage.{CoreImage}
-use Rattle.omi_corefile.specs.declared.fault.CoreFault.{CoreFault}
-use Rattle.omi_corefile.proofs.FileLaws.{core_not_refused, core_unique}
 use Rattle.omi_layout.specs.declared.fault.LayoutFault.TheVariants.{Version, Overlap, OutOfRecord, BadArena}
 use Rattle.omi_layout.specs.declared.reading.LayoutError.{LayoutError}
 use Rattle.omi_layout.specs.declared.reading.LayoutError.TheVariants as error
@@ -17,6 +13,8 @@ use Rattle.omi_rep.specs.LookView.{look_view}
 use Rattle.omi_rep.specs.declared.fault.LookFault.{LookFault}
 use Rattle.omi_rep.specs.declared.fault.LookFault.TheVariants as look
 use Rattle.omi_top.specs.Answer.{IsShowRefusal}
+use Rattle.omi_top.proofs.Files.{fault_told, file_not_refused, file_unique, one_told, says_fault, told_status}
+use Rattle.omi_top.specs.Files.{HasFault}
 use Rattle.omi_top.specs.Cores.{IsDamaged, IsIncompatible, IsLooked, IsWrongTable, LacksTable, Spells, words_of_core}
 use Rattle.omi_top.specs.Questions.{refusal_of_layout}
 use Rattle.omi_top.specs.Shown.{refusal_of_look, IsRefusedCore}
@@ -24,10 +22,6 @@ use Rattle.omi_verbs.specs.Refusal.{status_of}
 use Rattle.omi_verbs.specs.declared.refusal.Input.TheVariants as input
 use Rattle.omi_verbs.specs.declared.refusal.Refusal.{Refusal}
 use Rattle.omi_verbs.specs.declared.refusal.Refusal.TheVariants as refusal
-
--- no file is a core and has a fault
-abbrev pub HasFault : List ℕ → Type 0
-HasFault bytes = (at : ℕ) × (why : CoreFault) × CoreRefused bytes at why
 
 -- ---- one answer
 
@@ -58,23 +52,15 @@ one_of_core core r s (inr (e, a, p)) (inl (f, b, q)) =
 one_of_core core r s (inr (e, a, p)) (inr (f, b, q)) =
     p ∙ ap refusal_of_look (one_fault e f (one_looked core (Err e) (Err f) a b)) ∙ sym q
 
--- the refusal of a file's bytes
-abbrev pub said_by : {A : Type 0} → Result A Reason → Refusal
-said_by (Err reason) = refusal.Core reason.0 reason.1
-said_by (Ok x) = refusal.Usage
-
 pub one_refusal : (content : Option (List ℕ)) (r s : Refusal) → IsShowRefusal content r
     → IsShowRefusal content s → r ≡ s
 one_refusal None r s p q = p ∙ sym q
-one_refusal (Some bytes) r s (inl (at, why, a, p)) (inl (place, fault, b, q)) =
-    p ∙ ap said_by (sym a ∙ b) ∙ sym q
-one_refusal (Some bytes) r s (inl (at, why, a, p)) (inr (core, spelled, b)) =
-    absurd (core_not_refused bytes (core, spelled) (at, why, a))
-one_refusal (Some bytes) r s (inr (core, spelled, a)) (inl (at, why, b, q)) =
-    absurd (core_not_refused bytes (core, spelled) (at, why, b))
+one_refusal (Some bytes) r s (inl a) (inl b) = one_told bytes r s a b
+one_refusal (Some bytes) r s (inl a) (inr (core, is, b)) = absurd (file_not_refused bytes core r is a)
+one_refusal (Some bytes) r s (inr (core, is, a)) (inl b) = absurd (file_not_refused bytes core s is b)
 one_refusal (Some bytes) r s (inr (core, spelled, a)) (inr (other, also, b)) =
     one_of_core core r s a
-    (subst (λ (c : CoreImage). IsRefusedCore c s) (core_unique bytes other core also spelled) b)
+    (subst (λ (c : CoreImage). IsRefusedCore c s) (file_unique bytes other core also spelled) b)
 
 looked_not_refused : (core : CoreImage) (v : View) (r : Refusal) → IsLooked core (Ok v) → IsRefusedCore core r
     → ⊥
@@ -85,11 +71,10 @@ looked_not_refused core v r looked (inr (e, a, p)) =
 
 pub report_not_refused : (bytes : List ℕ) (v : View) (r : Refusal)
     → Spells bytes (λ core. IsLooked core (Ok v)) → IsShowRefusal (Some bytes) r → ⊥
-report_not_refused bytes v r (core, spelled, looked) (inl (at, why, a, p)) =
-    core_not_refused bytes (core, spelled) (at, why, a)
+report_not_refused bytes v r (core, is, looked) (inl told) = file_not_refused bytes core r is told
 report_not_refused bytes v r (core, spelled, looked) (inr (other, also, a)) =
     looked_not_refused core v r looked
-    (subst (λ (c : CoreImage). IsRefusedCore c r) (core_unique bytes other core also spelled) a)
+    (subst (λ (c : CoreImage). IsRefusedCore c r) (file_unique bytes other core also spelled) a)
 
 -- ---- the status of each
 
@@ -136,8 +121,7 @@ pub record SaysDamaged (bytes : List ℕ) (s : Status) : Type 0 where
 
 pub kinds : (bytes : List ℕ) (r : Refusal) → IsShowRefusal (Some bytes) r
     → SaysCore bytes (status_of r) ⊎ (SaysIncompatible bytes (status_of r) ⊎ SaysDamaged bytes (status_of r))
-kinds bytes r (inl (at, why, refused, same)) =
-    inl (record { is = ap status_of same; fact = (at, why, refused) })
+kinds bytes r (inl told) = inl (record { is = told_status bytes r told; fact = says_fault bytes r told })
 kinds bytes r (inr (core, spelled, inr (fault, looked, same))) =
     inr
     (inr (record { is = ap status_of same ∙ look_status fault; fact = (core, spelled, inr (fault, looked)) }))
@@ -198,7 +182,7 @@ pub missing : Refusing None status.NoFile
 missing = (refusal.NoFile input.Core, refl, refl)
 
 pub faulty : (bytes : List ℕ) → HasFault bytes → Refusing (Some bytes) status.Core
-faulty bytes (at, why, refused) = (refusal.Core at why, inl (at, why, refused, refl), refl)
+faulty bytes fault = let (r, told) = fault_told bytes fault in (r, inl told, told_status bytes r told)
 
 pub incompatible : (bytes : List ℕ) → Spells bytes IsIncompatible → Refusing (Some bytes) status.Incompatible
 incompatible bytes (core, spelled, (e, none, lacks)) =

@@ -7,8 +7,6 @@ use Rattle.omi_outside.specs.declared.status.Status.TheVariants as status
 use Rattle.omi_corefile.specs.Spelling.{core_bytes}
 use Rattle.omi_layout.specs.Family.{IsFamily}
 use Rattle.omi_layout.specs.Valid.{IsValid}
-use Rattle.omi_corefile.specs.Refusals.{CoreRefused}
-use Rattle.omi_corefile.specs.declared.fault.CoreFault.{CoreFault}
 use Rattle.omi_script.specs.Grammar.{Grammar}
 use Rattle.omi_script.specs.declared.program.Program.{Program}
 use Rattle.omi_model.specs.State.{State}
@@ -21,7 +19,7 @@ use Rattle.omi_verbs.specs.declared.refusal.Input.{Input}
 use Rattle.omi_verbs.specs.declared.refusal.Input.TheVariants as input
 use Rattle.omi_verbs.specs.declared.refusal.Refusal.{Refusal}
 use Rattle.omi_verbs.specs.declared.refusal.Refusal.TheVariants as refusal
-use Rattle.omi_top.specs.Command.{Command, Stop, Make, Show, Run, Recode, Audit, Follow, Faulty, ReadsBack, ReadsFirst, WritesLast, names_of}
+use Rattle.omi_top.specs.Command.{Command, Stop, Make, Show, Run, Recode, Elf, Audit, Follow, Faulty, ReadsBack, ReadsFirst, WritesLast, names_of}
 use Rattle.omi_text.specs.Report.{report}
 use Rattle.omi_verbs.specs.Cores.{IsCoreOf, thread_ids}
 use Rattle.omi_audit.specs.declared.verdict.Verdict.{Verdict}
@@ -33,7 +31,9 @@ use Rattle.omi_top.specs.Audit.{IsAudited, audit_line}
 use Rattle.omi_top.specs.Follow.{IsFollowed, IsLaterRefusal}
 use Rattle.omi_top.specs.Lines.{run_text}
 use Rattle.omi_top.specs.Make.{IsMade, make_text}
-use Rattle.omi_top.specs.Recode.{IsRecoded, recoded_line}
+use Rattle.omi_top.specs.Elf.{IsElfCopy}
+use Rattle.omi_top.specs.Files.{IsFileRefusal}
+use Rattle.omi_top.specs.Recode.{IsRecodedCopy}
 use Rattle.omi_verbs.specs.Refusal.{IsLate, refusal_line, status_of}
 use Rattle.omi_verbs.specs.Said.{IsSaid}
 use Rattle.omi_verbs.specs.Scripts.{IsScriptRefusal}
@@ -80,10 +80,9 @@ IsReportOf bytes text = (v : View) × Spells bytes (λ core. IsLooked core (Ok v
 -- why `show` refuses, by the content of the core's file: there is none, its bytes are no core, the core's words give no layout, or a look
 -- at them has a fault
 abbrev pub IsShowRefusal : Option (List ℕ) → Refusal → Type 0
-IsShowRefusal None r = r ≡ refusal.NoFile input.Core
+IsShowRefusal None r = IsFileRefusal None r
 IsShowRefusal (Some bytes) r =
-    ((at : ℕ) × (why : CoreFault) × CoreRefused bytes at why × (r ≡ refusal.Core at why))
-    ⊎ Spells bytes (λ core. IsRefusedCore core r)
+    IsFileRefusal (Some bytes) r ⊎ Spells bytes (λ core. IsRefusedCore core r)
 
 -- an answer of `show`, by the content of the core's file: a refusal, or the report
 abbrev pub IsShowAnswer : Option (List ℕ) → Answer → Type 0
@@ -106,18 +105,25 @@ IsRunAnswer plan script content (Gives (Some core) says) =
     (lines : List ℕ) × IsStopAnswer plan script (Gives (Some core) (Ok lines))
     × IsReadBack lines content says
 
--- an answer of `recode`, by the content of the core's file: a refusal alone, or the core in this order and the line
+-- an answer of a command that writes a copy of a core, by the content of the core's file: a refusal alone, or the bytes of a copy and the
+-- line, where `copies` says of which files they are
+abbrev pub IsCopyAnswer : (List ℕ → List ℕ → List ℕ → Type 0) → Option (List ℕ) → Answer → Type 0
+IsCopyAnswer copies content (Gives None (Err r)) = IsCoreRefusal content r
+IsCopyAnswer copies (Some bytes) (Gives (Some copy) (Ok line)) = copies bytes copy line
+IsCopyAnswer copies content answer = ⊥
+
+-- an answer of `recode`: the core in this order and the line; and one of `elf`: the core as an ELF file, and the line
 abbrev pub IsRecodeAnswer : ℕ → Option (List ℕ) → Answer → Type 0
-IsRecodeAnswer order content (Gives None (Err r)) = IsCoreRefusal content r
-IsRecodeAnswer order (Some bytes) (Gives (Some copy) (Ok line)) =
-    IsRecoded order bytes copy × (line ≡ recoded_line order)
-IsRecodeAnswer order content answer = ⊥
+IsRecodeAnswer order content answer = IsCopyAnswer (IsRecodedCopy order) content answer
+
+abbrev pub IsElfAnswer : Option (List ℕ) → Answer → Type 0
+IsElfAnswer content answer = IsCopyAnswer IsElfCopy content answer
 
 -- why `audit` refuses, by the content of the core's file: there is none, its bytes are no core, or the core's words give no layout
 abbrev pub IsAuditRefusal : Option (List ℕ) → Refusal → Type 0
-IsAuditRefusal None r = IsCoreRefusal None r
+IsAuditRefusal None r = IsFileRefusal None r
 IsAuditRefusal (Some bytes) r =
-    IsCoreRefusal (Some bytes) r ⊎ Spells bytes (λ core. IsLayoutRefusal core r)
+    IsFileRefusal (Some bytes) r ⊎ Spells bytes (λ core. IsLayoutRefusal core r)
 
 -- the line on the verdict on the words of a file's core
 abbrev pub IsAuditOf : List ℕ → List ℕ → Type 0
@@ -153,6 +159,7 @@ AreTold (Show core) told = (content : Option (List ℕ)) × (told core ≡ Some 
 AreTold (Run plan script core) told = ((content : Option (List ℕ)) × (told script ≡ Some content))
     × ((content : Option (List ℕ)) × (told core ≡ Some content))
 AreTold (Recode order core copy) told = (content : Option (List ℕ)) × (told core ≡ Some content)
+AreTold (Elf core copy) told = (content : Option (List ℕ)) × (told core ≡ Some content)
 AreTold (Audit core) told = (content : Option (List ℕ)) × (told core ≡ Some content)
 AreTold (Follow core later) told = ((content : Option (List ℕ)) × (told core ≡ Some content))
     × ((content : Option (List ℕ)) × (told later ≡ Some content))
@@ -169,6 +176,8 @@ IsAnswer (Run plan script core) told answer = (text : Option (List ℕ)) × (tol
     × (content : Option (List ℕ)) × (told core ≡ Some content) × IsRunAnswer plan text content answer
 IsAnswer (Recode order core copy) told answer = (content : Option (List ℕ))
     × (told core ≡ Some content) × IsRecodeAnswer order content answer
+IsAnswer (Elf core copy) told answer = (content : Option (List ℕ)) × (told core ≡ Some content)
+    × IsElfAnswer content answer
 IsAnswer (Audit core) told answer = (content : Option (List ℕ)) × (told core ≡ Some content)
     × IsAuditAnswer content answer
 IsAnswer (Follow core later) told answer = (content : Option (List ℕ)) × (told core ≡ Some content)

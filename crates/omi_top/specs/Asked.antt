@@ -2,7 +2,7 @@
 use Rattle.std.specs.Prelude.{◌≡◌, ◌≤◌, ℕ, List, IfSome, ⊤}
 use Rattle.omi_verbs.specs.declared.limits.TheConstants.{MOST_LAYOUT}
 use Rattle.omi_top.specs.declared.limits.TheConstants.{MOST_NODES}
-use Rattle.omi_top.specs.Command.{Command, Stop, Make, Show, Run, Recode, Audit, Follow, Faulty}
+use Rattle.omi_top.specs.Command.{Command, Stop, Make, Show, Run, Recode, Elf, Audit, Follow, Faulty}
 use Rattle.omi_top.specs.Make.{make_text}
 use Rattle.omi_top.specs.declared.plan.Plan.{Plan}
 use Rattle.omi_top.specs.declared.command.Request.{Request}
@@ -14,6 +14,7 @@ asked (request.Make n script) = Make n script.now
 asked (request.Show core) = Show core.now
 asked (request.Run plan script core) = Run plan script.now core.now
 asked (request.Recode order core copy) = Recode order core.now copy.now
+asked (request.Elf core copy) = Elf core.now copy.now
 asked (request.Audit core) = Audit core.now
 asked (request.Follow core later) = Follow core.now later.now
 asked request.Faulty = Faulty
@@ -39,6 +40,7 @@ IsBounded (request.Make n script) = IsNodes n
 IsBounded (request.Show core) = ⊤
 IsBounded (request.Run plan script core) = IsPossible plan
 IsBounded (request.Recode order core copy) = order ≤ 1
+IsBounded (request.Elf core copy) = ⊤
 IsBounded (request.Audit core) = ⊤
 IsBounded (request.Follow core later) = ⊤
 IsBounded request.Faulty = ⊤

@@ -1,5 +1,5 @@
 -- What `audit` makes of a core, and what it prints.
-use Rattle.std.specs.Prelude.{◌≡◌, ◌⊎◌, ℕ, List, [], ◌∷◌, ◌++◌, Option, Some, None, Result, Ok, Err, codes, ⊤}
+use Rattle.std.specs.Prelude.{◌≡◌, ◌⊎◌, ℕ, List, [], ◌∷◌, ◌++◌, Result, Ok, Err, codes, ⊤}
 use Rattle.std.specs.Fmt.{decimal}
 use Rattle.omi_audit.specs.Verdicts.{verdict}
 use Rattle.omi_audit.specs.declared.verdict.AuditFault.{AuditFault}

@@ -21,6 +21,7 @@ pub data Command : Type 0 where
   Show : (core : List ℕ) → Command
   Run : (plan : Plan) (script core : List ℕ) → Command
   Recode : (order : ℕ) (core copy : List ℕ) → Command
+  Elf : (core copy : List ℕ) → Command
   Audit : (core : List ℕ) → Command
   Follow : (core later : List ℕ) → Command
   Faulty : Command
@@ -62,6 +63,11 @@ recode_by (order ∷ core ∷ copy ∷ []) line =
     else option_map_or (λ o. Recode o core copy) (number_between order 0 1) Faulty
 recode_by names line = Faulty
 
+-- `elf CORE CORE2`, without options
+abbrev pub elf_by : List (List ℕ) → Line → Command
+elf_by (core ∷ copy ∷ []) line = if has_option line then Faulty else Elf core copy
+elf_by names line = Faulty
+
 -- `audit CORE`, without options
 abbrev pub audit_by : List (List ℕ) → Line → Command
 audit_by (core ∷ []) line = if has_option line then Faulty else Audit core
@@ -81,8 +87,9 @@ verb_by (verb ∷ names) line =
     else (if bytes_eq verb (codes "show") then show_by names line
     else (if bytes_eq verb (codes "run") then run_by names line
     else (if bytes_eq verb (codes "recode") then recode_by names line
+    else (if bytes_eq verb (codes "elf") then elf_by names line
     else (if bytes_eq verb (codes "audit") then audit_by names line
-    else (if bytes_eq verb (codes "follow") then follow_by names line else Faulty))))))
+    else (if bytes_eq verb (codes "follow") then follow_by names line else Faulty)))))))
 
 -- the command of a line, if words make one: its positional words are a verb and names
 abbrev pub command_by : Option Line → Command
@@ -103,6 +110,7 @@ ReadsFirst (Stop plan script core) input.Script = ⊤
 ReadsFirst (Show core) input.Core = ⊤
 ReadsFirst (Run plan script core) input.Script = ⊤
 ReadsFirst (Recode order core copy) input.Core = ⊤
+ReadsFirst (Elf core copy) input.Core = ⊤
 ReadsFirst (Audit core) input.Core = ⊤
 ReadsFirst (Follow core later) input.Core = ⊤
 ReadsFirst (Follow core later) input.Later = ⊤
@@ -118,11 +126,12 @@ abbrev pub WritesLast : Command → Type 0
 WritesLast (Run plan script core) = ⊥
 WritesLast command = ⊤
 
--- a command may refuse a core with this status: one that looks at its words for any cause, and `recode` for its bytes alone
+-- a command may refuse a core with this status: one that looks at its words for any cause, and one that writes a copy for its bytes alone
 abbrev pub RefusesCore : Command → Status → Type 0
 RefusesCore (Show core) s = ⊤
 RefusesCore (Run plan script core) s = ⊤
 RefusesCore (Recode order core copy) s = s ≡ status.Core
+RefusesCore (Elf core copy) s = s ≡ status.Core
 RefusesCore (Audit core) s = ⊤
 RefusesCore (Follow core later) s = ⊤
 RefusesCore command s = ⊥
@@ -134,6 +143,7 @@ script_name (Make n script) = script
 script_name (Show core) = []
 script_name (Run plan script core) = script
 script_name (Recode order core copy) = []
+script_name (Elf core copy) = []
 script_name (Audit core) = []
 script_name (Follow core later) = []
 script_name Faulty = []
@@ -144,6 +154,7 @@ core_name (Make n script) = []
 core_name (Show core) = core
 core_name (Run plan script core) = core
 core_name (Recode order core copy) = core
+core_name (Elf core copy) = core
 core_name (Audit core) = core
 core_name (Follow core later) = core
 core_name Faulty = []
@@ -166,6 +177,7 @@ written_name (Make n script) = script
 written_name (Show core) = []
 written_name (Run plan script core) = core
 written_name (Recode order core copy) = copy
+written_name (Elf core copy) = copy
 written_name (Audit core) = []
 written_name (Follow core later) = []
 written_name Faulty = []
@@ -177,6 +189,7 @@ Writes (Make n script) name = name ≡ script
 Writes (Show core) name = ⊥
 Writes (Run plan script core) name = name ≡ core
 Writes (Recode order core copy) name = name ≡ copy
+Writes (Elf core copy) name = name ≡ copy
 Writes (Audit core) name = ⊥
 Writes (Follow core later) name = ⊥
 Writes Faulty name = ⊥

@@ -2,7 +2,6 @@
 use Rattle.std.specs.Prelude.{◌≡◌, ◌⊎◌, ℕ, List, Err, ⊤}
 use Rattle.omi_calls.specs.Told.{aligned_word_at}
 use Rattle.omi_calls.specs.CoreWords.{words_of_segments as segment_words}
-use Rattle.omi_corefile.specs.Spelling.{Core}
 use Rattle.omi_corefile.specs.declared.core_image.CoreImage.{CoreImage}
 use Rattle.omi_layout.specs.Given.{GivesLayout}
 use Rattle.omi_layout.specs.NoLayout.{GivesNone}
@@ -21,6 +20,7 @@ use Rattle.omi_rep.specs.Shows.{Shows}
 use Rattle.omi_rep.specs.declared.fault.LookFault.{LookFault}
 use Rattle.omi_script.specs.declared.program.Program.{Program}
 use Rattle.omi_rep.specs.ShownLooks.{AreNames}
+use Rattle.omi_top.specs.Files.{IsFileOf}
 
 -- the words of a core by their addresses: those of its segments, none at an unaligned address
 abbrev pub words_of_core : CoreImage → Words
@@ -78,6 +78,6 @@ IsDamaged core = HasWrongTable core ⊎ ((fault : LookFault) × IsLooked core (E
 abbrev pub HasLayout : CoreImage → Type 0
 HasLayout core = (w : List ℕ) × IsValid w × GivesLayout (words_of_core core) w
 
--- a file is a core of which this holds
+-- a file stands for a core of which this holds
 abbrev pub Spells : List ℕ → (CoreImage → Type 0) → Type 0
-Spells bytes holds = (core : CoreImage) × Core bytes core × holds core
+Spells bytes holds = (core : CoreImage) × IsFileOf bytes core × holds core

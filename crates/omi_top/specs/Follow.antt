@@ -3,9 +3,7 @@ use Rattle.std.specs.Prelude.{◌≡◌, ◌≢◌, ◌⊎◌, ◌==◌, ℕ, �
 use Rattle.std.specs.declared.alloc.Global.{Global}
 use Rattle.std.specs.FinMap.{get}
 use Rattle.std.specs.List.{flat_map}
-use Rattle.omi_corefile.specs.Refusals.{CoreRefused}
 use Rattle.omi_corefile.specs.declared.core_image.CoreImage.{CoreImage}
-use Rattle.omi_corefile.specs.declared.fault.CoreFault.{CoreFault}
 use Rattle.omi_handle.specs.Ledger.{Ledger}
 use Rattle.omi_handle.specs.declared.handle.TaskHandle.{TaskHandle}
 use Rattle.omi_layout.specs.Given.{GivesLayout}
@@ -26,6 +24,7 @@ use Rattle.omi_walk.specs.Kept.{task_names, task_object}
 use Rattle.omi_walk.specs.declared.fault.WalkFault.{WalkFault}
 use Rattle.omi_word.specs.Words.{Words}
 use Rattle.omi_top.specs.Cores.{Spells, words_of_core}
+use Rattle.omi_top.specs.Files.{IsFileRefusal}
 use Rattle.omi_top.specs.Questions.{IsLayoutRefusal, refusal_of_code}
 use Rattle.omi_top.specs.Shown.{IsRefusedCore, refusal_of_look, refusal_of_walk}
 use Rattle.omi_top.specs.declared.kept_tasks.KeptTasks.{KeptTasks}
@@ -96,8 +95,7 @@ IsUnfollowed core later r =
 abbrev pub IsLaterRefusal : CoreImage → Option (List ℕ) → Refusal → Type 0
 IsLaterRefusal core None r = r ≡ refusal.NoFile input.Later
 IsLaterRefusal core (Some bytes) r =
-    ((at : ℕ) × (why : CoreFault) × CoreRefused bytes at why × (r ≡ refusal.Core at why))
-    ⊎ Spells bytes (λ later. IsUnfollowed core later r)
+    IsFileRefusal (Some bytes) r ⊎ Spells bytes (λ later. IsUnfollowed core later r)
 
 -- a refusal of the core that is read, as one of the later core
 abbrev pub of_later : Refusal → Refusal

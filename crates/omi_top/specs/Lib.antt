@@ -1,10 +1,11 @@
 -- The definitions to believe, in reading order: the promise of the whole; what a run of `stop` is to be, what a command line asks for, what
--- its answer is, what a core is to `show`, what a run is, what becomes of tasks between two stops of one, and that there is at most one;
--- and that a core is shown alike in either order.
+-- its answer is, what the file of a core is, what a core is to `show`, what a run is, what becomes of tasks between two stops of one, and that
+-- there is at most one; and that a core is shown alike in either order, and as an ELF file.
 pub mod Promise
 pub mod Plan
 pub mod Command
 pub mod Answer
+pub mod Files
 pub mod Cores
 pub mod Questions
 pub mod Shown
@@ -14,10 +15,13 @@ pub mod Run
 pub mod Lines
 pub mod Make
 pub mod Recode
+pub mod Elf
 pub mod Between
 pub mod Determined
 pub mod Recoded
--- What private functions of the code stand on: a request as a command; what each layer of the top call says alike; and a run that was made
+-- What private functions of the code stand on: a request as a command; what each layer of the top call says alike; what the
+-- commands share that write a copy; and a run that was made
 pub mod Asked
 pub mod Causes
+pub mod Copy
 pub mod Ran

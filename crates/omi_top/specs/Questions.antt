@@ -1,8 +1,6 @@
 -- What a command is answered that asks something of the core in a file, and why it gets no answer.
-use Rattle.std.specs.Prelude.{◌≡◌, ◌⊎◌, ℕ, List, Option, Some, None, Result, Ok, Err, ⊤}
-use Rattle.omi_corefile.specs.Refusals.{CoreRefused}
+use Rattle.std.specs.Prelude.{◌≡◌, ◌⊎◌, ℕ, Bool, false, List, Option, Some, None, Result, Ok, Err, ⊤}
 use Rattle.omi_corefile.specs.declared.core_image.CoreImage.{CoreImage}
-use Rattle.omi_corefile.specs.declared.fault.CoreFault.{CoreFault}
 use Rattle.omi_layout.specs.NoLayout.{GivesNone}
 use Rattle.omi_layout.specs.declared.fault.LayoutFault.TheVariants.{Version}
 use Rattle.omi_layout.specs.declared.reading.LayoutError.{LayoutError}
@@ -11,7 +9,9 @@ use Rattle.omi_page.specs.declared.fault.PageError.{PageError}
 use Rattle.omi_page.specs.declared.fault.PageError.TheVariants as page
 use Rattle.omi_session.specs.declared.rc.Rc.{Rc}
 use Rattle.omi_session.specs.declared.rc.Rc.TheVariants as code
-use Rattle.omi_top.specs.Cores.{Spells, words_of_core}
+use Rattle.omi_top.specs.Cores.{words_of_core}
+use Rattle.omi_elf.specs.Header.{begins_as_elf}
+use Rattle.omi_top.specs.Files.{IsCoreBy, IsFaultBy, IsRefusalBy}
 use Rattle.omi_verbs.specs.Refusal.{IsUnread}
 use Rattle.omi_verbs.specs.declared.refusal.Input.TheVariants as input
 use Rattle.omi_verbs.specs.declared.refusal.Refusal.{Refusal}
@@ -41,11 +41,10 @@ refusal_of_code other = refusal.Incompatible
 
 -- ---- why there is no answer
 
--- there is no file, or the grammar of core files refuses its bytes
+-- there is no file, or the grammar of core files refuses its bytes. It is what a command says that writes a copy of a core, and looks at no
+-- word of it
 abbrev pub IsCoreRefusal : Option (List ℕ) → Refusal → Type 0
-IsCoreRefusal None r = r ≡ refusal.NoFile input.Core
-IsCoreRefusal (Some bytes) r =
-    (at : ℕ) × (why : CoreFault) × CoreRefused bytes at why × (r ≡ refusal.Core at why)
+IsCoreRefusal content r = IsRefusalBy false content r
 
 -- a core's words give no layout
 abbrev pub IsLayoutRefusal : CoreImage → Refusal → Type 0
@@ -67,16 +66,25 @@ ComesOfWords r = IsUnread input.Core r
 abbrev pub ComesOfFile : Refusal → Type 0
 ComesOfFile (refusal.NoFile input.Core) = ⊤
 ComesOfFile (refusal.Core at why) = ⊤
+ComesOfFile (refusal.Elf at why) = ⊤
 ComesOfFile r = ComesOfWords r
 
 -- ---- an answer
 
--- What is answered by the content of a file, where `answers` says what is of a core: it holds a core, and this is answered of it; or it is refused.
+-- What is answered by the content of a file, an ELF file or another one, where `answers` says what is of a core: the file stands for a core, and this is
+-- answered of it; or it is refused.
+abbrev pub IsAnswerBy : {A : Type 0} → Bool → (CoreImage → Result A Refusal → Type 0)
+    → Option (List ℕ) → Result A Refusal → Type 0
+IsAnswerBy elf answers None (Ok a) = ⊥
+IsAnswerBy elf answers (Some bytes) (Ok a) =
+    (core : CoreImage) × IsCoreBy elf bytes core × answers core (Ok a)
+IsAnswerBy elf answers None (Err r) = IsRefusalBy elf None r ⊎ IsUnread input.Core r
+IsAnswerBy elf answers (Some bytes) (Err r) =
+    IsFaultBy elf bytes r
+    ⊎ (IsUnread input.Core r ⊎ ((core : CoreImage) × IsCoreBy elf bytes core × answers core (Err r)))
+
+-- and by the four bytes that an ELF file begins with
 abbrev pub IsAnswerOf : {A : Type 0} → (CoreImage → Result A Refusal → Type 0) → Option (List ℕ)
     → Result A Refusal → Type 0
-IsAnswerOf answers None (Ok a) = ⊥
-IsAnswerOf answers (Some bytes) (Ok a) = Spells bytes (λ core. answers core (Ok a))
-IsAnswerOf answers None (Err r) = IsCoreRefusal None r ⊎ IsUnread input.Core r
-IsAnswerOf answers (Some bytes) (Err r) =
-    IsCoreRefusal (Some bytes) r
-    ⊎ (IsUnread input.Core r ⊎ Spells bytes (λ core. answers core (Err r)))
+IsAnswerOf answers None result = IsAnswerBy false answers None result
+IsAnswerOf answers (Some bytes) result = IsAnswerBy (begins_as_elf bytes) answers (Some bytes) result

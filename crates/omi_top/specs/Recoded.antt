@@ -1,9 +1,40 @@
--- What `show` makes of a core that was recoded: the same.
+-- What `show` makes of files that stand for cores with the same words: the same.
 use Rattle.std.specs.Prelude.{◌≡◌, ◌↔◌, ℕ, List, Some}
+use Rattle.omi_corefile.specs.Spelling.{spelling}
+use Rattle.omi_corefile.specs.declared.core_image.CoreImage.{CoreImage}
+use Rattle.omi_elf.specs.ElfCore.{ElfCore}
 use Rattle.omi_top.specs.Answer.{Answer, IsShowAnswer}
+use Rattle.omi_top.specs.Cores.{words_of_core}
+use Rattle.omi_top.specs.Elf.{IsElfCopy}
+use Rattle.omi_top.specs.Files.{IsFileOf}
 use Rattle.omi_top.specs.Recode.{IsRecoded}
 
--- a core and its copy in either order have the same answers of `show`: the same report, or the same refusal
+-- two files stand for cores with the same contexts and the same words, in whatever format and order
+pub record AreAlike (bytes other : List ℕ) : Type 0 where
+  pub core : CoreImage
+  pub is : IsFileOf bytes core
+  pub second : CoreImage
+  pub also : IsFileOf other second
+  pub contexts : second.contexts ≡ core.contexts
+  pub words : words_of_core second ≡ words_of_core core
+
+-- two files have the same answers of `show`: the same report, or the same refusal
+abbrev pub HaveOneAnswer : List ℕ → List ℕ → Type 0
+HaveOneAnswer bytes other = (a : Answer) → IsShowAnswer (Some bytes) a ↔ IsShowAnswer (Some other) a
+
+abbrev pub AlikeShowAlike : Type 0
+AlikeShowAlike = (bytes other : List ℕ) → AreAlike bytes other → HaveOneAnswer bytes other
+
+-- so have an ELF file and the core file of the core that it stands for, and a core and the ELF file that `elf` writes of it
+abbrev pub ElfShowsAlike : Type 0
+ElfShowsAlike = (bytes : List ℕ) (core : CoreImage) → ElfCore bytes core
+    → HaveOneAnswer bytes (spelling core)
+
+abbrev pub ElfCopyShowsAlike : Type 0
+ElfCopyShowsAlike =
+    (bytes copy line : List ℕ) → IsElfCopy bytes copy line → HaveOneAnswer bytes copy
+
+-- and a core and its copy in either order
 abbrev pub RecodedShowsAlike : Type 0
 RecodedShowsAlike = (order : ℕ) (bytes copy : List ℕ) → IsRecoded order bytes copy → (a : Answer)
     → IsShowAnswer (Some bytes) a ↔ IsShowAnswer (Some copy) a

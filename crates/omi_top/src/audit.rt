@@ -85,7 +85,7 @@ fn audit_line(alloc: Global, verdict: Verdict) -> Result<String, AllocError>
     }
 }
 
-/// Reads a core page by page, and answers the line on the verdict on its words.
+/// Reads a core, and answers the line on the verdict on its words.
 pub fn audit<F: Files>(alloc: Global, core: &str, files: &mut F) -> Result<Vec<u8>, Refusal>
     ensures answer { (old : Told) → let command = Audit core.now in
         AreTold command (F.told files.old)

@@ -4,7 +4,7 @@ ghost use Rattle.std.specs.Prelude.{◌≡◌, IfSome};
 ghost use Rattle.std.specs.List.{All};
 ghost use Rattle.std.specs.Str.{IsUtf8};
 ghost use Rattle.omi_line.specs.Line.{IsText};
-ghost use Rattle.omi_top.specs.Command.{audit_by, command_by, follow_by, has_option, make_by, names_of, recode_by, run_by, show_by, stop_by, verb_by};
+ghost use Rattle.omi_top.specs.Command.{audit_by, command_by, elf_by, follow_by, has_option, make_by, names_of, recode_by, run_by, show_by, stop_by, verb_by};
 ghost use Rattle.omi_top.specs.Asked.{asked, IsBounded};
 ghost use Rattle.omi_verbs.specs.Refusal.{named};
 
@@ -35,6 +35,10 @@ pub enum Request<'a> {
     },
     Recode {
         order: u8,
+        core: &'a str,
+        copy: &'a str,
+    },
+    Elf {
         core: &'a str,
         copy: &'a str,
     },
@@ -139,6 +143,21 @@ fn recode_by<'a>(names: &'a [Text], line: &Line) -> Request<'a>
     }
 }
 
+/// What `elf` is asked for, by the names behind it.
+fn elf_by<'a>(names: &'a [Text], line: &Line) -> Request<'a>
+    requires { All IsUtf8 names.now }
+    ensures asked { asked result ≡ elf_by names.entry.now line.now }
+    ensures bounded { IsBounded result }
+{
+    match names {
+        [core, copy] if !has_option(line) => Request::Elf {
+            core: text_of(core),
+            copy: text_of(copy),
+        },
+        _ => Request::Faulty,
+    }
+}
+
 /// What `audit` is asked for, by the names behind it.
 fn audit_by<'a>(names: &'a [Text], line: &Line) -> Request<'a>
     requires { All IsUtf8 names.now }
@@ -183,6 +202,7 @@ fn verb_by(line: &Line) -> Request<'_>
         "show" => show_by(names, line),
         "run" => run_by(names, line),
         "recode" => recode_by(names, line),
+        "elf" => elf_by(names, line),
         "audit" => audit_by(names, line),
         "follow" => follow_by(names, line),
         _ => Request::Faulty,
@@ -210,9 +230,10 @@ pub fn names_of(request: Request<'_>) -> Names<'_>
             (script, core, "")
         }
         Request::Make { script, .. } => (script, "", ""),
-        Request::Show { core } | Request::Recode { core, .. } | Request::Audit { core } => {
-            ("", core, "")
-        }
+        Request::Show { core }
+        | Request::Recode { core, .. }
+        | Request::Elf { core, .. }
+        | Request::Audit { core } => ("", core, ""),
         Request::Follow { core, later } => ("", core, later),
         Request::Faulty => ("", "", ""),
     };

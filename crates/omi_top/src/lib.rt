@@ -3,6 +3,8 @@
 
 mod audit;
 mod command;
+mod copy;
+mod elf;
 mod follow;
 mod kept_tasks;
 mod laws;
@@ -19,5 +21,5 @@ mod show;
 mod stop;
 mod top;
 
-pub use laws::{recoded_shows_alike, runs_are_determined};
+pub use laws::{files_show_alike, recoded_shows_alike, runs_are_determined};
 pub use top::run_top;

@@ -1,6 +1,6 @@
-//! What a command asks of the words of a core, which are read page by page.
+//! What a command asks of the words of a core: those of an ELF file are read whole, and those of another one page by page.
 
-ghost use Rattle.std.specs.Prelude.{◌≡◌, ◌≤◌, IfErr, IsErrAnd, List, Option, Result, Some, length, ℕ};
+ghost use Rattle.std.specs.Prelude.{◌≡◌, ◌⊎◌, ◌≤◌, Err, IfErr, IfOk, IsErrAnd, List, None, Option, Result, Some, false, length, true, ℕ};
 ghost use Rattle.omi_calls.specs.Kept.{GivesNumbers, IsOrderOf, TakesAll};
 ghost use Rattle.omi_calls.specs.Memory.{told_by};
 ghost use Rattle.omi_corefile.specs.ByteOrder.{number_of};
@@ -8,15 +8,18 @@ ghost use Rattle.omi_corefile.specs.declared.core_image.CoreImage.{CoreImage};
 ghost use Rattle.omi_outside.specs.Outside.{HasCause};
 ghost use Rattle.omi_page.specs.Borrowed.{faults_counted, told_of};
 ghost use Rattle.omi_page.specs.Lending.{IsLent};
-ghost use Rattle.omi_top.specs.Questions.{ComesOfFile, ComesOfWords, IsAnswerOf, refusal_of_page};
-ghost use Rattle.omi_verbs.specs.Refusal.{IsReadFault};
+ghost use Rattle.omi_top.specs.Files.{Holds, IsKind, IsRefusalBy};
+ghost use Rattle.omi_top.specs.Questions.{ComesOfFile, ComesOfWords, IsAnswerBy, IsAnswerOf, refusal_of_page};
+ghost use Rattle.omi_verbs.specs.Refusal.{IsReadFault, IsUnread};
 ghost use Rattle.omi_verbs.specs.declared.refusal.Refusal.{Refusal as Why};
 
-use omi_calls::{Callbacks, ToHost};
-use omi_corefile::number_of;
+use crate::limits::ELF_FRONT;
+use omi_calls::{Callbacks, CoreCalls, ToHost};
+use omi_corefile::{CoreImage, number_of};
+use omi_elf::{ELF_MAGIC, decode_elf};
 use omi_outside::Files;
 use omi_page::{LentPages, Loan, PageError, Pages, open};
-use omi_verbs::{Input, Refusal};
+use omi_verbs::{Input, Refusal, load};
 use omi_word::Natives;
 use std::alloc::Global;
 use std::marker::Brand;
@@ -61,6 +64,33 @@ fn refusal_of_page(error: PageError) -> Refusal
     }
 }
 
+/// Asks it of the words that callbacks tell, in their order, and hands the callbacks back.
+fn ask_calls<C: Callbacks + Drop, Q: Question>(
+    alloc: Global,
+    question: Q,
+    calls: C,
+    contexts: &Natives,
+    order: u8,
+) -> (Result<Q::Answer, Refusal>, C)
+    requires few { length contexts.now ≤ 64 }
+    requires order { IsOrderOf (C.told calls) order }
+    ensures answered { (core : CoreImage) → C.told calls ≡ told_by core
+        → contexts.now ≡ core.contexts → Q.answers question core result.0 }
+    ensures words { IfErr result.0 ComesOfWords }
+    ensures cause { HasCause (C.faults calls) (C.faults result.1)
+        (IsErrAnd result.0 IsReadFault) }
+{
+    question.ask(
+        alloc,
+        calls,
+        contexts,
+        order,
+        move |bytes: [u8; 8]| -> u64
+            ensures { result ≡ number_of order bytes }
+        { number_of(order, bytes) },
+    )
+}
+
 /// Asks it of the words of a core that is read by pages, in the core's order, and hands the pages back, which borrow what they borrowed.
 fn ask_pages<'a, F: Files, L: Loan, Q: Question>(
     alloc: Global,
@@ -79,27 +109,19 @@ fn ask_pages<'a, F: Files, L: Loan, Q: Question>(
 {
     let order = pages.order();
     let lent: LentPages<'a, F, L> = LentPages::of(pages);
-    let (answer, lent) = question.ask(
-        alloc,
-        lent,
-        contexts,
-        order,
-        move |bytes: [u8; 8]| -> u64
-            ensures { result ≡ number_of order bytes }
-        { number_of(order, bytes) },
-    );
+    let (answer, lent) = ask_calls(alloc, question, lent, contexts, order);
     (answer, lent.into_pages())
 }
 
-/// Asks it of the core in a file.
-pub fn ask_file<F: Files, Q: Question>(
+/// Asks it of the core in a file that is read page by page.
+fn ask_core<F: Files, Q: Question>(
     alloc: Global,
     question: Q,
     core: &str,
     files: &mut F,
 ) -> Result<Q::Answer, Refusal>
     ensures answered { (content : Option (List ℕ)) → F.told files.old core.now ≡ Some content
-        → IsAnswerOf (Q.answers question) content result }
+        → IsAnswerBy false (Q.answers question) content result }
     ensures comes { IfErr result ComesOfFile }
     ensures read { HasCause (F.reads files.old) (F.reads files.new)
         (IsErrAnd result IsReadFault) }
@@ -115,4 +137,93 @@ pub fn ask_file<F: Files, Q: Question>(
     let (answer, pages) = ask_pages::<F, Brand, Q>(alloc, question, pages, &contexts);
     let _ = pages.into_files();
     answer
+}
+
+/// The core in an ELF file, which is read whole.
+fn elf_in<F: Files>(alloc: Global, core: &str, files: &mut F) -> Result<CoreImage, Refusal>
+    ensures core { (content : Option (List ℕ)) → F.told files.old core.now ≡ Some content
+        → IfOk result (Holds true content) }
+    ensures refused { (content : Option (List ℕ)) → F.told files.old core.now ≡ Some content
+        → IfErr result (λ r. IsRefusalBy true content r ⊎ IsUnread Input.Core r) }
+    ensures comes { IfErr result ComesOfFile }
+    ensures read { HasCause (F.reads files.old) (F.reads files.new)
+        (IsErrAnd result IsReadFault) }
+    ensures files_told { F.told files.new ≡ F.told files.old }
+    ensures files_writes { F.writes files.new ≡ F.writes files.old }
+{
+    let bytes = load(alloc, Input::Core, core, ELF_FRONT, files)?;
+    let core = decode_elf(alloc, &bytes)?;
+    Ok(core)
+}
+
+/// Asks it of the words of a core in memory.
+fn ask_words<Q: Question>(alloc: Global, question: Q, core: CoreImage) -> Result<Q::Answer, Refusal>
+    ensures answered { Q.answers question core result ⊎ (result ≡ Err Refusal.OutOfMemory) }
+    ensures words { IfErr result ComesOfWords }
+    ensures read { IsErrAnd result IsReadFault → ⊥ }
+{
+    let order = core.order;
+    let contexts = core.contexts.same(alloc)?;
+    let calls = CoreCalls::over(alloc, core);
+    let (answer, _) = ask_calls(alloc, question, calls, &contexts, order);
+    answer
+}
+
+/// Asks it of the core in an ELF file.
+fn ask_elf<F: Files, Q: Question>(
+    alloc: Global,
+    question: Q,
+    core: &str,
+    files: &mut F,
+) -> Result<Q::Answer, Refusal>
+    ensures answered { (content : Option (List ℕ)) → F.told files.old core.now ≡ Some content
+        → IsAnswerBy true (Q.answers question) content result }
+    ensures comes { IfErr result ComesOfFile }
+    ensures read { HasCause (F.reads files.old) (F.reads files.new)
+        (IsErrAnd result IsReadFault) }
+    ensures files_told { F.told files.new ≡ F.told files.old }
+    ensures files_writes { F.writes files.new ≡ F.writes files.old }
+{
+    let image = elf_in(alloc, core, files)?;
+    ask_words(alloc, question, image)
+}
+
+/// Whether a file begins with the four bytes of every ELF file.
+fn begins_as_elf<F: Files>(alloc: Global, core: &str, files: &mut F) -> Result<bool, Refusal>
+    ensures begins { (content : Option (List ℕ)) → F.told files.old core.now ≡ Some content
+        → IfOk result (IsKind content) }
+    ensures refused { (content : Option (List ℕ)) → F.told files.old core.now ≡ Some content
+        → IfErr result
+        (λ r. (r ≡ Refusal.NoFile Input.Core × content ≡ None) ⊎ IsUnread Input.Core r) }
+    ensures comes { IfErr result ComesOfFile }
+    ensures read { HasCause (F.reads files.old) (F.reads files.new)
+        (IsErrAnd result IsReadFault) }
+    ensures files_told { F.told files.new ≡ F.told files.old }
+    ensures files_writes { F.writes files.new ≡ F.writes files.old }
+{
+    let front = load(alloc, Input::Core, core, ELF_MAGIC.len() as u64, files)?;
+    Ok(front.starts_with(&ELF_MAGIC))
+}
+
+/// Asks it of the core in a file: an ELF file is read whole, and another one page by page.
+pub fn ask_file<F: Files, Q: Question>(
+    alloc: Global,
+    question: Q,
+    core: &str,
+    files: &mut F,
+) -> Result<Q::Answer, Refusal>
+    ensures answered { (content : Option (List ℕ)) → F.told files.old core.now ≡ Some content
+        → IsAnswerOf (Q.answers question) content result }
+    ensures comes { IfErr result ComesOfFile }
+    ensures read { HasCause (F.reads files.old) (F.reads files.new)
+        (IsErrAnd result IsReadFault) }
+    ensures files_told { F.told files.new ≡ F.told files.old }
+    ensures files_writes { F.writes files.new ≡ F.writes files.old }
+{
+    let is_elf = begins_as_elf(alloc, core, files)?;
+    if is_elf {
+        ask_elf(alloc, question, core, files)
+    } else {
+        ask_core(alloc, question, core, files)
+    }
 }

@@ -71,7 +71,7 @@ impl Question for ReportWanted {
     }
 }
 
-/// Reads a core page by page, and answers its report.
+/// Reads a core, and answers its report.
 pub fn show<F: Files>(alloc: Global, core: &str, files: &mut F) -> Result<Vec<u8>, Refusal>
     ensures answer { (old : Told) → let command = Show core.now in
         AreTold command (F.told files.old)

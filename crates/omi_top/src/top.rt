@@ -1,6 +1,6 @@
 //! The one call that the program makes, with the clause for each of its promises.
 
-ghost use Rattle.std.specs.Prelude.{◌≡◌, ◌⊎◌, ◌≤◌, ◌∷◌, ◌++◌, [], codes, List, ℕ, Option, Some, None, IfErr, IsErrOf, string_bytes};
+ghost use Rattle.std.specs.Prelude.{◌≡◌, ◌⊎◌, ◌≤◌, ◌∷◌, ◌++◌, [], codes, List, ℕ, Option, Some, None, IfErr, IsErrOf, length, string_bytes};
 ghost use Rattle.std.specs.String.{string_capacity};
 ghost use Rattle.omi_outside.specs.Outside.{Rose, holding, put_on};
 ghost use Rattle.omi_corefile.specs.Refusals.{CoreRefused};
@@ -8,7 +8,7 @@ ghost use Rattle.omi_corefile.specs.declared.fault.CoreFault.{CoreFault};
 ghost use Rattle.omi_script.specs.Grammar.{Grammar, Refused as RefusedScript};
 ghost use Rattle.omi_script.specs.declared.fault.ScriptFault.{ScriptFault};
 ghost use Rattle.omi_script.specs.declared.program.Program.{Program};
-ghost use Rattle.omi_top.specs.Command.{Stop, Make, Show, Run, Recode, Audit, Follow, Faulty, RefusesCore, command_in, names_of, written_name, Writes};
+ghost use Rattle.omi_top.specs.Command.{Stop, Make, Show, Run, Recode, Elf, Audit, Follow, Faulty, RefusesCore, command_in, names_of, written_name, Writes};
 ghost use Rattle.omi_top.specs.declared.plan.Plan.{Plan};
 ghost use Rattle.omi_top.specs.Asked.{asked, IsBounded};
 ghost use Rattle.omi_top.specs.Causes.{Concluded, Performed};
@@ -23,6 +23,10 @@ ghost use Rattle.omi_verbs.specs.Statuses.{ComesWhere, IsOfCore};
 ghost use Rattle.omi_verbs.specs.Scripts.{HoldsProgram};
 ghost use Rattle.omi_top.specs.Make.{IsMade, make_text};
 ghost use Rattle.omi_top.specs.Recode.{IsRecoded, recoded_line};
+ghost use Rattle.omi_top.specs.Elf.{elf_line};
+ghost use Rattle.omi_elf.specs.Spelling.{elf_bytes};
+ghost use Rattle.omi_top.specs.Files.{HasFault, IsFileOf};
+ghost use Rattle.omi_top.specs.Recoded.{AreAlike};
 ghost use Rattle.omi_audit.specs.declared.verdict.Verdict.{Verdict};
 ghost use Rattle.omi_top.specs.Between.{AreOfOneRun, AreStops, IsFollowedFrom, events_between};
 ghost use Rattle.omi_top.specs.Audit.{IsAudited, ShowsWhereYes, audit_line};
@@ -37,6 +41,7 @@ ghost use Rattle.omi_text.specs.Report.{report as report_of};
 
 use crate::audit::audit;
 use crate::command::{Request, names_of, request_of};
+use crate::elf::elf;
 use crate::follow::follow;
 use crate::make::make;
 use crate::recode::recode;
@@ -73,6 +78,7 @@ fn perform<F: Files, W: Files>(
             run_and_show(alloc, plan, script, core, files, dest)
         }
         Request::Recode { order, core, copy } => recode(alloc, order, core, copy, files, dest),
+        Request::Elf { core, copy } => elf(alloc, core, copy, files, dest),
         Request::Audit { core } => audit(alloc, core, files),
         Request::Follow { core, later } => follow(alloc, core, later, files),
         Request::Faulty => Err(Refusal::Usage),
@@ -142,10 +148,12 @@ fn carry_out<F: Files, W: Files, K: Sink>(
 /// writes a workload, runs it and prints how many tasks started; `show CORE` prints the report of a
 /// core; `run STEPS SCRIPT CORE` does what `stop` does, reads CORE back and prints its report as well;
 /// `recode ORDER CORE CORE2` writes a core anew, with the bytes of each word in the order 0 or 1;
+/// `elf CORE CORE2` writes a core as an ELF core file;
 /// `audit CORE` judges a core's words, and prints that they show a well-formed state, or the first
 /// clause of the audit that fails; `follow CORE CORE2` prints of each task of CORE's report whether
 /// it is current in CORE2, a later core of the same target.
-/// It reads from `files` alone, writes to `dest` alone and prints to `out`.
+/// A core that `show`, `run`, `audit` or `follow` reads may be an ELF core file: it is one where it
+/// begins with 7f 45 4c 46. It reads from `files` alone, writes to `dest` alone and prints to `out`.
 pub fn run_top<F: Files, W: Files, K: Sink>(
     alloc: Global,
     words: &Vec<String>,
@@ -209,15 +217,16 @@ pub fn run_top<F: Files, W: Files, K: Sink>(
     ensures makes { (n : ℕ) (script : List ℕ)
         → command_in words.now ≡ Make n script → IsWritingStatus result }
 
-    // The same of the core's file, for `show`: there is none, the grammar of core files refuses
-    // it, no layout table of this version is found in its words, or this table is wrong or the look
-    // at the words has a fault, exactly where the status says so.
+    // The same of the core's file, for `show`: there is none, it has a fault of its format, which is
+    // ELF where it begins with the four bytes of every ELF file, no layout table of this version is
+    // found in its words, or this table is wrong or the look at the words has a fault, exactly where
+    // the status says so.
     ensures no_core { (core : List ℕ) (content : Option (List ℕ))
         → command_in words.now ≡ Show core → F.told files.old core ≡ Some content
         → ComesWhere Status.NoFile result (content ≡ None) }
     ensures core { (core bytes : List ℕ)
         → command_in words.now ≡ Show core → F.told files.old core ≡ Some (Some bytes)
-        → ComesWhere Status.Core result ((at : ℕ) × (why : CoreFault) × CoreRefused bytes at why) }
+        → ComesWhere Status.Core result (HasFault bytes) }
     ensures incompatible { (core bytes : List ℕ)
         → command_in words.now ≡ Show core → F.told files.old core ≡ Some (Some bytes)
         → ComesWhere Status.Incompatible result (Spells bytes IsIncompatible) }
@@ -230,7 +239,7 @@ pub fn run_top<F: Files, W: Files, K: Sink>(
     ensures report { (core bytes : List ℕ)
         → command_in words.now ≡ Show core → F.told files.old core ≡ Some (Some bytes)
         → result ≡ Status.Success
-        → (image : CoreImage) × (v : View) × Core bytes image × IsLooked image (Ok v)
+        → (image : CoreImage) × (v : View) × IsFileOf bytes image × IsLooked image (Ok v)
         × (K.told out.new ≡ put_on (K.told out.old) (report_of v))
         × ((s : State) → ShowsState image s → IsViewOf s image.contexts v) }
 
@@ -243,7 +252,7 @@ pub fn run_top<F: Files, W: Files, K: Sink>(
     // core that a run left, whose events reach the state.
     ensures shown { (core bytes : List ℕ)
         → command_in words.now ≡ Show core → F.told files.old core ≡ Some (Some bytes)
-        → (image : CoreImage) → Core bytes image → (s : State) → ShowsState image s
+        → (image : CoreImage) → IsFileOf bytes image → (s : State) → ShowsState image s
         → IsShown s image.contexts result (K.told out.old) (K.told out.new) }
     ensures shown_again { (core bytes : List ℕ)
         → command_in words.now ≡ Show core → F.told files.old core ≡ Some (Some bytes)
@@ -258,7 +267,8 @@ pub fn run_top<F: Files, W: Files, K: Sink>(
         → IsShown s ids result (K.told out.old) (K.told out.new) }
 
     // With success of `recode` CORE2 holds the core with the contexts and segments of CORE and this
-    // order, and what is put is the line. It refuses a core nothing, and else comes where `show` does.
+    // order, and what is put is the line. It refuses a core nothing, and a file that is missing or that
+    // the grammar of core files refuses.
     ensures recoded { (order : ℕ) (core copy bytes : List ℕ)
         → command_in words.now ≡ Recode order core copy
         → F.told files.old core ≡ Some (Some bytes) → result ≡ Status.Success
@@ -277,6 +287,34 @@ pub fn run_top<F: Files, W: Files, K: Sink>(
         → F.told files.old core ≡ Some (Some bytes)
         → ComesWhere Status.Core result ((at : ℕ) × (why : CoreFault) × CoreRefused bytes at why) }
 
+    // With success of `elf` CORE2 holds the ELF file that is written of the core in CORE, and what is
+    // put is the line. It refuses as `recode` does.
+    ensures elf_written { (core copy bytes : List ℕ)
+        → command_in words.now ≡ Elf core copy
+        → F.told files.old core ≡ Some (Some bytes) → result ≡ Status.Success
+        → (image : CoreImage) × Core bytes image
+        × (W.told dest.new copy ≡ holding (W.told dest.old copy) (elf_bytes image))
+        × (K.told out.new ≡ put_on (K.told out.old) (elf_line (length image.segments))) }
+    ensures elf_writes { (core copy bytes : List ℕ)
+        → command_in words.now ≡ Elf core copy
+        → F.told files.old core ≡ Some (Some bytes) → (image : CoreImage) → Core bytes image
+        → IsDoneOrFailed result }
+    ensures elf_no_core { (core copy : List ℕ) (content : Option (List ℕ))
+        → command_in words.now ≡ Elf core copy → F.told files.old core ≡ Some content
+        → ComesWhere Status.NoFile result (content ≡ None) }
+    ensures elf_core { (core copy bytes : List ℕ)
+        → command_in words.now ≡ Elf core copy
+        → F.told files.old core ≡ Some (Some bytes)
+        → ComesWhere Status.Core result ((at : ℕ) × (why : CoreFault) × CoreRefused bytes at why) }
+
+    // Of two files that stand for cores with the same words and contexts `show` puts one report: of an
+    // ELF file that of the core file with its words, and of a file that `elf` wrote that of the core
+    // that it read.
+    ensures shown_alike { (core bytes : List ℕ)
+        → command_in words.now ≡ Show core → F.told files.old core ≡ Some (Some bytes)
+        → (other text : List ℕ) → AreAlike other bytes → IsReportOf other text
+        → IsReported text result (K.told out.old) (K.told out.new) }
+
     // Of a core that `recode` wrote, `show` puts the report of the core that it read.
     ensures shown_recoded { (core bytes : List ℕ)
         → command_in words.now ≡ Show core → F.told files.old core ≡ Some (Some bytes)
@@ -288,7 +326,7 @@ pub fn run_top<F: Files, W: Files, K: Sink>(
     ensures audited { (core bytes : List ℕ)
         → command_in words.now ≡ Audit core → F.told files.old core ≡ Some (Some bytes)
         → result ≡ Status.Success
-        → (image : CoreImage) × (v : Verdict) × Core bytes image × IsAudited image v
+        → (image : CoreImage) × (v : Verdict) × IsFileOf bytes image × IsAudited image v
         × (K.told out.new ≡ put_on (K.told out.old) (audit_line v)) × ShowsWhereYes image v }
     ensures audits { (core bytes : List ℕ)
         → command_in words.now ≡ Audit core → F.told files.old core ≡ Some (Some bytes)
@@ -297,7 +335,7 @@ pub fn run_top<F: Files, W: Files, K: Sink>(
     // Where a core's words show a state that events of a program reach, the verdict is Yes.
     ensures audit_reached { (core bytes : List ℕ)
         → command_in words.now ≡ Audit core → F.told files.old core ≡ Some (Some bytes)
-        → (image : CoreImage) → Core bytes image → ShowsReached image
+        → (image : CoreImage) → IsFileOf bytes image → ShowsReached image
         → IsApproved result (K.told out.old) (K.told out.new) }
 
     // It refuses a file as `show` does, and of the words the layout table alone.
@@ -306,7 +344,7 @@ pub fn run_top<F: Files, W: Files, K: Sink>(
         → ComesWhere Status.NoFile result (content ≡ None) }
     ensures audit_core { (core bytes : List ℕ)
         → command_in words.now ≡ Audit core → F.told files.old core ≡ Some (Some bytes)
-        → ComesWhere Status.Core result ((at : ℕ) × (why : CoreFault) × CoreRefused bytes at why) }
+        → ComesWhere Status.Core result (HasFault bytes) }
     ensures audit_incompatible { (core bytes : List ℕ)
         → command_in words.now ≡ Audit core → F.told files.old core ≡ Some (Some bytes)
         → ComesWhere Status.Incompatible result (Spells bytes IsIncompatible) }
@@ -338,7 +376,7 @@ pub fn run_top<F: Files, W: Files, K: Sink>(
     ensures follow_stops { (core later bytes others : List ℕ)
         → command_in words.now ≡ Follow core later → F.told files.old core ≡ Some (Some bytes)
         → F.told files.old later ≡ Some (Some others) → (image next : CoreImage)
-        → Core bytes image → Core others next → (stops : AreStops image next)
+        → IsFileOf bytes image → IsFileOf others next → (stops : AreStops image next)
         → IsFollowedFrom stops.state stops.between image.contexts result
         (K.told out.old) (K.told out.new) }
     ensures follow_runs { (core later bytes others : List ℕ)
@@ -363,8 +401,7 @@ pub fn run_top<F: Files, W: Files, K: Sink>(
     ensures run_core { (plan : Plan) (script core bytes : List ℕ) (text : Option (List ℕ))
         → command_in words.now ≡ Run plan script core
         → F.told files.old script ≡ Some text → F.told files.old core ≡ Some (Some bytes)
-        → ComesBehind Status.Core result (HoldsProgram text
-        × ((at : ℕ) × (why : CoreFault) × CoreRefused bytes at why)) }
+        → ComesBehind Status.Core result (HoldsProgram text × HasFault bytes) }
     ensures run_incompatible { (plan : Plan) (script core bytes : List ℕ) (text : Option (List ℕ))
         → command_in words.now ≡ Run plan script core
         → F.told files.old script ≡ Some text → F.told files.old core ≡ Some (Some bytes)

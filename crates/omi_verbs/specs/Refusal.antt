@@ -9,6 +9,10 @@ use Rattle.omi_corefile.specs.Faults.{core_fault_number, core_fault_text}
 use Rattle.omi_corefile.specs.declared.fault.CoreFault.{CoreFault}
 use Rattle.omi_corefile.specs.declared.fault.CoreError.{CoreError}
 use Rattle.omi_corefile.specs.declared.fault.CoreError.TheVariants as core
+use Rattle.omi_elf.specs.Faults.{elf_fault_number, elf_fault_text}
+use Rattle.omi_elf.specs.declared.fault.ElfFault.{ElfFault}
+use Rattle.omi_elf.specs.declared.fault.ElfError.{ElfError}
+use Rattle.omi_elf.specs.declared.fault.ElfError.TheVariants as elf
 use Rattle.omi_outside.specs.declared.files.Refused.{Refused}
 use Rattle.omi_outside.specs.declared.files.Refused.TheVariants as refused
 use Rattle.omi_outside.specs.declared.status.Status.{Status}
@@ -22,7 +26,7 @@ use Rattle.omi_verbs.specs.declared.refusal.Input.TheVariants as input
 use Rattle.omi_verbs.specs.declared.refusal.Refusal.{Refusal}
 use Rattle.omi_verbs.specs.declared.refusal.Refusal.TheVariants as refusal
 
--- what a refused write, and the error of a script or of a core, are handed on as
+-- what a refused write, and the error of a script, of a core or of an ELF core file, are handed on as
 abbrev pub refusal_of_write : Refused → Refusal
 refusal_of_write refused.Failed = refusal.WriteFault
 refusal_of_write refused.OutOfMemory = refusal.OutOfMemory
@@ -34,6 +38,10 @@ refusal_of_script error.OutOfMemory = refusal.OutOfMemory
 abbrev pub refusal_of_core : CoreError → Refusal
 refusal_of_core (core.Fault at why) = refusal.Core at why
 refusal_of_core core.OutOfMemory = refusal.OutOfMemory
+
+abbrev pub refusal_of_elf : ElfError → Refusal
+refusal_of_elf (elf.Fault at why) = refusal.Elf at why
+refusal_of_elf elf.OutOfMemory = refusal.OutOfMemory
 
 -- a file can't be read
 abbrev pub IsReadFault : Refusal → Type 0
@@ -58,6 +66,7 @@ status_of (refusal.ReadFault read) = status.ReadFault
 status_of refusal.WriteFault = status.WriteFault
 status_of (refusal.Script fault) = status.Script
 status_of (refusal.Core at why) = status.Core
+status_of (refusal.Elf at why) = status.Core
 status_of (refusal.Damaged addr field) = status.Damaged
 status_of (refusal.Cycle addr) = status.Damaged
 status_of refusal.Incompatible = status.Incompatible
@@ -69,11 +78,16 @@ fault_line fault =
     codes "script " ++ (decimal fault.line ++ (codes " " ++ (decimal (number_of_fault fault.why)
     ++ (codes " " ++ (text_of_fault fault.why ++ 10 ∷ [])))))
 
--- place, number and name of a fault of a core
+-- place, number and name of a fault of a core, and of one of an ELF core file, whose table has numbers of its own
+abbrev pub numbered_line : ℕ → ℕ → List ℕ → List ℕ
+numbered_line at number name =
+    codes "core " ++ (decimal at ++ (codes " " ++ (decimal number ++ (codes " " ++ (name ++ 10 ∷ [])))))
+
 abbrev pub core_fault_line : ℕ → CoreFault → List ℕ
-core_fault_line at why =
-    codes "core " ++ (decimal at ++ (codes " " ++ (decimal (core_fault_number why)
-    ++ (codes " " ++ (core_fault_text why ++ 10 ∷ [])))))
+core_fault_line at why = numbered_line at (core_fault_number why) (core_fault_text why)
+
+abbrev pub elf_fault_line : ℕ → ElfFault → List ℕ
+elf_fault_line at why = numbered_line at (elf_fault_number why) (elf_fault_text why)
 
 -- the address of a record, of a pointer or of a word of the layout table, and the name of the field, which is `layout` for the table
 abbrev pub damaged_line : ℕ → ℕ → List ℕ
@@ -108,6 +122,7 @@ refusal_line names (refusal.ReadFault read) =
     Some (codes "read fault " ++ (input_name names read ++ 10 ∷ []))
 refusal_line names (refusal.Script fault) = Some (fault_line fault)
 refusal_line names (refusal.Core at why) = Some (core_fault_line at why)
+refusal_line names (refusal.Elf at why) = Some (elf_fault_line at why)
 refusal_line names (refusal.Damaged addr field) = Some (damaged_line addr field)
 refusal_line names (refusal.Cycle addr) = Some (cycle_line addr)
 refusal_line names refusal.Incompatible = Some (codes "incompatible" ++ 10 ∷ [])

@@ -3,9 +3,10 @@
 ghost use Rattle.std.specs.Prelude.{◌≡◌, IfOk, None};
 ghost use Rattle.std.specs.Option.{option_map};
 ghost use Rattle.omi_verbs.specs.declared.refusal.Refusal.TheVariants.{OutOfMemory};
-ghost use Rattle.omi_verbs.specs.Refusal.{refusal_of_write, refusal_of_script, refusal_of_core, status_of};
+ghost use Rattle.omi_verbs.specs.Refusal.{refusal_of_write, refusal_of_script, refusal_of_core, refusal_of_elf, status_of};
 
 use omi_corefile::{CoreError, CoreFault};
+use omi_elf::{ElfError, ElfFault};
 use omi_outside::{Refused, Status};
 use omi_script::{ScriptError, ScriptFault};
 use std::alloc::{AllocError, AllocFailed};
@@ -34,6 +35,8 @@ pub enum Refusal {
     Script(ScriptFault),
     /// The grammar of core files refuses the core, at this place.
     Core(u64, CoreFault),
+    /// The rules of ELF core files refuse the core, at this place.
+    Elf(u64, ElfFault),
     /// The core's words are damaged: the byte address of a record or of a pointer, and the number of the field. Field 0 stands for the
     /// layout table.
     Damaged { addr: u64, field: u8 },
@@ -95,6 +98,17 @@ impl From<CoreError> for Refusal {
     }
 }
 
+impl From<ElfError> for Refusal {
+    ghost from_gives = { λ error e. e ≡ refusal_of_elf error };
+
+    fn from(error: ElfError) -> Refusal {
+        match error {
+            ElfError::Fault { at, why } => Refusal::Elf(at, why),
+            ElfError::OutOfMemory => Refusal::OutOfMemory,
+        }
+    }
+}
+
 impl Refusal {
     /// What the program ends with.
     pub fn status(&self) -> Status
@@ -106,7 +120,7 @@ impl Refusal {
             Refusal::ReadFault(_) => Status::ReadFault,
             Refusal::WriteFault => Status::WriteFault,
             Refusal::Script(_) => Status::Script,
-            Refusal::Core(_, _) => Status::Core,
+            Refusal::Core(_, _) | Refusal::Elf(_, _) => Status::Core,
             Refusal::Damaged { .. } | Refusal::Cycle { .. } => Status::Damaged,
             Refusal::Incompatible => Status::Incompatible,
             Refusal::OutOfMemory => Status::OutOfMemory,

@@ -6,7 +6,7 @@ ghost use Rattle.std.specs.String.{string_len, string_capacity};
 ghost use Rattle.std.specs.List.{flat_map, sum_by};
 ghost use Rattle.std.specs.Option.{option_map};
 ghost use Rattle.omi_layout.specs.Named.{field_text};
-ghost use Rattle.omi_verbs.specs.Refusal.{HasRoom, cycle_line, damaged_line, named, refusal_line};
+ghost use Rattle.omi_verbs.specs.Refusal.{HasRoom, cycle_line, damaged_line, named, numbered_line, refusal_line};
 
 use crate::limits::LINE_ROOM;
 use crate::names::{Names, longest, name_of as input_name};
@@ -113,6 +113,19 @@ fn push_cycle(room: &mut String, addr: u64)
     push_all(room, &["\n"]);
 }
 
+/// Adds the line on a fault of a core, by its place, its number and its name.
+fn push_fault(room: &mut String, at: u64, number: u8, name: &str)
+    requires short { length name.now ≤ 32 }
+    requires enough { string_len room.old + 96 ≤ string_capacity room.old }
+    ensures { string_bytes room.new ≡ string_bytes room.old ++ numbered_line at number name.now }
+{
+    let mut place = Buffer::new();
+    let mut digits = Buffer::new();
+    let place = place.format(at);
+    let digits = digits.format(number);
+    push_all(room, &["core ", place, " ", digits, " ", name, "\n"]);
+}
+
 /// The line of a refusal of a command that gives these names, if it prints one.
 pub(crate) fn line_of<'a>(
     names: Names<'_>,
@@ -144,13 +157,8 @@ pub(crate) fn line_of<'a>(
         }
         Refusal::Damaged { addr, field } => push_damaged(room, addr, field),
         Refusal::Cycle { addr } => push_cycle(room, addr),
-        Refusal::Core(at, why) => {
-            let mut place = Buffer::new();
-            let mut number = Buffer::new();
-            let place = place.format(at);
-            let number = number.format(why.number());
-            push_all(room, &["core ", place, " ", number, " ", why.text(), "\n"]);
-        }
+        Refusal::Core(at, why) => push_fault(room, at, why.number(), why.text()),
+        Refusal::Elf(at, why) => push_fault(room, at, why.number(), why.text()),
     }
     Some(room.as_str())
 }

@@ -17,18 +17,19 @@ unlike word other ne = go (bytes_eq word other) refl
 -- a verb that is none of these asks for nothing
 no_verb : (words : List (List ℕ)) (verb : List ℕ) (line : Line) → 1 ≤ length words → verb ≡ get_or words 0 verb
     → (verb ≡ codes "stop" → ⊥) → (verb ≡ codes "make" → ⊥) → (verb ≡ codes "show" → ⊥)
-    → (verb ≡ codes "run" → ⊥) → (verb ≡ codes "recode" → ⊥) → (verb ≡ codes "audit" → ⊥)
-    → (verb ≡ codes "follow" → ⊥) → Faulty ≡ verb_by words line
-no_verb [] verb line some is stop make show run recode audit follow = absurd (omega (arith, some))
-no_verb (w ∷ ws) verb line some is stop make show run recode audit follow =
+    → (verb ≡ codes "run" → ⊥) → (verb ≡ codes "recode" → ⊥) → (verb ≡ codes "elf" → ⊥)
+    → (verb ≡ codes "audit" → ⊥) → (verb ≡ codes "follow" → ⊥) → Faulty ≡ verb_by words line
+no_verb [] verb line some is stop make show run recode elf audit follow = absurd (omega (arith, some))
+no_verb (w ∷ ws) verb line some is stop make show run recode elf audit follow =
     let a = unlike w (codes "stop") (λ e. stop (is ∙ e)) in
     let b = unlike w (codes "make") (λ e. make (is ∙ e)) in
     let c = unlike w (codes "show") (λ e. show (is ∙ e)) in
     let d = unlike w (codes "run") (λ e. run (is ∙ e)) in
     let e = unlike w (codes "recode") (λ e. recode (is ∙ e)) in
-    let f = unlike w (codes "audit") (λ e. audit (is ∙ e)) in
+    let f = unlike w (codes "elf") (λ e. elf (is ∙ e)) in
+    let g = unlike w (codes "audit") (λ e. audit (is ∙ e)) in
     let h = unlike w (codes "follow") (λ e. follow (is ∙ e)) in
-    rw (a, b, c, d, e, f, h) refl
+    rw (a, b, c, d, e, f, g, h) refl
 
 pub returns-in_default-text_of-clause-asked : goal.returns-in_default-text_of-clause-asked
 returns-in_default-text_of-clause-asked c =
@@ -39,5 +40,5 @@ returns-in_default-text_of-clause-asked c =
     (subst (λ (xs : List (List ℕ)). 1 ≤ length xs) c.as_slice.ensures some)
     (c.verb-item.is ∙ ap (λ (xs : List (List ℕ)). get_or xs 0 c.verb-item.result) c.as_slice.ensures)
     (λ e. d.not-stop (is ∙ e)) (λ e. d.not-make (is ∙ e)) (λ e. d.not-show (is ∙ e)) (λ e. d.not-run (is ∙ e))
-    (λ e. d.not-recode (is ∙ e)) (λ e. d.not-audit (is ∙ e))
+    (λ e. d.not-recode (is ∙ e)) (λ e. d.not-elf (is ∙ e)) (λ e. d.not-audit (is ∙ e))
     (λ e. d.not-follow (is ∙ e))

@@ -5,7 +5,6 @@ use Rattle.omi_outside.specs.Outside.{Told}
 use Rattle.omi_top.proofs.Asking.{file_of_command}
 use Rattle.omi_top.proofs.Causes.{rose_later}
 use Rattle.omi_top.proofs.Following.{first_refused, later_of_command, later_read, later_refused, tasks_followed}
-use Rattle.omi_top.specs.Follow.{of_later}
 use Rattle.omi_verbs.specs.Refusal.{IsReadFault}
 use Rattle.omi_verbs.specs.declared.refusal.Refusal.TheVariants as refusal
 use Rattle.omi_top.proofs.follow.follow.Goals as goal

@@ -4,4 +4,4 @@ use Rattle.omi_top.proofs.question.ask_pages.Goals as goal
 
 pub returns-clause-answered : goal.returns-clause-answered
 returns-clause-answered g c =
-    λ core is same. c.ask-answer.ensures.answered core (ap told_of c.of-lent.ensures.pages ∙ is) same
+    λ core is same. c.ask_calls-answer.ensures.answered core (ap told_of c.of-lent.ensures.pages ∙ is) same

@@ -51,6 +51,12 @@ returns-in-Recode-clause-performed g c = rw c.in-Recode.is c.recode.ensures.perf
 pub returns-in-Recode-clause-of_core : goal.returns-in-Recode-clause-of_core
 returns-in-Recode-clause-of_core g c = rw c.in-Recode.is c.recode.ensures.of_core
 
+pub returns-in-Elf-clause-performed : goal.returns-in-Elf-clause-performed
+returns-in-Elf-clause-performed g c = rw c.in-Elf.is c.elf.ensures.performed
+
+pub returns-in-Elf-clause-of_core : goal.returns-in-Elf-clause-of_core
+returns-in-Elf-clause-of_core g c = rw c.in-Elf.is c.elf.ensures.of_core
+
 pub returns-in-Audit-clause-performed : goal.returns-in-Audit-clause-performed
 returns-in-Audit-clause-performed g c =
     rw c.in-Audit.is

@@ -6,15 +6,17 @@ use Rattle.omi_verbs.specs.Statuses.{IsOfCore}
 use Rattle.omi_top.specs.Asked.{asked}
 use Rattle.omi_top.specs.Answer.{AreTold, IsLeft, IsUnwritten}
 use Rattle.omi_verbs.specs.Said.{IsCounted}
-use Rattle.omi_top.specs.Command.{Command, Stop, Make, Show, Run, Recode, Audit, Follow, Faulty, RefusesCore, Writes, command_by, command_in, written_name}
+use Rattle.omi_top.specs.Command.{Command, Stop, Make, Show, Run, Recode, Elf, Audit, Follow, Faulty, RefusesCore, Writes, command_by, command_in, written_name}
 use Rattle.omi_top.proofs.Left.{left_by}
 use Rattle.omi_top.proofs.LeftByShow.{no_file as no_core, core_refused, incompatible, damaged, put_report as put_shown, report_put, shown, shows, shown_again, shown_reached}
 use Rattle.omi_top.proofs.LeftByRun.{core_refused as run_core_refused, damaged as run_damaged, incompatible as run_incompatible, no_file as run_no_file, put_report, runs, script_refused as run_script_refused, shown as run_shown, wrote}
 use Rattle.omi_top.proofs.LeftByMake.{success as made, writing}
-use Rattle.omi_top.proofs.LeftByRecode.{core_refused as recode_core_refused, no_file as recode_no_file, recodes, success as recoded}
+use Rattle.omi_top.specs.Elf.{IsElfCopy}
+use Rattle.omi_top.specs.Recode.{IsRecodedCopy}
+use Rattle.omi_top.proofs.LeftByCopy.{copied, core_refused as copy_core_refused, elf_copies, elf_success, no_file as copy_no_file, recode_copies, recode_success}
 use Rattle.omi_top.proofs.LeftByAudit.{approved, audits, core_refused as audit_core_refused, damaged as audit_damaged, incompatible as audit_incompatible, judged, no_file as audit_no_file}
 use Rattle.omi_top.proofs.LeftByFollow.{followed, followed_from, followed_run, follows, refused as follow_refused}
-use Rattle.omi_top.proofs.Recoded.{copy_reported}
+use Rattle.omi_top.proofs.Recoded.{recoded_alike, report_alike}
 use Rattle.omi_top.proofs.LeftByStop.{no_file, script_refused, stops, success}
 use Rattle.omi_top.proofs.Promised.{promised}
 use Rattle.omi_top.proofs.top.run_top.Given as given
@@ -81,6 +83,11 @@ of_recode : (g : given.Over) (c : Joined-line g) (order : ℕ) (core copy : List
     → Leaves g c (Recode order core copy)
 of_recode g c order core copy content command told =
     left_of g c (Recode order core copy) (asked_is g c ∙ command) (content, told)
+
+of_elf : (g : given.Over) (c : Joined-line g) (core copy : List ℕ) (content : Option (List ℕ))
+    → command_in c.args.words.now ≡ Elf core copy → files g c core ≡ Some content → Leaves g c (Elf core copy)
+of_elf g c core copy content command told =
+    left_of g c (Elf core copy) (asked_is g c ∙ command) (content, told)
 
 of_audit : (g : given.Over) (c : Joined-line g) (core : List ℕ) (content : Option (List ℕ))
     → command_in c.args.words.now ≡ Audit core → files g c core ≡ Some content → Leaves g c (Audit core)
@@ -234,28 +241,53 @@ returns-in-Ok-clause-follow_runs g c core later bytes others command told also p
 
 pub returns-in-Ok-clause-recoded : goal.returns-in-Ok-clause-recoded
 returns-in-Ok-clause-recoded g c order core copy bytes command told done =
-    recoded order core copy (files g c) _ _ _ _ _ _ bytes told done
+    recode_success core copy (files g c) _ _ _ _ _ order _ bytes told done
     (of_recode g c order core copy (Some bytes) command told)
 
 pub returns-in-Ok-clause-recodes : goal.returns-in-Ok-clause-recodes
 returns-in-Ok-clause-recodes g c order core copy bytes command told image spelled =
-    recodes order core copy (files g c) _ _ _ _ _ _ bytes told (image, spelled)
+    copied (Recode order core copy) core (IsRecodedCopy order) (recode_copies order core copy) (files g c) _ _ _ _ _ _ bytes told (image, spelled)
     (of_recode g c order core copy (Some bytes) command told)
 
 pub returns-in-Ok-clause-recode_no_core : goal.returns-in-Ok-clause-recode_no_core
 returns-in-Ok-clause-recode_no_core g c order core copy content command told =
-    recode_no_file order core copy (files g c) _ _ _ _ _ _ content told
+    copy_no_file (Recode order core copy) core (IsRecodedCopy order) (recode_copies order core copy) (files g c) _ _ _ _ _ _ content told
     (of_recode g c order core copy content command told)
 
 pub returns-in-Ok-clause-recode_core : goal.returns-in-Ok-clause-recode_core
 returns-in-Ok-clause-recode_core g c order core copy bytes command told =
-    recode_core_refused order core copy (files g c) _ _ _ _ _ _ bytes told
+    copy_core_refused (Recode order core copy) core (IsRecodedCopy order) (recode_copies order core copy) (files g c) _ _ _ _ _ _ bytes told
     (of_recode g c order core copy (Some bytes) command told)
+
+pub returns-in-Ok-clause-elf_written : goal.returns-in-Ok-clause-elf_written
+returns-in-Ok-clause-elf_written g c core copy bytes command told done =
+    elf_success core copy (files g c) _ _ _ _ _ _ bytes told done
+    (of_elf g c core copy (Some bytes) command told)
+
+pub returns-in-Ok-clause-elf_writes : goal.returns-in-Ok-clause-elf_writes
+returns-in-Ok-clause-elf_writes g c core copy bytes command told image spelled =
+    copied (Elf core copy) core IsElfCopy (elf_copies core copy) (files g c) _ _ _ _ _ _ bytes told (image, spelled)
+    (of_elf g c core copy (Some bytes) command told)
+
+pub returns-in-Ok-clause-elf_no_core : goal.returns-in-Ok-clause-elf_no_core
+returns-in-Ok-clause-elf_no_core g c core copy content command told =
+    copy_no_file (Elf core copy) core IsElfCopy (elf_copies core copy) (files g c) _ _ _ _ _ _ content told
+    (of_elf g c core copy content command told)
+
+pub returns-in-Ok-clause-elf_core : goal.returns-in-Ok-clause-elf_core
+returns-in-Ok-clause-elf_core g c core copy bytes command told =
+    copy_core_refused (Elf core copy) core IsElfCopy (elf_copies core copy) (files g c) _ _ _ _ _ _ bytes told
+    (of_elf g c core copy (Some bytes) command told)
+
+pub returns-in-Ok-clause-shown_alike : goal.returns-in-Ok-clause-shown_alike
+returns-in-Ok-clause-shown_alike g c core bytes command told other text alike reported =
+    put_shown core (files g c) _ _ _ _ _ bytes told text (report_alike other bytes alike text reported) _
+    (of_show g c core (Some bytes) command told)
 
 pub returns-in-Ok-clause-shown_recoded : goal.returns-in-Ok-clause-shown_recoded
 returns-in-Ok-clause-shown_recoded g c core bytes command told order other text recoded_from reported =
     put_shown core (files g c) _ _ _ _ _ bytes told text
-    (copy_reported order other bytes text recoded_from reported) _
+    (report_alike other bytes (recoded_alike order other bytes recoded_from) text reported) _
     (of_show g c core (Some bytes) command told)
 
 pub returns-in-Ok-clause-run_script : goal.returns-in-Ok-clause-run_script
