@@ -12,7 +12,7 @@ use Rattle.omi_core.specs.declared.stop.Break.TheVariants as kind
 use Rattle.omi_core.specs.Ends.{is_of_kind}
 use Rattle.omi_live.specs.declared.known.Access.{Access}
 use Rattle.omi_live.specs.declared.known.Access.TheVariants as access
-use Rattle.omi_live.specs.Stops.{ends_at, stops_at}
+use Rattle.omi_seat.specs.Stops.{ends_at, stops_at}
 use Rattle.omi_live.specs.Accesses.{Finds, LeadTo, accesses_of, operation_of, raise_behind, step_in, steps_in, with_looks}
 
 pub lead_more : (stop : ℕ) (words : List ℕ) (xs : List (ℕ × Access)) (x : ℕ × Access) (mid last : List ℕ)

@@ -1,51 +1,48 @@
--- An operation of a thread on the table is allowed, whatever its kind.
-use Rattle.std.proofs.Common.{◌≡◌, ◌<◌, ◌==◌, ℕ, Bool, true, false, [], ◌∷◌, refl, sym, ap, subst, arith, Option, if◌then◌else◌}
-use mathlib.Core.Path.{fun_ext}
-use prog.Atomic.{either}
+-- An operation of a thread on the table is allowed, and what it tells.
+use Rattle.std.proofs.Common.{◌≡◌, ◌<◌, ◌≤◌, ◌+◌, ℕ, [], ◌∷◌, length, sym, ap, subst, arith, Option}
 use Rattle.atomic_table.specs.Seated.{TableId}
-use Rattle.atomic_table.specs.Table.{Allows, Step}
+use Rattle.atomic_table.specs.Table.{Allows}
+use Rattle.omi_word.specs.declared.limits.TheConstants.{FIRST_ADDRESS}
 use Rattle.omi_word.specs.declared.op.Op.{Op}
 use Rattle.omi_word.specs.Memory.{address_of, left_of, place_of}
 use Rattle.omi_script.specs.declared.program.Program.{Program}
 use Rattle.omi_layout.specs.declared.layout.Layout.{Layout}
+use Rattle.omi_layout.specs.Place.{image_words}
+use Rattle.omi_actor.specs.Steps.{next_of}
 use Rattle.omi_core.specs.declared.stop.Break.{Break}
-use Rattle.omi_live.specs.declared.known.Part.{Part}
+use Rattle.omi_core.specs.RunSteps.{seats_of}
+use Rattle.omi_seat.specs.declared.limits.TheConstants.{MOST_BUDGET}
+use Rattle.omi_seat.specs.Applied.{MayApply, WasTold}
+use Rattle.omi_seat.specs.Behind.{CanStep}
+use Rattle.omi_seat.specs.Known.{actor_known, claims_known, entry_known}
 use Rattle.omi_seat.specs.Seats.{Seated}
-use Rattle.omi_live.specs.Plays.{stepped}
+use Rattle.omi_live.specs.declared.known.Part.{Part}
+use Rattle.omi_live.specs.Plays.{makes, stepped}
 use Rattle.omi_live.specs.Running.{Keeps}
-use Rattle.omi_live.specs.Work.{HasFound, IsAble}
 use Rattle.omi_live.proofs.Operated.{step_allowed}
 
--- the word is one of the table
-pub inside : (id : TableId) (o : Op) (me : Seated Part) (x : Part) → IsAble id o me x → (place : ℕ)
-    → place ≡ place_of (address_of o) → place < id.words
-inside id o me x is place at =
-    let below = is.able.inside in
-    let here : place_of (address_of o) < id.words =
-    subst (λ (q : Op). place_of (address_of q) < id.words) (sym is.is_next)
-    (let count = is.count in omega (arith, below, count)) in
-    subst (λ n. n < id.words) (sym at) here
+-- a seat that stands for one thread may make the thread's next operation
+pub may_step : (p : Program) (l : Layout) (on : Option Break) (id : TableId) (seat : ℕ) (x : Part) (me : Seated Part) (o : Op)
+    → me ≡ (x ∷ [], []) → o ≡ next_of x.known.program x.known.layout.table (actor_known x.known)
+    → CanStep x.known.program x.known.layout.table (actor_known x.known) → length x.known.found < MOST_BUDGET
+    → id.words ≡ image_words x.known.layout.table + 1 → MayApply (Keeps p l on) id seat me o stepped
+may_step p l on id seat x me o knows is_next able few count = record {
+  above = subst (λ (q : Op). FIRST_ADDRESS ≤ address_of q) (sym is_next) able.above;
+  inside =
+      let below = able.inside in
+      subst (λ (q : Op). place_of (address_of q) < id.words) (sym is_next) (omega (arith, below, count));
+  allows = λ st.
+      subst (λ (m : Seated Part). Allows (Keeps p l on) id.slots seat m (place_of (address_of o)) (left_of o) (stepped st m)) (sym knows)
+      (step_allowed p l on id.slots seat x st few o is_next);
+}
 
-pub allowed : (p : Program) (l : Layout) (on : Option Break) (slots seat : ℕ) (st : Step (Unit {0})) (id : TableId) (o : Op) (me : Seated Part) (x : Part)
-    → IsAble id o me x
-    → (place : ℕ) → place ≡ place_of (address_of o) → (f : ℕ → ℕ) → ((n : ℕ) → left_of o n ≡ f n) → Allows (Keeps p l on) slots seat me place f (stepped st me)
-allowed p l on slots seat st id o me x is place at f same =
-    subst (λ (g : ℕ → ℕ). Allows (Keeps p l on) slots seat me place g (stepped st me)) (fun_ext same)
-    (subst (λ k. Allows (Keeps p l on) slots seat me k (left_of o) (stepped st me)) (sym at)
-    (subst (λ (m : Seated Part). Allows (Keeps p l on) slots seat m (place_of (address_of o)) (left_of o) (stepped st m)) (sym is.knows)
-    (step_allowed p l on slots seat x st is.few o is.is_next)))
+-- what it has learnt
+pub record HasFound (x : Part) (n : ℕ) (me : Seated Part) : Type 0 where
+  pub knows : me ≡ (makes n x ∷ [], [])
+  pub seats : seats_of (entry_known x.known n).outcome ≤ claims_known x.known + 1
 
--- a compare and exchange
-pub exchanged : (n old new : ℕ) → (if n == old then new else n) ≡ either (n == old) new n
-exchanged n old new = go (n == old)
-  where
-    go : (b : Bool) → (if b then new else n) ≡ either b new n
-    go true = refl
-    go false = refl
-
--- what the thread has learnt
-pub has_found : (st : Step (Unit {0})) (me : Seated Part) (n : ℕ) (after : Seated Part)
-    → stepped st me n after → (x : Part) → me ≡ (x ∷ [], []) → HasFound x n after
-has_found st me n after told x is =
-    let here = told x (ap (λ (m : Seated Part). m.0) is) in
+pub has_found : (me : Seated Part) (n : ℕ) (after : Seated Part) → WasTold stepped me n after → (x : Part)
+    → me ≡ (x ∷ [], []) → HasFound x n after
+has_found me n after told x is =
+    let here = told.1 x (ap (λ (m : Seated Part). m.0) is) in
     record { knows = here.0; seats = here.1 }

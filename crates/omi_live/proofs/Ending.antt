@@ -4,40 +4,27 @@ use mathlib.Core.Option.{some}
 use lib.ListN.{get_elem?}
 use Rattle.atomic_table.specs.Table.{State}
 use Rattle.omi_script.specs.declared.program.Program.{Program}
-use Rattle.omi_model.specs.declared.event.Event.{Event}
-use Rattle.omi_model.specs.Reached.{Reached}
 use Rattle.omi_layout.specs.declared.layout.Layout.{Layout}
-use Rattle.omi_layout.specs.Given.{HasTables}
-use Rattle.omi_layout.specs.Memory.{memory_of}
 use Rattle.omi_layout.proofs.OneOpening.{one_opening}
-use Rattle.omi_word.specs.Words.{words_of}
 use Rattle.omi_pc.specs.declared.actor.Actor.{Actor}
 use Rattle.omi_pc.specs.Opening.{opening_actor}
-use Rattle.omi_rep.specs.Shows.{Shows}
-use Rattle.omi_rule.specs.Rule.{Rule}
 use Rattle.omi_core.specs.declared.entry.Entry.{Entry}
 use Rattle.omi_core.specs.declared.stop.Break.{Break}
 use Rattle.omi_core.specs.declared.thread_run.ThreadRun.{ThreadRun}
-use Rattle.omi_core.specs.Histories.{Counts}
-use Rattle.omi_core.specs.Runs.{actors_in, events_in}
-use Rattle.omi_core.specs.Steps.{AreStepsOf, steps_of}
-use Rattle.omi_core.proofs.Histories.{counted}
-use Rattle.omi_core.proofs.Stepping.{actor_is, shows_state}
+use Rattle.omi_core.specs.Runs.{actors_in}
+use Rattle.omi_core.specs.Steps.{steps_of}
+use Rattle.omi_core.proofs.Stepping.{actor_is}
 use Rattle.omi_live.specs.declared.known.Access.{Access}
 use Rattle.omi_live.specs.declared.known.Part.{Part}
-use Rattle.omi_core.specs.Found.{actor_after, actor_behind, entries_from}
+use Rattle.omi_core.specs.Found.{actor_behind, entries_from}
 use Rattle.omi_live.specs.Joined.{AreRunsKnown, IsRunKnown}
 use Rattle.omi_live.specs.Accesses.{AreAccesses, accesses_of}
 use Rattle.omi_live.specs.Live.{IsLive, IsRunOf, actors_left}
 use Rattle.omi_seat.specs.Known.{steps_known}
 use Rattle.omi_live.specs.Running.{IsPart, IsRaised, IsStopWord, Keeps}
-use Rattle.omi_live.proofs.Lists.{get_within}
-
--- the words that steps found are those of which they follow
-found_again : (p : Program) (w : List ℕ) (a : Actor) (ns : List ℕ)
-    → map (λ (e : Entry). e.old) (entries_from p w a ns) ≡ ns
-found_again p w a [] = refl
-found_again p w a (n ∷ ns) = ap (λ ms. n ∷ ms) (found_again p w (actor_after p w a n) ns)
+use Rattle.omi_seat.proofs.Lists.{get_within}
+use Rattle.omi_seat.proofs.Behind.{events_reach, has_tables, image_counts, image_shows, rule_holds, steps_made}
+use Rattle.omi_seat.proofs.Made.{found_again, same_actors}
 
 own_run : (budget : ℕ) (on : Option Break) (x : Part) (p : Program) (l : Layout) (i : ℕ) (r : ThreadRun)
     → IsRunKnown p l budget on i x r
@@ -57,16 +44,6 @@ own_run budget on x p l i r k =
       reason = k.worked.reason;
       did = k.worked.did;
     }
-
--- the actors of threads, each of which is known
-same_actors : (actors : List Actor) (runs : List ThreadRun) → length actors ≡ length runs
-    → ((i : ℕ) (r : ThreadRun) → slice_get runs i ≡ Some r → (d : Actor) → slice_index_or actors i d ≡ r.actor)
-    → actors ≡ map (λ (r : ThreadRun). r.actor) runs
-same_actors [] [] count each = refl
-same_actors [] (r ∷ runs) count each = absurd (omega (arith, count))
-same_actors (a ∷ actors) [] count each = absurd (omega (arith, count))
-same_actors (a ∷ actors) (r ∷ runs) count each =
-    λ k. each 0 r refl a k ∷ same_actors actors runs (omega (arith, count)) (λ i q got d. each (suc i) q got d) k
 
 module _ (p : Program) (l : Layout) (budget : ℕ) (on : Option Break) (s : State (Unit {0}) (List Part))
     (h : Keeps p l on s) (id : ℕ) (parts : List Part) (at : get_elem? s.views id ≡ some parts)
@@ -106,33 +83,23 @@ module _ (p : Program) (l : Layout) (budget : ℕ) (on : Option Break) (s : Stat
           actor_is h.behind.run.actors i d (subst (λ n. i < n) (sym long) (get_within runs r i got))
           ∙ ap (actors_in h.behind.run.actors) (sym one.2.own) ∙ one.1.known.actor ∙ sym one.2.actor
 
-  steps_made : (image : List ℕ) → image ≡ h.behind.run.words
-      → AreStepsOf p l.table h.behind.keeps.entries image h.behind.keeps.state
-  steps_made image is =
-      subst
-      (λ (z : Program × List ℕ × List ℕ). AreStepsOf z.0 z.1 h.behind.keeps.entries z.2 h.behind.keeps.state)
-      (λ k. (h.behind.program k, h.behind.table k, sym is k)) h.behind.keeps.made_by.steps
-
   pub is_live : length runs ≡ p.threads → (image : List ℕ) → image ≡ h.behind.run.words
       → IsLive p l budget on image runs
   is_live count image is = record {
     entries = h.behind.keeps.entries;
     state = h.behind.keeps.state;
-    steps = steps_made image is;
-    reached = subst (λ (z : Program × List (ℕ × ℕ × Event)). Reached z.0 (events_in z.1) h.behind.keeps.state) (λ k. (h.behind.program k, h.behind.keeps.made_by.events k)) h.behind.keeps.rule.reached;
-    rule =
-        subst
-        (λ (z : Program × List ℕ × List ℕ × List (ℕ × ℕ × Event) × (ℕ → Actor)). Rule z.0 z.1 (memory_of z.1 z.2) (events_in z.3) h.behind.keeps.state z.4)
-        (λ k. (h.behind.program k, h.behind.table k, sym is k, h.behind.keeps.made_by.events k, actors_are count k)) h.behind.keeps.rule;
-    shows = subst (λ (z : List ℕ × List ℕ). Shows z.0 (words_of z.1) h.behind.keeps.state) (λ k. (h.behind.table k, sym is k)) (shows_state h.behind.run h.behind.keeps h.behind.keeps.state h.behind.keeps.rule.reached);
-    tables = subst (λ (z : List ℕ × List ℕ). HasTables z.0 z.1) (λ k. (h.behind.table k, sym is k)) h.behind.keeps.tables;
-    counts = subst (λ (z : List ℕ × List ℕ). Counts z.0 z.1 h.behind.keeps.state) (λ k. (h.behind.table k, sym is k)) (counted h.behind.run h.behind.keeps);
+    steps = steps_made p l s.words (h.stop ∷ []) h.behind image is;
+    reached = events_reach p l s.words (h.stop ∷ []) h.behind image is;
+    rule = rule_holds p l s.words (h.stop ∷ []) h.behind image is (actors_left runs) (actors_are count);
+    shows = image_shows p l s.words (h.stop ∷ []) h.behind image is;
+    tables = has_tables p l s.words (h.stop ∷ []) h.behind image is;
+    counts = image_counts p l s.words (h.stop ∷ []) h.behind image is;
     threads = count;
     accesses = h.accesses;
     stop = h.stop;
     made =
         subst (λ (z : List ℕ × List ℕ). AreAccesses p l.table h.behind.keeps.entries h.accesses z.0 z.1)
-        (λ k. (one_opening p l.table l.valid h.first (steps_made image is).first h.opens (steps_made image is).opens k, (h.behind.are ∙ ap (λ (ws : List ℕ). ws ++ h.stop ∷ []) (sym is)) k)) h.made;
+        (λ k. (one_opening p l.table l.valid h.first (steps_made p l s.words (h.stop ∷ []) h.behind image is).first h.opens (steps_made p l s.words (h.stop ∷ []) h.behind image is).opens k, (h.behind.are ∙ ap (λ (ws : List ℕ). ws ++ h.stop ∷ []) (sym is)) k)) h.made;
     each = run_is;
     stopped = λ i r got stopped. let one = part_of_run i r got in why_stopped h.raised (one.1.told (one.2.worked.stopped stopped));
   }

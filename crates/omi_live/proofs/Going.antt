@@ -2,8 +2,6 @@
 use Rattle.std.proofs.Common.{◌≡◌, ◌⊎◌, inl, inr, ◌<◌, ◌≤◌, ◌-◌, ◌+◌, ◌++◌, ℕ, Bool, true, false, List, [], ◌∷◌, length, Option, refl, sym, ap, ◌∙◌, subst, arith}
 use Rattle.std.proofs.lemmas.Bool.{false≢true}
 use Rattle.std.proofs.lemmas.List.{append-nil, length-append}
-use Rattle.omi_run_lists.specs.Events.{Events}
-use Rattle.omi_run_lists.specs.Steps.{Steps}
 use Rattle.atomic_table.specs.Seated.{TableId}
 use Rattle.omi_script.specs.declared.program.Program.{Program}
 use Rattle.omi_layout.specs.declared.layout.Layout.{Layout}
@@ -17,41 +15,17 @@ use Rattle.omi_live.specs.declared.known.Part.{Part}
 use Rattle.omi_live.specs.declared.worker.Worker.{Worker}
 use Rattle.omi_live.specs.Plays.{first_part, looks, makes, raises}
 use Rattle.omi_live.specs.Accesses.{with_looks}
-use Rattle.omi_seat.specs.Known.{claims_known, entry_known, steps_known}
+use Rattle.omi_seat.specs.Known.{entry_known, steps_known}
 use Rattle.omi_seat.proofs.Learnt.{steps_found, steps_one_more}
-use Rattle.omi_live.specs.Stops.{GoesOn, WentOn, ends_at, is_ended, some_stop, stops_at}
-use Rattle.omi_live.specs.Work.{HasRoom, HasStepped, HasWorked, HasLooked, IsAtWork, IsSameBut}
+use Rattle.omi_seat.specs.Stops.{GoesOn, WentOn, ends_at, is_ended, some_stop, stops_at}
+use Rattle.omi_seat.proofs.GoingOn.{ended_by, goes_more, not_ended, went, went_more}
+use Rattle.omi_seat.specs.declared.known.Known.{Known}
+use Rattle.omi_seat.specs.declared.step_log.StepLog.{StepLog}
+use Rattle.omi_seat.specs.StepLog.{HasRoom, IsLogOf}
+use Rattle.omi_seat.proofs.Logged.{less_room}
+use Rattle.omi_live.specs.Work.{HasStepped, HasWorked, HasLooked, IsAtWork, IsSameBut}
 use Rattle.omi_live.proofs.Accesses.{done_is_no_stop, with_raise, without_raise}
-use Rattle.omi_live.proofs.StopsLast.{stops_last}
-use Rattle.omi_run_lists.specs.StepRoom.{room_for_steps}
-
--- ---- steps
-
-pub not_ended : (on : Option Break) (es : List Entry) → GoesOn on es → is_ended es ≡ false
-not_ended on [] goes = refl
-not_ended on (e ∷ []) goes = goes.0
-not_ended on (e ∷ f ∷ es) goes = not_ended on (f ∷ es) goes.2
-
-pub went : (on : Option Break) (es : List Entry) → GoesOn on es → WentOn on es
-went on [] goes = tt
-went on (e ∷ []) goes = tt
-went on (e ∷ f ∷ es) goes = (goes.0, goes.1, went on (f ∷ es) goes.2)
-
--- one more step, whatever comes of it
-pub went_more : (on : Option Break) (es : List Entry) (e : Entry) → GoesOn on es → WentOn on (es ++ e ∷ [])
-went_more on [] e goes = tt
-went_more on (f ∷ []) e goes = (goes.0, goes.1, tt)
-went_more on (f ∷ g ∷ es) e goes = (goes.0, goes.1, went_more on (g ∷ es) e goes.2)
-
-pub goes_more : (on : Option Break) (es : List Entry) (e : Entry) → GoesOn on es → ends_at e.outcome ≡ false
-    → stops_at on e.outcome ≡ false → GoesOn on (es ++ e ∷ [])
-goes_more on [] e goes not_done no_stop = (not_done, no_stop, tt)
-goes_more on (f ∷ es) e goes not_done no_stop = (goes.0, goes.1, goes_more on es e goes.2 not_done no_stop)
-
-pub ended_by : (es : List Entry) (e : Entry) → is_ended (es ++ e ∷ []) ≡ ends_at e.outcome
-ended_by [] e = refl
-ended_by (f ∷ []) e = refl
-ended_by (f ∷ g ∷ es) e = ended_by (g ∷ es) e
+use Rattle.omi_seat.proofs.StopsLast.{stops_last}
 
 -- ---- between two steps
 
@@ -65,9 +39,9 @@ pub record IsWorking (p : Program) (l : Layout) (id : TableId) (on : Option Brea
     (worker : Worker) : Type 0 where
   pub part : Part
   pub work : IsAtWork p l id part worker
-  pub own : worker.thread ≡ thread
+  pub own : worker.log.thread ≡ thread
   pub count : length part.known.found ≡ made
-  pub room : HasRoom (budget - made) part worker
+  pub room : HasRoom (budget - made) part.known worker.log
   pub goes : MayGoOn on part
   pub did : part.accesses ≡ with_looks on (steps_known part.known)
 
@@ -91,32 +65,15 @@ not_told on x raised (inr was) told not = absurd (false≢true (sym not ∙ told
 pub looked_work : {p : Program} {l : Layout} {id : TableId} {x : Part} {raised : Bool} {old new : Worker}
     → IsAtWork p l id x old → HasLooked x raised new → IsSameBut old new
     → IsAtWork p l id (looks raised x) new
-looked_work work looked same = record {
-  program = work.program;
-  layout = work.layout;
-  thread = same.thread ∙ work.thread;
-  below = work.below;
+looked_work {p = p} {l = l} {x = x} work looked same = record {
+  log = subst (λ (g : StepLog). IsLogOf p l x.known g) (sym same.log) work.log;
   table = same.table ∙ work.table;
   knows = looked.knows;
-  actor = same.actor ∙ work.actor;
-  made = ap (λ (m : Steps). m.items) same.made ∙ work.made;
-  events = ap (λ (m : Events). m.items) same.events ∙ work.events;
 }
 
-pub same_room : (n : ℕ) (x y : Part) (old new : Worker) → claims_known x.known ≡ claims_known y.known
-    → IsSameBut old new → HasRoom n x old → HasRoom n y new
-same_room n x y old new claims same room = record {
-  made = subst (λ (m : Steps). n ≤ m.spare) (sym same.made) room.made;
-  events =
-      subst (λ (z : Events × ℕ). n ≤ room_for_steps z.0 z.1) (λ k. (sym same.events k, claims k))
-      room.events;
-}
-
-pub less_room : (n m : ℕ) (x : Part) (worker : Worker) → n ≤ m → HasRoom m x worker → HasRoom n x worker
-less_room n m x worker less room =
-    let made = room.made in
-    let events = room.events in
-    record { made = omega (arith, less, made); events = omega (arith, less, events) }
+pub same_room : (n : ℕ) (x : Known) (old new : Worker) → IsSameBut old new → HasRoom n x old.log
+    → HasRoom n x new.log
+same_room n x old new same room = subst (λ (g : StepLog). HasRoom n x g) (sym same.log) room
 
 -- ---- one more step of a thread
 
@@ -125,7 +82,7 @@ pub record Behind (p : Program) (l : Layout) (id : TableId) (on : Option Break) 
     (worker : Worker) (out : Outcome) : Type 0 where
   pub part : Part
   pub work : IsAtWork p l id part worker
-  pub own : worker.thread ≡ thread
+  pub own : worker.log.thread ≡ thread
   pub count : length part.known.found ≡ made + 1
   pub before : List Entry
   pub goes : GoesOn on before
@@ -134,15 +91,15 @@ pub record Behind (p : Program) (l : Layout) (id : TableId) (on : Option Break) 
   pub steps : steps_known part.known ≡ before ++ last ∷ []
   pub past : List Access
   pub so_far : past ≡ with_looks on before
-  pub room : HasRoom (budget - (made + 1)) part worker
+  pub room : HasRoom (budget - (made + 1)) part.known worker.log
   pub did : part.accesses ≡ (past ++ access.Look false ∷ []) ++ access.Step last ∷ []
 
 pub behind_step : {p : Program} {l : Layout} {id : TableId} {on : Option Break} {budget made thread : ℕ}
     (x : Part) {raised : Bool} {old new : Worker} {out : Outcome}
     → length x.known.found ≡ made → GoesOn on (steps_known x.known)
     → x.accesses ≡ with_looks on (steps_known x.known) → raised ≡ false → made < budget
-    → HasRoom (budget - made) (looks raised x) old → HasStepped p l id (looks raised x) old new out
-    → new.thread ≡ thread → Behind p l id on budget made thread new out
+    → HasRoom (budget - made) x.known old.log → HasStepped p l id (looks raised x) old new out
+    → new.log.thread ≡ thread → Behind p l id on budget made thread new out
 behind_step {budget = budget} {made = made} x {raised = raised} {old = old} =
     λ count goes so_far not below room stepped own. record {
       part = makes stepped.found (looks raised x);
@@ -162,7 +119,7 @@ behind_step {budget = budget} {made = made} x {raised = raised} {old = old} =
           ++ access.Step (entry_known x.known stepped.found) ∷ []) not;
       room =
           stepped.room (budget - (made + 1))
-          (subst (λ n. HasRoom n (looks raised x) old) (omega (arith, below)) room);
+          (subst (λ n. HasRoom n x.known old.log) (omega (arith, below)) room);
     }
 
 -- it committed `done`
@@ -205,22 +162,16 @@ pub behind_told : {p : Program} {l : Layout} {id : TableId} {on : Option Break} 
     → ends_at out ≡ false → stops_at on out ≡ true → (b : Behind p l id on budget made thread old out)
     → new.seat.me ≡ (raises b.part ∷ [], []) → IsSameBut old new
     → IsWorking p l id on budget (made + 1) thread new
-behind_told {on = on} {budget = budget} {made = made} {old = old} {new = new} not stops b knows same = record {
+behind_told {p = p} {l = l} {on = on} {budget = budget} {made = made} {old = old} {new = new} not stops b knows same = record {
   part = raises b.part;
   work = record {
-    program = b.work.program;
-    layout = b.work.layout;
-    thread = same.thread ∙ b.work.thread;
-    below = b.work.below;
+    log = subst (λ (g : StepLog). IsLogOf p l b.part.known g) (sym same.log) b.work.log;
     table = same.table ∙ b.work.table;
     knows = knows;
-    actor = same.actor ∙ b.work.actor;
-    made = ap (λ (m : Steps). m.items) same.made ∙ b.work.made;
-    events = ap (λ (m : Events). m.items) same.events ∙ b.work.events;
   };
-  own = same.thread ∙ b.own;
+  own = ap (λ (g : StepLog). g.thread) same.log ∙ b.own;
   count = b.count;
-  room = same_room (budget - (made + 1)) b.part (raises b.part) old new refl same b.room;
+  room = same_room (budget - (made + 1)) b.part.known old new same b.room;
   goes = inr (
     refl,
     behind_not_ended not b,
@@ -255,15 +206,15 @@ behind_goes {on = on} not no_stop b = record {
 
 -- what a worker has before its first step
 pub not_begun : (p : Program) (l : Layout) (id : TableId) (on : Option Break) (budget : ℕ)
-    (worker : Worker) → IsAtWork p l id (first_part p l worker.thread) worker
-    → HasRoom budget (first_part p l worker.thread) worker
-    → IsWorking p l id on budget 0 worker.thread worker
+    (worker : Worker) → IsAtWork p l id (first_part p l worker.log.thread) worker
+    → HasRoom budget (first_part p l worker.log.thread).known worker.log
+    → IsWorking p l id on budget 0 worker.log.thread worker
 not_begun p l id on budget worker work room = record {
-  part = first_part p l worker.thread;
+  part = first_part p l worker.log.thread;
   work = work;
   own = refl;
   count = refl;
-  room = less_room (budget - 0) budget (first_part p l worker.thread) worker (omega arith) room;
+  room = less_room (budget - 0) budget (first_part p l worker.log.thread).known worker.log (omega arith) room;
   goes = inl tt;
   did = refl;
 }
@@ -274,10 +225,10 @@ pub stepped_on : {p : Program} {l : Layout} {id : TableId} {on : Option Break} {
     (now : IsWorking p l id on budget made thread first) → HasLooked now.part raised looked
     → IsSameBut first looked → raised ≡ false → made < budget
     → ((x : Part) → IsAtWork p l id x looked → HasStepped p l id x looked next out)
-    → next.thread ≡ looked.thread → Behind p l id on budget made thread next out
+    → next.log.thread ≡ looked.log.thread → Behind p l id on budget made thread next out
 stepped_on {on = on} {budget = budget} {made = made} {first = first} {looked = looked} {raised = raised} =
     λ now has same not below steps own.
     behind_step now.part now.count (not_told on now.part raised now.goes has.told not) now.did not below
-    (same_room (budget - made) now.part (looks raised now.part) first looked refl same now.room)
+    (same_room (budget - made) now.part.known first looked same now.room)
     (steps (looks raised now.part) (looked_work now.work has same))
-    (own ∙ same.thread ∙ now.own)
+    (own ∙ ap (λ (g : StepLog). g.thread) same.log ∙ now.own)

@@ -17,23 +17,23 @@ use Rattle.omi_live.specs.Joined.{AreRunsKnown, HasEnded, IsRunKnown}
 use Rattle.omi_seat.specs.Known.{steps_known}
 use Rattle.omi_live.specs.Running.{thread_of}
 use Rattle.omi_live.specs.Work.{HasWorked}
-use Rattle.omi_live.proofs.Lists.{get_front, get_last, get_more}
+use Rattle.omi_seat.proofs.Lists.{get_front, get_last, get_more}
 
 module _ (p : Program) (l : Layout) (id : TableId) (budget : ℕ) (on : Option Break) (parts : List Part)
     (runs : List ThreadRun) (e : Runner) (run : ThreadRun) (so_far : AreRunsKnown p l budget on parts runs)
     (h : HasEnded p l id budget on (length runs) e)
-    (made : run.made ≡ e.worker.made) (events : run.events ≡ e.worker.events)
-    (actor : run.actor ≡ e.worker.actor) (until : run.until ≡ e.until)
-    (steps : run.steps ≡ length e.worker.made.items) where
+    (made : run.made ≡ e.worker.log.made) (events : run.events ≡ e.worker.log.events)
+    (actor : run.actor ≡ e.worker.log.actor) (until : run.until ≡ e.until)
+    (steps : run.steps ≡ length e.worker.log.made.items) where
   this_run : IsRunKnown p l budget on (length runs) h.part run
   this_run = record {
     own = h.own;
-    program = h.work.program;
-    layout = h.work.layout;
-    steps = steps ∙ ap (λ (ms : List Made). length ms) h.work.made ∙ length-map (steps_known h.part.known) (made_of (thread_of h.part));
-    made = ap (λ (m : Steps). m.items) made ∙ h.work.made;
-    events = ap (λ (m : Events). m.items) events ∙ h.work.events;
-    actor = actor ∙ h.work.actor;
+    program = h.work.log.program;
+    layout = h.work.log.layout;
+    steps = steps ∙ ap (λ (ms : List Made). length ms) h.work.log.made ∙ length-map (steps_known h.part.known) (made_of (thread_of h.part));
+    made = ap (λ (m : Steps). m.items) made ∙ h.work.log.made;
+    events = ap (λ (m : Events). m.items) events ∙ h.work.log.events;
+    actor = actor ∙ h.work.log.actor;
     worked = subst (λ (u : Until). HasWorked budget on h.part u) (sym until) h.worked;
   }
 

@@ -1,12 +1,9 @@
-pub mod StopsLast
 pub mod Accesses
 pub mod Operated
 pub mod Looked
 pub mod Seats
 pub mod Applied
-pub mod Working
 pub mod Going
-pub mod Lists
 pub mod Joining
 pub mod Ending
 pub mod RunLines

@@ -20,7 +20,7 @@ use Rattle.omi_live.specs.declared.known.Access.TheVariants as access
 use Rattle.omi_live.specs.declared.known.Part.{Part}
 use Rattle.omi_live.specs.Plays.{looked, looks, raised, raises}
 use Rattle.omi_live.specs.Accesses.{stop_word}
-use Rattle.omi_live.specs.Stops.{some_stop}
+use Rattle.omi_seat.specs.Stops.{some_stop}
 use Rattle.omi_live.specs.Running.{IsPart, IsStopWord, Keeps, thread_of}
 use Rattle.omi_live.proofs.Operated.{one_more_access, other_did, own_did, part}
 

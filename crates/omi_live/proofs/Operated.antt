@@ -26,9 +26,9 @@ use Rattle.omi_live.specs.declared.known.Part.{Part}
 use Rattle.omi_live.specs.Accesses.{AreAccesses, Finds, accesses_of, operation_of, step_in}
 use Rattle.omi_live.specs.Plays.{makes, stepped}
 use Rattle.omi_live.specs.Running.{IsPart, IsStopWord, Keeps, thread_of}
-use Rattle.omi_live.specs.Stops.{some_stop}
+use Rattle.omi_seat.specs.Stops.{some_stop}
 use Rattle.omi_live.proofs.Accesses.{lead_more, other_access, own_access, steps_more}
-use Rattle.omi_live.proofs.StopsLast.{still_stops}
+use Rattle.omi_seat.proofs.StopsLast.{still_stops}
 
 module _ (p : Program) (l : Layout) (on : Option Break) (s : State (Unit {0}) (List Part))
     (h : Keeps p l on s) (id : ℕ) (x : Part) (at : get_elem? s.views id ≡ some (x ∷ [])) where

@@ -13,7 +13,7 @@ use Rattle.omi_core.specs.declared.thread_run.Until.{Until}
 use Rattle.omi_core.specs.declared.thread_run.Until.TheVariants as until
 use Rattle.omi_live.specs.declared.known.Access.{Access}
 use Rattle.omi_live.specs.declared.known.Access.TheVariants as access
-use Rattle.omi_live.specs.Stops.{stops_at}
+use Rattle.omi_seat.specs.Stops.{stops_at}
 
 -- ---- one access
 

@@ -13,17 +13,18 @@ use Rattle.omi_live.specs.declared.worker.Worker.{Worker}
 use Rattle.omi_seat.specs.Known.{actor_known, own_steps, steps_known}
 use Rattle.omi_live.specs.Plays.{first_part}
 use Rattle.omi_live.specs.Running.{thread_of}
-use Rattle.omi_live.specs.Work.{HasRoom, HasWorked, IsAtWork}
+use Rattle.omi_seat.specs.StepLog.{HasRoom}
+use Rattle.omi_live.specs.Work.{HasWorked, IsAtWork}
 
 -- a thread before its first step, with room for its budget
 pub record IsToBegin (p : Program) (l : Layout) (id : TableId) (budget : ℕ) (worker : Worker) : Type 0 where
-  pub work : IsAtWork p l id (first_part p l worker.thread) worker
-  pub room : HasRoom budget (first_part p l worker.thread) worker
+  pub work : IsAtWork p l id (first_part p l worker.log.thread) worker
+  pub room : HasRoom budget (first_part p l worker.log.thread).known worker.log
 
 -- the workers of so many threads, the last one first
 abbrev pub AreToBegin : Program → Layout → TableId → ℕ → ℕ → List Runner → Type 0
 AreToBegin p l id budget threads runners = (i : ℕ) (r : Runner) → slice_get runners i ≡ Some r
-    → IsToBegin p l id budget r.worker × (r.worker.thread + i + 1 ≡ threads)
+    → IsToBegin p l id budget r.worker × (r.worker.log.thread + i + 1 ≡ threads)
 
 -- workers whose seats are at a table, and hold no slot
 abbrev pub AreSeatedAt : TableId → List Runner → Type 0

@@ -1,5 +1,5 @@
--- The definitions to believe, in reading order: why a thread stops, what threads do at the table of words, and what a run of threads is.
-pub mod Stops
+-- The definitions to believe, in reading order: what threads do at the table of words, and what a run of threads is. Why a thread stops stands
+-- in omi_seat.
 pub mod Accesses
 pub mod Live
 -- What a command line asks for, what is printed of a run of threads, such a run by a plan, and what a call answers and leaves

@@ -22,7 +22,7 @@ use Rattle.omi_core.specs.Steps.{AreStepsOf, events_behind, steps_of}
 use Rattle.omi_core.specs.Found.{MakeNext, actor_behind, found_by}
 use Rattle.omi_seat.specs.Known.{own_steps}
 use Rattle.omi_live.specs.declared.known.Access.{Access}
-use Rattle.omi_live.specs.Stops.{IsUntil, WentOn, some_stop}
+use Rattle.omi_seat.specs.Stops.{IsUntil, WentOn, some_stop}
 use Rattle.omi_live.specs.Accesses.{AreAccesses, accesses_of, last_look, with_looks}
 
 -- what a thread keeps of its steps, numbered by themselves, and why it made no further one: each step is the one that the thread

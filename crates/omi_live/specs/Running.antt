@@ -14,7 +14,7 @@ use Rattle.omi_seat.specs.Known.{IsKnown}
 use Rattle.omi_seat.specs.Seats.{AreSeated}
 use Rattle.omi_live.specs.declared.known.Access.{Access}
 use Rattle.omi_live.specs.declared.known.Part.{Part}
-use Rattle.omi_live.specs.Stops.{some_stop}
+use Rattle.omi_seat.specs.Stops.{some_stop}
 use Rattle.omi_live.specs.Accesses.{AreAccesses, accesses_of}
 
 -- the thread of a part

@@ -1,29 +1,23 @@
 -- A thread at work: what its seat knows is what it made and keeps.
-use Rattle.std.specs.Prelude.{◌≡◌, ◌<◌, ◌≤◌, ℕ, ◌+◌, ◌++◌, Bool, true, [], ◌∷◌, length, map, Option}
+use Rattle.std.specs.Prelude.{◌≡◌, ◌<◌, ◌≤◌, ℕ, ◌+◌, ◌++◌, Bool, true, [], ◌∷◌, length, Option}
 use Rattle.atomic_table.specs.Seated.{TableId}
-use Rattle.omi_word.specs.declared.op.Op.{Op}
 use Rattle.omi_script.specs.declared.program.Program.{Program}
 use Rattle.omi_layout.specs.declared.layout.Layout.{Layout}
 use Rattle.omi_layout.specs.Place.{image_words}
-use Rattle.omi_actor.specs.Steps.{next_of}
 use Rattle.omi_rep.specs.declared.outcome.Outcome.{Outcome}
 use Rattle.omi_core.specs.declared.stop.Break.{Break}
 use Rattle.omi_core.specs.declared.thread_run.Until.{Until}
 use Rattle.omi_core.specs.declared.thread_run.Until.TheVariants as until
-use Rattle.omi_core.specs.RunSteps.{made_of, seats_of}
-use Rattle.omi_core.specs.Steps.{events_behind}
-use Rattle.omi_live.specs.declared.known.Part.{Part}
 use Rattle.omi_seat.specs.declared.limits.TheConstants.{MOST_BUDGET}
+use Rattle.omi_seat.specs.Behind.{CanStep}
+use Rattle.omi_seat.specs.Known.{actor_known, entry_known, steps_known}
+use Rattle.omi_seat.specs.StepLog.{HasRoom, IsLogOf}
+use Rattle.omi_seat.specs.Stops.{IsUntil, WentOn}
+use Rattle.omi_live.specs.declared.known.Part.{Part}
 use Rattle.omi_live.specs.declared.rule.Given.{Given}
 use Rattle.omi_live.specs.declared.worker.Worker.{Worker}
-use Rattle.omi_seat.specs.Behind.{CanStep}
-use Rattle.omi_seat.specs.Known.{actor_known, claims_known, entry_known, own_steps, steps_known}
-use Rattle.omi_seat.specs.Seats.{Seated}
-use Rattle.omi_live.specs.Plays.{looks, makes}
-use Rattle.omi_live.specs.Running.{thread_of}
-use Rattle.omi_live.specs.Stops.{IsUntil, WentOn}
-use Rattle.omi_run_lists.specs.StepRoom.{room_for_steps}
 use Rattle.omi_live.specs.Accesses.{last_look, with_looks}
+use Rattle.omi_live.specs.Plays.{looks, makes}
 
 -- ---- the table
 
@@ -35,53 +29,25 @@ pub record IsTableFor (p : Program) (l : Layout) (on : Option Break) (key : Give
   pub stops : key.on ≡ on
   pub count : id.words ≡ image_words l.table + 1
 
--- a seat that stands for one thread may make this operation at a table
-pub record IsAble (id : TableId) (op : Op) (me : Seated Part) (x : Part) : Type 0 where
-  pub knows : me ≡ (x ∷ [], [])
-  pub is_next : op ≡ next_of x.known.program x.known.layout.table (actor_known x.known)
-  pub able : CanStep x.known.program x.known.layout.table (actor_known x.known)
-  pub few : length x.known.found < MOST_BUDGET
-  pub count : id.words ≡ image_words x.known.layout.table + 1
-
--- it found this word
-pub record HasFound (x : Part) (n : ℕ) (me : Seated Part) : Type 0 where
-  pub knows : me ≡ (makes n x ∷ [], [])
-  pub seats : seats_of (entry_known x.known n).outcome
-      ≤ claims_known x.known + 1
-
 -- ---- the thread
 
 -- this worker is at work at a table, for one thread of a program in a layout
 pub record IsAtWork (p : Program) (l : Layout) (id : TableId) (x : Part) (worker : Worker) : Type 0 where
-  pub program : x.known.program ≡ p
-  pub layout : x.known.layout ≡ l
-  pub thread : worker.thread ≡ thread_of x
-  pub below : thread_of x < p.threads
+  pub log : IsLogOf p l x.known worker.log
   pub table : worker.seat.table_id ≡ id
   pub knows : worker.seat.me ≡ (x ∷ [], [])
-  pub actor : worker.actor ≡ actor_known x.known
-  pub made : worker.made.items ≡ map (made_of (thread_of x)) (steps_known x.known)
-  pub events : worker.events.items ≡ events_behind 0 (own_steps (thread_of x) (steps_known x.known))
-
--- it has room for so many more steps, whatever they commit
-pub record HasRoom (steps : ℕ) (x : Part) (worker : Worker) : Type 0 where
-  pub made : steps ≤ worker.made.spare
-  pub events : steps ≤ room_for_steps worker.events (claims_known x.known)
 
 -- it may make its next step
 pub record IsReady (p : Program) (l : Layout) (id : TableId) (x : Part) (worker : Worker) : Type 0 where
   pub work : IsAtWork p l id x worker
   pub able : CanStep x.known.program x.known.layout.table (actor_known x.known)
   pub few : length x.known.found < MOST_BUDGET
-  pub room : HasRoom 1 x worker
+  pub room : HasRoom 1 x.known worker.log
 
 -- it is as it was, but for what its seat knows
 pub record IsSameBut (old new : Worker) : Type 0 where
-  pub thread : new.thread ≡ old.thread
   pub table : new.seat.table_id ≡ old.seat.table_id
-  pub actor : new.actor ≡ old.actor
-  pub made : new.made ≡ old.made
-  pub events : new.events ≡ old.events
+  pub log : new.log ≡ old.log
 
 -- its seat looked at the stop word, which was raised or was not: it was where the thread was told so before
 pub record HasLooked (x : Part) (raised : Bool) (worker : Worker) : Type 0 where
@@ -95,7 +61,7 @@ pub record HasStepped (p : Program) (l : Layout) (id : TableId) (x : Part) (old 
   pub found : ℕ
   pub work : IsAtWork p l id (makes found x) new
   pub came : out ≡ (entry_known x.known found).outcome
-  pub room : (m : ℕ) → HasRoom (m + 1) x old → HasRoom m (makes found x) new
+  pub room : (m : ℕ) → HasRoom (m + 1) x.known old.log → HasRoom m (makes found x).known new.log
 
 -- ---- its end
 

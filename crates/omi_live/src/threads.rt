@@ -2,8 +2,6 @@
 
 ghost use Rattle.std.specs.Prelude.{◌≡◌, ◌+◌, ◌<◌, ◌≤◌, ◌++◌, ℕ, List, [], ◌∷◌, length, slice_get, vec_capacity, vec_len, IfOk, Option, Some};
 ghost use Rattle.atomic_table.specs.Table.{Final, Seen};
-ghost use Rattle.std.specs.Mem.Slots.{IsFull, slots_items, slots_len};
-ghost use Rattle.omi_layout.specs.Place.{image_words};
 ghost use Rattle.omi_rep.specs.Suits.{Suits};
 ghost use Rattle.omi_layout.specs.declared.layout.Layout.{Layout};
 ghost use Rattle.omi_script.specs.declared.program.Program.{Program};
@@ -14,21 +12,19 @@ ghost use Rattle.omi_seat.specs.declared.limits.TheConstants.{MOST_BUDGET};
 ghost use Rattle.omi_live.specs.Joined.{AreRunsKnown, AreSeatedAt, AreToBegin, HasEnded, HaveEnded, IsRunKnown, IsToBegin};
 ghost use Rattle.omi_live.specs.Live.{IsLive};
 ghost use Rattle.omi_live.specs.Plays.{first_part, first_parts};
-ghost use Rattle.omi_live.specs.Work.{HasRoom, HasWorked, IsAtWork, IsTableFor};
+ghost use Rattle.omi_live.specs.Work.{IsTableFor};
 
 use crate::known::Part;
 use crate::rule::{Given, Running};
 use crate::worker::{Words, Worker};
-use atomic_table::{Closed, Seat, Table};
+use atomic_table::{Seat, Table};
 use omi_core::{Break, OutOfMemory, RunList, ThreadRun, Until, opening_image};
 use omi_layout::{Layout, MOST_THREADS};
 use omi_list::List;
 use omi_outside::Gate;
-use omi_pc::Actor;
-use omi_run_lists::{EventList, MadeList};
 use omi_script::Program;
-use omi_seat::{First, Together};
-use omi_word::{FIRST_ADDRESS, Image, Op};
+use omi_seat::{First, StepLog, Together, image_of, words_of};
+use omi_word::Image;
 use std::alloc::Global;
 use std::snapshot::Snapshot;
 use std::thread;
@@ -48,20 +44,7 @@ pub(crate) struct Runner {
     pub(crate) until: Until,
 }
 
-/// The words of an image, and a stop word that is not raised.
-fn words_of(alloc: Global, image: &Image) -> Result<Vec<u64>, OutOfMemory>
-    ensures { IfOk result (λ words. words.items ≡ image.now ++ 0 ∷ []) }
-{
-    let mut words = Vec::new(alloc);
-    for at in 0..image.len() {
-        words.push(image.get(FIRST_ADDRESS + 8 * at as u64).unwrap())?;
-    }
-    words.push(0)?;
-    Ok(words)
-}
-
-/// The worker of a thread at a seat, before its first step. Takes the room of its budget: a step needs a seat at most, since each thread of
-/// a team but the first was got by a step of its own.
+/// The worker of a thread at a seat, before its first step. Takes the room of its budget.
 fn worker_at(
     alloc: Global,
     p: &Program,
@@ -71,23 +54,13 @@ fn worker_at(
 ) -> Result<Worker, OutOfMemory>
     requires thread { thread < p.now.threads }
     requires budget { budget ≤ MOST_BUDGET }
-    ensures thread { IfOk result (λ worker. worker.thread ≡ thread) }
+    ensures thread { IfOk result (λ worker. worker.log.thread ≡ thread) }
     ensures seat { IfOk result (λ worker. worker.seat ≡ seat) }
     ensures begin { (l : Layout) → seat.me ≡ (first_part p.now l thread ∷ [], [])
         → IfOk result (λ worker. IsToBegin p.now l seat.table_id budget worker) }
 {
-    let actor = Actor::opening(alloc, p, thread)?;
-    let mut made = MadeList::new(alloc);
-    made.reserve(budget as usize)?;
-    let mut events = EventList::new(alloc);
-    events.reserve(budget as usize, budget as usize)?;
-    Ok(Worker {
-        seat,
-        thread,
-        actor,
-        made,
-        events,
-    })
+    let log = StepLog::opening(alloc, p, thread, budget)?;
+    Ok(Worker { seat, log })
 }
 
 /// The workers of all threads, the last one first, each at a seat of its own that is split off from the first one.
@@ -130,14 +103,20 @@ fn joined(words: &Words, seat: &mut Seat<(), List<Part>>, ended: Runner) -> Thre
     ensures seated { seat.new.table_id ≡ seat.old.table_id }
     ensures knows { seat.new.me
         ≡ (seat.old.me.0 ++ ended.worker.seat.me.0, seat.old.me.1) }
-    ensures steps { result.made ≡ ended.worker.made }
-    ensures events { result.events ≡ ended.worker.events }
-    ensures actor { result.actor ≡ ended.worker.actor }
+    ensures steps { result.made ≡ ended.worker.log.made }
+    ensures events { result.events ≡ ended.worker.log.events }
+    ensures actor { result.actor ≡ ended.worker.log.actor }
     ensures until { result.until ≡ ended.until }
-    ensures count { result.steps ≡ length ended.worker.made.items }
+    ensures count { result.steps ≡ length ended.worker.log.made.items }
 {
     let Runner { worker, until } = ended;
-    let (own, made, events, actor) = worker.parts();
+    let (own, log) = worker.parts();
+    let StepLog {
+        thread: _thread,
+        actor,
+        made,
+        events,
+    } = log;
     words.join_seat::<Together>(seat, own);
     ThreadRun {
         steps: made.len() as u64,
@@ -173,23 +152,6 @@ fn all_joined(
     RunList::from_vec(runs)
 }
 
-/// The words of a table that no thread shares any more, but for the last one, in place of those of an image.
-fn image_of(mut image: Image, closed: &Closed<(), Global>) -> Image
-    requires full { IsFull closed.now.words }
-    requires long { length image + 1 ≡ slots_len closed.now.words }
-    ensures { (words : List ℕ) (stop : ℕ) → slots_items closed.now.words ≡ words ++ stop ∷ []
-        → result ≡ words }
-{
-    let count = image.len();
-    for at in 0..count {
-        image.apply(Op::Store {
-            at: FIRST_ADDRESS + 8 * at as u64,
-            new: closed.word(at),
-        });
-    }
-    image
-}
-
 /// Lets each worker work, in a thread of its own where one can be made. Takes no memory.
 fn all_worked<R: Threads + Sync, G: Gate>(
     rt: &R,
@@ -216,7 +178,7 @@ fn all_worked<R: Threads + Sync, G: Gate>(
             × (budget ≤ MOST_BUDGET)
             × IsToBegin p.now l.now words.now.table_id budget runner.now.worker }
         ensures { HasEnded p.entry.now l.entry.now words.entry.now.table_id budget on
-            runner.entry.now.worker.thread runner.exit.now }
+            runner.entry.now.worker.log.thread runner.exit.now }
     {
         runner.until = runner.worker.work(p, l, words, budget, on, gate);
     };
@@ -240,7 +202,7 @@ pub fn live<R: Threads + Sync, G: Gate>(
     ensures { IfOk result (λ end. IsLive p.now l.now budget on end.image end.runs) }
 {
     let first = opening_image(alloc, p, l)?;
-    let opening = words_of(alloc, &first)?;
+    let opening = words_of(alloc, &first, 1)?;
     let given = Given {
         program: Snapshot::of(p),
         layout: Snapshot::of(l),

@@ -1,30 +1,28 @@
 //! A thread at work: its seat at the table, and what it made so far.
 
-ghost use Rattle.std.specs.Prelude.{◌≡◌, ◌+◌, ◌≤◌, ℕ, true, false, List, [], ◌∷◌};
-ghost use Rattle.omi_model.specs.declared.id.Tid.{Tid};
+ghost use Rattle.std.specs.Prelude.{◌≡◌, ◌+◌, ◌≤◌, true, [], ◌∷◌};
 ghost use Rattle.omi_rep.specs.Suits.{Suits};
-ghost use Rattle.omi_step_words.specs.Outcomes.{outcome_of, outcome_with};
+ghost use Rattle.omi_step_words.specs.Outcomes.{outcome_of};
 ghost use Rattle.omi_layout.specs.Place.{image_words};
 ghost use Rattle.omi_live.specs.declared.known.Part.{Part};
 ghost use Rattle.omi_seat.specs.declared.limits.TheConstants.{MOST_BUDGET};
 ghost use Rattle.omi_live.specs.Plays.{first_part, raises};
 ghost use Rattle.omi_seat.specs.Known.{steps_known};
-ghost use Rattle.omi_live.specs.Stops.{ends_at, some_stop, stops_at};
-ghost use Rattle.omi_live.specs.Work.{HasFound, HasLooked, HasRoom, HasStepped, HasWorked, IsAble, IsAtWork, IsReady, IsSameBut, IsTableFor};
+ghost use Rattle.omi_seat.specs.Stops.{some_stop};
+ghost use Rattle.omi_seat.specs.StepLog.{HasRoom};
+ghost use Rattle.omi_live.specs.Work.{HasLooked, HasStepped, HasWorked, IsAtWork, IsReady, IsSameBut, IsTableFor};
 
 use crate::known::Part;
 use crate::rule::{Given, Looks, Raises, Running, Steps};
 use atomic_table::{Seat, Shared};
-use omi_actor::{advance, next, outcome};
-use omi_core::{Break, Until, compact_end_at, list_event, turn_of};
+use omi_actor::next;
+use omi_core::{Break, Until};
 use omi_layout::Layout;
 use omi_list::List;
 use omi_outside::Gate;
-use omi_pc::Actor;
-use omi_run_lists::{EventList, Made, MadeList};
 use omi_script::Program;
+use omi_seat::{StepLog, apply, ends_at, stops_at};
 use omi_step_words::CompactOutcome;
-use omi_word::{FIRST_ADDRESS, Op, Res};
 
 /// The table of words, as its threads see it: the image's words, and the stop word behind them.
 pub(crate) type Words = Shared<(), List<Part>, Given, Running>;
@@ -32,10 +30,7 @@ pub(crate) type Words = Shared<(), List<Part>, Given, Running>;
 /// A thread at work. Its events have the numbers of its own steps.
 pub(crate) struct Worker {
     pub(crate) seat: Seat<(), List<Part>>,
-    pub(crate) thread: u8,
-    pub(crate) actor: Actor,
-    pub(crate) made: MadeList,
-    pub(crate) events: EventList,
+    pub(crate) log: StepLog,
 }
 
 // Written out: docs/DECISIONS.md, "A drop written out".
@@ -43,92 +38,34 @@ impl Drop for Worker {
     fn drop(self) {
         let Worker {
             seat: _seat,
-            thread: _thread,
-            actor: _actor,
-            made: _made,
-            events: _events,
+            log: _log,
         } = self;
-    }
-}
-
-/// Makes an operation on its word of the table, and answers the word before. A store is a swap, so that it is answered.
-fn apply(words: &Words, seat: &mut Seat<(), List<Part>>, op: Op) -> u64
-    requires seated { seat.old.table_id ≡ words.now.table_id }
-    requires able { (x : Part) × IsAble words.now.table_id op seat.old.me x }
-    ensures seated { seat.new.table_id ≡ seat.old.table_id }
-    ensures found { (x : Part) → seat.old.me ≡ (x ∷ [], []) → HasFound x result seat.new.me }
-{
-    let place = ((op.address() - FIRST_ADDRESS) / 8) as usize;
-    match op {
-        Op::Load { .. } => words.load::<Steps>(seat, place),
-        Op::Store { new, .. } => words.swap::<Steps>(seat, place, new),
-        Op::Cas { old, new, .. } => words.compare_exchange::<Steps>(seat, place, old, new),
-        Op::Add { by, .. } => words.fetch_add::<Steps>(seat, place, by),
-        Op::Sub { by, .. } => words.fetch_sub::<Steps>(seat, place, by),
-    }
-}
-
-/// Whether a step commits `done`, whatever team is forked.
-fn ends_at(outcome: CompactOutcome) -> bool
-    ensures { (team : List (Tid × ℕ)) → result ≡ ends_at (outcome_with team outcome) }
-{
-    compact_end_at(None, 0, outcome).is_some()
-}
-
-/// Whether a step that does not commit `done` commits an event of the kind at which the run is to stop, whatever team is forked.
-fn stops_at(on: Option<Break>, outcome: CompactOutcome) -> bool
-    requires { (team : List (Tid × ℕ)) → ends_at (outcome_with team outcome) ≡ false }
-    ensures { (team : List (Tid × ℕ)) → result ≡ stops_at on (outcome_with team outcome) }
-{
-    match on {
-        Some(kind) => compact_end_at(Some((kind, 1)), 0, outcome).is_some(),
-        None => false,
     }
 }
 
 impl Worker {
-    /// Its seat, its steps, its events and its actor.
-    pub(crate) fn parts(self) -> (Seat<(), List<Part>>, MadeList, EventList, Actor)
+    /// Its seat, and what it keeps of its steps.
+    pub(crate) fn parts(self) -> (Seat<(), List<Part>>, StepLog)
         ensures seat { result.0 ≡ self.seat }
-        ensures made { result.1 ≡ self.made }
-        ensures events { result.2 ≡ self.events }
-        ensures actor { result.3 ≡ self.actor }
+        ensures log { result.1 ≡ self.log }
     {
-        let Worker {
-            seat,
-            thread: _thread,
-            actor,
-            made,
-            events,
-        } = self;
-        (seat, made, events, actor)
+        let Worker { seat, log } = self;
+        (seat, log)
     }
 
-    /// One step of the thread: one operation on one word. The members of the team that it forks stood in the registers of its actor.
-    /// Takes no memory.
+    /// One step of the thread: one operation on one word. Takes no memory.
     fn step(&mut self, p: &Program, l: &Layout, words: &Words) -> CompactOutcome
         requires suits { Suits p.now l.now.table }
         requires count { words.now.table_id.words ≡ image_words l.now.table + 1 }
         requires ready { (x : Part) × IsReady p.now l.now words.now.table_id x self.old }
-        ensures thread { self.new.thread ≡ self.old.thread }
+        ensures thread { self.new.log.thread ≡ self.old.log.thread }
         ensures stepped { (x : Part) → IsAtWork p.now l.now words.now.table_id x self.old
             → HasStepped p.now l.now words.now.table_id x self.old self.new
-            (outcome_of self.old.actor result) }
+            (outcome_of self.old.log.actor result) }
     {
-        let op = next(p, l, &self.actor);
-        let old = apply(words, &mut self.seat, op);
-        let came = outcome(p, l, &self.actor, Res { old });
-        let step = self.made.len() as u64 + 1;
-        self.made.push_reserved(Made {
-            op,
-            old,
-            thread: self.thread,
-            turn: turn_of(came),
-        });
-        let team = &self.actor.gathered.team;
-        list_event(&mut self.events, step, self.thread, came, team);
-        advance(p, l, &mut self.actor, Res { old });
-        came
+        let op = next(p, l, &self.log.actor);
+        let old = apply::<List<Part>, Given, Running, Steps>(words, &mut self.seat, op);
+        self.log.list(p, l, op, old)
     }
 
     /// Looks at the stop word, and answers whether it is raised.
@@ -171,14 +108,15 @@ impl Worker {
         requires table { IsTableFor p.now l.now on words.now.key words.now.table_id }
         requires budget { budget ≤ MOST_BUDGET }
         requires start { IsAtWork p.now l.now words.now.table_id
-            (first_part p.now l.now self.old.thread) self.old }
-        requires room { HasRoom budget (first_part p.now l.now self.old.thread) self.old }
-        ensures thread { self.new.thread ≡ self.old.thread }
+            (first_part p.now l.now self.old.log.thread) self.old }
+        requires room { HasRoom budget (first_part p.now l.now self.old.log.thread).known
+            self.old.log }
+        ensures thread { self.new.log.thread ≡ self.old.log.thread }
         ensures worked { (x : Part) × IsAtWork p.now l.now words.now.table_id x self.new
             × HasWorked budget on x result }
     {
         for step in 0..budget {
-            gate.pass(self.thread, step + 1);
+            gate.pass(self.log.thread, step + 1);
             if self.is_told(l, words) {
                 return Until::Stopped;
             }

@@ -5,3 +5,10 @@ pub mod OneStep
 pub mod Learnt
 pub mod Stepped
 pub mod Opened
+pub mod Lists
+pub mod StopsLast
+pub mod GoingOn
+pub mod Logged
+pub mod Made
+pub mod Applied
+pub mod Behind

@@ -3,6 +3,7 @@ use Rattle.std.proofs.Common.{◌≡◌, ◌<◌, ◌≤◌, ◌+◌, ◌++◌, 
 use Rattle.omi_script.specs.declared.program.Program.{Program}
 use Rattle.omi_layout.specs.declared.layout.Layout.{Layout}
 use Rattle.omi_layout.specs.OpeningWords.{AreOpening}
+use Rattle.omi_layout.specs.Place.{image_words}
 use Rattle.omi_pc.specs.declared.actor.Actor.{Actor}
 use Rattle.omi_pc.specs.Opening.{opening_actor, waiting_actor}
 use Rattle.omi_rep.specs.Suits.{Suits}
@@ -72,6 +73,9 @@ module _ (p : Program) (l : Layout) (words others : List ℕ) (suits : Suits p l
     are = refl;
     few = λ i. subst (λ (es : List Entry). length es ≤ MOST_BUDGET) (sym (no_step i)) (omega arith);
   }
+
+  pub opening_long : length words ≡ image_words l.table
+  opening_long = first_kept.count
 
   pub none_yet : opened.keeps.entries ≡ []
   unfolding opened

@@ -5,3 +5,8 @@ pub mod Known
 pub mod Seats
 -- The run behind the words of a table, and the next step of a thread of it
 pub mod Behind
+-- Why a thread makes no further step
+pub mod Stops
+-- What a thread keeps of its steps, and its operations on words of a table
+pub mod StepLog
+pub mod Applied

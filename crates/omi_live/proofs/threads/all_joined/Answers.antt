@@ -5,7 +5,7 @@ use Rattle.omi_live.specs.declared.threads.Runner.{Runner}
 use Rattle.omi_seat.specs.Seats.{Seated}
 use Rattle.omi_live.specs.Joined.{AreRunsKnown}
 use Rattle.omi_live.proofs.Joining.{known_more}
-use Rattle.omi_live.proofs.Lists.{get_front, get_last}
+use Rattle.omi_seat.proofs.Lists.{get_front, get_last}
 use Rattle.omi_live.proofs.threads.all_joined.Goals as goal
 
 pub joined-requires-clause-theirs : goal.joined-requires-clause-theirs

@@ -3,7 +3,7 @@ use Rattle.std.proofs.Math.Seq.{take-append_seam}
 use Rattle.std.proofs.lemmas.Option.{get_or_from_slice_get, slice_get-get_or}
 use Rattle.omi_live.specs.declared.threads.Runner.{Runner}
 use Rattle.omi_live.specs.Joined.{HasEnded}
-use Rattle.omi_live.proofs.Lists.{get_within}
+use Rattle.omi_seat.proofs.Lists.{get_within}
 use Rattle.omi_live.proofs.threads.all_worked.Goals as goal
 
 pub for_each_mut-requires-clause-accepts : goal.for_each_mut-requires-clause-accepts

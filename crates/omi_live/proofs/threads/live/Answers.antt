@@ -1,15 +1,17 @@
-use Rattle.std.proofs.Common.{◌+◌, ◌-◌, ℕ, List, [], vec_len, sym, ap, ◌∙◌, subst, arith}
+use Rattle.std.proofs.Common.{◌≡◌, ◌+◌, ◌-◌, ℕ, List, [], ◌∷◌, length, vec_len, sym, ap, ◌∙◌, subst, arith}
 use Rattle.atomic_table.specs.Table.{opening}
 use Rattle.omi_script.specs.declared.program.Program.{Program}
 use Rattle.omi_layout.specs.declared.layout.Layout.{Layout}
 use Rattle.omi_live.specs.declared.rule.Given.{Given}
 use Rattle.omi_live.specs.Joined.{HaveEnded}
+use Rattle.omi_seat.proofs.Opened.{opening_long}
+use Rattle.omi_seat.proofs.Stepped.{image_long}
 use Rattle.omi_seat.specs.Seats.{Seated}
 use Rattle.omi_live.specs.declared.known.Part.{Part}
 use Rattle.omi_live.specs.Plays.{first_parts}
 use Rattle.omi_live.specs.Running.{Keeps}
 use Rattle.omi_live.proofs.Ending.{is_live}
-use Rattle.omi_live.proofs.Lists.{get_within}
+use Rattle.omi_seat.proofs.Lists.{get_within}
 use Rattle.omi_live.proofs.Seats.{opening_keeps}
 use Rattle.omi_live.proofs.threads.live.Goals as goal
 
@@ -47,7 +49,9 @@ returns g c =
     let all = c.all_worked.ensures.threads in
     let ended : HaveEnded c.args.p.now c.args.l.now c.in_ok-table.table.shared.table_id c.args.budget c.args.on (vec_len c.all_worked.new.workers) c.all_worked.new.workers.items =
     λ i thread e got at. c.all_worked.ensures.ended i thread e got (at ∙ all) in
+    let long : length h.behind.run.words ≡ length c.in_ok-first.first =
+    image_long c.args.p.now c.args.l.now s.words (h.stop ∷ []) h.behind ∙ sym (opening_long c.args.p.now c.args.l.now c.in_ok-first.first [] c.requires.suits c.in_ok-first.ensures) in
     let known = c.all_joined-runs.ensures.known c.args.p.now c.args.l.now c.args.budget c.args.on ended in
     is_live c.args.p.now c.args.l.now c.args.budget c.args.on s h c.all_joined-runs.new.seat.id c.all_joined-runs.new.seat.me.0 seen.1 c.all_joined-runs.result known
     (c.all_joined-runs.ensures.threads ∙ all ∙ c.in_ok-workers.ensures.threads) c.image_of-image.result
-    (c.image_of-image.ensures h.behind.run.words h.stop (sym values.2.2 ∙ h.behind.are))
+    (c.image_of-image.ensures h.behind.run.words (h.stop ∷ []) (sym values.2.2 ∙ h.behind.are) long)

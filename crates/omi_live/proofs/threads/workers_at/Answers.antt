@@ -6,7 +6,7 @@ use Rattle.omi_seat.specs.Seats.{Seated, all_below, first_alone, without_first}
 use Rattle.omi_live.specs.Plays.{first_part}
 use Rattle.omi_live.specs.Running.{Keeps}
 use Rattle.omi_live.specs.Joined.{IsToBegin}
-use Rattle.omi_live.proofs.Lists.{get_more}
+use Rattle.omi_seat.proofs.Lists.{get_more}
 use Rattle.omi_live.proofs.Seats.{split_allowed}
 use Rattle.omi_live.specs.declared.threads.Runner.{Runner}
 use Rattle.omi_core.specs.declared.thread_run.Until.TheVariants as until
@@ -55,7 +55,7 @@ loop-made-preserved c =
                 (λ (x : Runner). IsToBegin c.args.p.now c.args.l.now c.args.words.now.table_id c.args.budget x.worker) r_is
                 (subst (λ id. IsToBegin c.args.p.now c.args.l.now id c.args.budget c.in_ok-worker.worker) (split.3 ∙ now.seated)
                 (c.in_ok-worker.ensures.begin c.args.l.now (own ∙ ap (λ n. (first_part c.args.p.now c.args.l.now n ∷ [], [])) (omega (arith, below))))),
-            subst (λ (x : Runner). x.worker.thread + i + 1 ≡ c.args.p.now.threads) r_is (omega (arith, thread, at, count, below)),
+            subst (λ (x : Runner). x.worker.log.thread + i + 1 ≡ c.args.p.now.threads) r_is (omega (arith, thread, at, count, below)),
           ))
           (get_more c.loop-made.workers.items one r i (subst (λ (rs : List Runner). slice_get rs i ≡ Some r) c.in_ok-push.ensures.items got));
     }

@@ -7,14 +7,15 @@ use Rattle.omi_live.specs.declared.known.Access.{Access}
 use Rattle.omi_live.specs.declared.known.Access.TheVariants as access
 use Rattle.omi_live.specs.Accesses.{with_looks}
 use Rattle.omi_live.specs.Plays.{looks}
-use Rattle.omi_live.specs.Work.{HasRoom}
+use Rattle.omi_seat.specs.StepLog.{HasRoom}
 use Rattle.omi_live.specs.declared.known.Part.{Part}
 use Rattle.omi_seat.specs.Known.{steps_known}
 use Rattle.omi_step_words.specs.Outcomes.{outcome_of}
-use Rattle.omi_live.specs.Stops.{ends_at, some_stop, stops_at}
+use Rattle.omi_seat.specs.Stops.{ends_at, some_stop, stops_at}
 use Rattle.omi_live.specs.declared.worker.Worker.{Worker}
-use Rattle.omi_live.proofs.Going.{behind_done, behind_goes, behind_stops, behind_told, less_room, stepped_on, IsWorking, looked_work, may_not_ended, may_went, not_begun, same_room}
+use Rattle.omi_live.proofs.Going.{behind_done, behind_goes, behind_stops, behind_told, stepped_on, IsWorking, looked_work, may_not_ended, may_went, not_begun, same_room}
 use Rattle.omi_seat.proofs.Learnt.{steps_found}
+use Rattle.omi_seat.proofs.Logged.{less_room}
 use Rattle.omi_live.proofs.worker.Worker.work.Goals.{then-stops_at, else-stops_at}
 use Rattle.omi_live.proofs.worker.Worker.work.Goals as goal
 
@@ -60,14 +61,14 @@ step-came-requires-clause-ready g c =
     let most = c.requires.budget in
     let count = now.count in
     let left : ℕ = c.args.budget - c.loop-step.step in
-    let one : HasRoom 1 now.part c.loop-step.self =
-    less_room 1 left now.part c.loop-step.self (omega (arith, below)) now.room in (
+    let one : HasRoom 1 now.part.known c.loop-step.self.log =
+    less_room 1 left now.part.known c.loop-step.self.log (omega (arith, below)) now.room in (
       then,
       record {
         work = looked_work now.work looked same;
         able = looked.able;
         few = omega (arith, count, below, most);
-        room = same_room 1 now.part then c.loop-step.self c.is_told.new.self refl same one;
+        room = same_room 1 now.part.known c.loop-step.self c.is_told.new.self same one;
       },
     )
 
@@ -79,8 +80,8 @@ returns-then-ends_at-clause-worked g c =
     let stepped = c.step-came.ensures in
     let b = stepped_on now looked c.is_told.ensures.same c.if-is_told.false below stepped.stepped
     stepped.thread in
-    let done : ends_at (outcome_of c.is_told.new.self.actor c.step-came.result) ≡ true =
-    sym (c.ends_at.ensures c.is_told.new.self.actor.gathered.team) ∙ c.if-ends_at.true in
+    let done : ends_at (outcome_of c.is_told.new.self.log.actor c.step-came.result) ≡ true =
+    sym (c.ends_at.ensures c.is_told.new.self.log.actor.gathered.team) ∙ c.if-ends_at.true in
     (b.part, b.work, behind_done below done b)
 
 pub tell-requires-clause-seated : goal.tell-requires-clause-seated
@@ -99,8 +100,8 @@ tell-requires-clause-stops g c =
     let stepped = c.step-came.ensures in
     let b = stepped_on now looked c.is_told.ensures.same c.if-is_told.false c.loop-step-test.true
     stepped.stepped stepped.thread in
-    let stops : stops_at c.args.on (outcome_of c.is_told.new.self.actor c.step-came.result) ≡ true =
-    sym (c.stops_at.ensures c.is_told.new.self.actor.gathered.team) ∙ c.if-stops_at.true in (
+    let stops : stops_at c.args.on (outcome_of c.is_told.new.self.log.actor c.step-came.result) ≡ true =
+    sym (c.stops_at.ensures c.is_told.new.self.log.actor.gathered.team) ∙ c.if-stops_at.true in (
       b.part,
       b.work.knows,
       ap (λ (on : Option Break). some_stop on (steps_known b.part.known)) c.requires.table.stops
@@ -114,20 +115,20 @@ loop-step-preserved g c =
     let stepped = c.step-came.ensures in
     let b = stepped_on now looked c.is_told.ensures.same c.if-is_told.false c.loop-step-test.true
     stepped.stepped stepped.thread in
-    let not_done : ends_at (outcome_of c.is_told.new.self.actor c.step-came.result) ≡ false =
-    sym (c.ends_at.ensures c.is_told.new.self.actor.gathered.team) ∙ c.if-ends_at.false in
+    let not_done : ends_at (outcome_of c.is_told.new.self.log.actor c.step-came.result) ≡ false =
+    sym (c.ends_at.ensures c.is_told.new.self.log.actor.gathered.team) ∙ c.if-ends_at.false in
     let Works : Worker → Type 0 =
     IsWorking c.args.p.now c.args.l.now c.args.words.now.table_id c.args.on c.args.budget
-    (c.loop-step.step + 1) c.args.self.now.thread in
+    (c.loop-step.step + 1) c.args.self.now.log.thread in
     elim c.if-stops_at.branch [
       | then-stops_at w ↦
-          let stops : stops_at c.args.on (outcome_of c.is_told.new.self.actor c.step-came.result) ≡ true =
-          sym (c.stops_at.ensures c.is_told.new.self.actor.gathered.team) ∙ w.if-stops_at.true in
+          let stops : stops_at c.args.on (outcome_of c.is_told.new.self.log.actor c.step-came.result) ≡ true =
+          sym (c.stops_at.ensures c.is_told.new.self.log.actor.gathered.team) ∙ w.if-stops_at.true in
           subst Works (sym w.self-is)
           (behind_told not_done stops b (w.tell.ensures.told b.part b.work.knows) w.tell.ensures.same)
       | else-stops_at w ↦
-          let goes : stops_at c.args.on (outcome_of c.is_told.new.self.actor c.step-came.result) ≡ false =
-          sym (c.stops_at.ensures c.is_told.new.self.actor.gathered.team) ∙ w.if-stops_at.false in
+          let goes : stops_at c.args.on (outcome_of c.is_told.new.self.log.actor c.step-came.result) ≡ false =
+          sym (c.stops_at.ensures c.is_told.new.self.log.actor.gathered.team) ∙ w.if-stops_at.false in
           subst Works (sym w.self-is) (behind_goes not_done goes b)
     ]
 

@@ -1,6 +1,6 @@
 use Rattle.std.proofs.Common.{◌≡◌, ◌<◌, ℕ, length, slice_index}
 use Rattle.std.specs.Mem.Slots.{slots_items}
-use Rattle.omi_live.proofs.threads.image_of.Given as goal
+use Rattle.omi_seat.proofs.image.image_of.Given as goal
 
 -- the first words are those of the table
 abbrev pub invariant-loop-at : goal.invariant-loop-at

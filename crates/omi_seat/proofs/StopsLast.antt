@@ -4,7 +4,7 @@ use Rattle.std.proofs.lemmas.Bool.{false≢true}
 use Rattle.omi_core.specs.declared.entry.Entry.{Entry}
 use Rattle.omi_core.specs.declared.stop.Break.{Break}
 use Rattle.std.specs.Prelude.{Option}
-use Rattle.omi_live.specs.Stops.{some_stop, stops_at}
+use Rattle.omi_seat.specs.Stops.{some_stop, stops_at}
 
 -- a stop stays one behind a further step, and is one where the last step commits it
 pub still_stops : (on : Option Break) (es : List Entry) (e : Entry) → some_stop on es ≡ true

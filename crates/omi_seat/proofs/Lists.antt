@@ -1,9 +1,9 @@
 -- Places in lists.
-use Rattle.std.proofs.Common.{◌≡◌, ◌⊎◌, inl, inr, ◌<◌, ◌≤◌, ◌+◌, ◌-◌, ◌++◌, ℕ, zero, suc, List, [], ◌∷◌, length, slice_get, slice_index, slice_set, Some, refl, sym, ap, ◌∙◌, subst, arith, ⊎_elim}
+use Rattle.std.proofs.Common.{◌≡◌, ◌⊎◌, inl, inr, ◌<◌, ◌≤◌, ◌+◌, ◌++◌, ℕ, zero, suc, List, [], ◌∷◌, length, slice_get, slice_index, slice_set, Some, refl, sym, ap, ◌∙◌, subst, arith, ⊎_elim}
 use mathlib.Core.Option.{some, some-injective, some-ne-none}
 use lib.ListN.{get_elem?}
 use Rattle.std.proofs.lemmas.Bool.{cases_lt}
-use Rattle.std.proofs.lemmas.List.{ext_get_or, get_or-set_other, get_or-set_same, get_or_append_left, length-append}
+use Rattle.std.proofs.lemmas.List.{ext_get_or, get_or-set_other, get_or-set_same, get_or_append_left}
 
 pub word_is : (xs : List ℕ) (k x : ℕ) → get_elem? xs k ≡ some x → slice_index xs k ≡ x
 word_is [] k x is = absurd (some-ne-none x (sym is))
@@ -50,10 +50,9 @@ copied xs ys at word below is same k within = ⊎_elim before here (cases_lt k a
         ∙ is
         ∙ ap (slice_index ys) (sym k_is)
 
-pub front_is : (xs ys all : List ℕ) (last : ℕ) → all ≡ ys ++ last ∷ [] → length xs ≡ length all - 1
+-- the first words of a list, each as in another one
+pub front_is : (xs ys zs all : List ℕ) → all ≡ ys ++ zs → length ys ≡ length xs
     → ((k : ℕ) → k < length xs → slice_index xs k ≡ slice_index all k) → xs ≡ ys
-front_is xs ys all last is long same =
-    let count : length all ≡ length ys + 1 = ap length is ∙ length-append ys (last ∷ []) in
-    let as_long : length xs ≡ length ys = omega (arith, long, count) in
-    ext_get_or 0 xs ys as_long
-    (λ k below. same k below ∙ ap (λ (zs : List ℕ). slice_index zs k) is ∙ get_or_append_left ys (last ∷ []) 0 k (subst (λ n. k < n) as_long below))
+front_is xs ys zs all is as_long same =
+    ext_get_or 0 xs ys (sym as_long)
+    (λ k below. same k below ∙ ap (λ (ws : List ℕ). slice_index ws k) is ∙ get_or_append_left ys zs 0 k (subst (λ n. k < n) (sym as_long) below))

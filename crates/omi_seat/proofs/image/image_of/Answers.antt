@@ -1,9 +1,9 @@
 use Rattle.std.proofs.Common.{◌≡◌, ℕ, List, length, slice_index, slice_set, sym, ap, ◌∙◌, arith}
 use Rattle.std.proofs.lemmas.List.{length-set}
-use Rattle.std.specs.Mem.Slots.{slots_counts, slots_items}
+use Rattle.std.specs.Mem.Slots.{slots_items}
 use Rattle.omi_word.proofs.Addresses.{place-address}
-use Rattle.omi_live.proofs.Lists.{copied, front_is, word_is}
-use Rattle.omi_live.proofs.threads.image_of.Goals as goal
+use Rattle.omi_seat.proofs.Lists.{copied, front_is, word_is}
+use Rattle.omi_seat.proofs.image.image_of.Goals as goal
 
 pub loop-at-preserved : goal.loop-at-preserved
 loop-at-preserved c =
@@ -20,13 +20,11 @@ loop-at-preserved c =
     }
 
 pub returns : goal.returns
-returns c words stop is =
+returns c words others is as_long =
     let now = c.loop-at.invariant in
     let end = c.loop-at-test.false in
     let most = c.loop-at.auto.at-end in
     let count = c.len-count.ensures in
     let long = now.long in
-    let counts = (slots_counts c.args.closed.now.words).0 in
-    let whole = c.requires.long in
-    front_is c.loop-at.image words (slots_items c.args.closed.now.words) stop is
-    (omega (arith, long, whole, counts)) (λ k below. now.same k (omega (arith, below, end, count, long)))
+    front_is c.loop-at.image words others (slots_items c.args.closed.now.words) is (as_long ∙ sym long)
+    (λ k below. now.same k (omega (arith, below, end, count, long)))
