@@ -1,0 +1,26 @@
+use Rattle.std.proofs.Common.{◌≡◌, ◌≤◌, ◌+◌, length, Some, None, sym, ap, ◌∙◌, subst, arith}
+use Rattle.omi_park.specs.Acknowledged.{farewell}
+use Rattle.omi_park.specs.Plays.{says}
+use Rattle.omi_park.specs.Work.{IsSeatOf, leaves}
+use Rattle.omi_park.proofs.Parts.{never_some}
+use Rattle.omi_park.proofs.worker.Worker.leave.Goals as goal
+
+pub say-requires-clause-may : goal.say-requires-clause-may
+say-requires-clause-may c =
+    let x = c.requires.before.0 in
+    let before = c.requires.before.1 in (
+      x,
+      record {
+        with_it = before.with_it;
+        loose = record {
+          stays = before.before.stays;
+          runs = λ epoch loaded parked. never_some x.loaded epoch before.before.loaded loaded;
+        };
+        may = leaves before.before.loaded (ap farewell (c.len-steps.ensures ∙ before.with_it.count));
+      },
+    )
+
+pub returns-clause-left : goal.returns-clause-left
+returns-clause-left c x before =
+    subst (λ n. IsSeatOf (says (farewell n) x) c.say.new.self.seat.me)
+    (c.len-steps.ensures ∙ before.with_it.count) (c.say.ensures.said x before.with_it.knows)
