@@ -1,0 +1,7 @@
+//! Runs of threads with stops beside them.
+#![tactic(auto)]
+
+#[cfg(test)]
+mod gates;
+#[cfg(test)]
+mod park_tests;
