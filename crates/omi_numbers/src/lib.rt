@@ -15,7 +15,7 @@ pub use addresses::{
     enter_frame, entry_address, exit_below, exit_frame, function_at,
 };
 pub use holders::{FREE_CLAIM, claimed_word, holder_word, lock_wait};
-pub use limits::OWN_SLOTS;
+pub use limits::{OPEN_GROUPS, OWN_SLOTS};
 pub use lives::{CODED_RECORDS, LIFE_END, life_word};
 pub use schedules::{AUTO, DYNAMIC, GUIDED, STATIC, kind_name, kind_number};
 pub use states::{
