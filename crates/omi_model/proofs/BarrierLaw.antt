@@ -327,6 +327,7 @@ module _ (p : Program) (b : ℕ → ℕ) (ok : IsCounted p b) (s : State) (i : �
     frees = λ k t free how q. q;
     shows = λ k t x q. q;
     tools = λ k t x q. q;
+    groups = λ k t count is how q. q;
     sets = λ k t icv value v f at_set q. q;
     begins = λ k t waits mine by q. q;
     finishes = λ k t is over q. q;

@@ -21,6 +21,7 @@ use Rattle.omi_model.specs.Changes.{IsCurrent, encounter, on_task, on_thread}
 use Rattle.omi_model.specs.Freeing.{freed, region_freed}
 use Rattle.omi_model.specs.Fresh.{IsFresh}
 use Rattle.omi_model.specs.LawChains.{IsApart, IsChain}
+use Rattle.omi_model.specs.Groups.{group_begun, group_ended}
 use Rattle.omi_model.specs.LawStays.{Stays, stage_of}
 use Rattle.omi_model.specs.Put.{put}
 use Rattle.omi_model.specs.Reached.{Step}
@@ -61,6 +62,7 @@ finished_step p s i e next step =
       frees = λ k t free how q. q;
       shows = λ k t x q. q;
       tools = λ k t x q. q;
+      groups = λ k t count is how q. q;
       sets = λ k t icv value v f at_set q. q;
       begins = λ k t waits mine by q f. absurd (begun_finished f);
       finishes = λ k t is over q f. inr (sym (before.currents i) ∙ is.name, over);
@@ -308,6 +310,12 @@ module _ (p : Program) (s : State) (i : ℕ) (chain : HasChain s i (s.threads i)
   own_effect (event.Finish task) y rule =
       of_current s i (finished s i) (Chained (event.Finish task)) (MayFinish task) rule
       (λ k t is h. pop s i (event.Finish task) chain (finished s i k t) k t is (ap (λ (x : Thread). x.current) (put_same s.threads i (record (s.threads i) { current = t.scheduling }))))
+  own_effect event.GroupBegin y rule =
+      of_current s i (group_begun s) (Chained event.GroupBegin) _ rule
+      (λ k t is h. same_chain event.GroupBegin (group_begun s k t) refl refl)
+  own_effect event.GroupEnd y rule =
+      of_current s i (group_ended s) (Chained event.GroupEnd) _ rule
+      (λ k t is h. same_chain event.GroupEnd (group_ended s k t) refl refl)
   own_effect (event.Set icv value) y rule =
       of_set s i icv value (Chained (event.Set icv value)) rule
       (same_chain (event.Set icv value) (record s { max_active = value }) refl refl)

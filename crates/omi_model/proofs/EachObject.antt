@@ -22,6 +22,7 @@ use Rattle.omi_model.specs.Barriers.{MayRelease, arrived, released}
 use Rattle.omi_model.specs.Changes.{IsCurrent, ahead_of, encounter, in_front, list_of, on_region, on_task, with_list}
 use Rattle.omi_model.specs.Freeing.{above, freed, freeing}
 use Rattle.omi_model.specs.Fresh.{IsFresh}
+use Rattle.omi_model.specs.Groups.{MayBeginGroup, MayEndGroup, group_begun, group_ended}
 use Rattle.omi_model.specs.Lists.{stays, take_item}
 use Rattle.omi_model.specs.Put.{Slots, gone, made, named}
 use Rattle.omi_model.specs.Reached.{Leads, Step}
@@ -79,12 +80,19 @@ IsFreeing s i e y k free =
     ⊎ ((n : Freeable) × (task : Tid) × (y ≡ item.Frees n) × (e ≡ event.FreeTask task)
     × ((s.threads i).current ≡ Some k) × FreesBehind n free)
 
+-- the events of task groups, by which the current task has so many groups open
+abbrev pub ChangesGroups : State → Event → Tid → Task → ℕ → Type 0
+ChangesGroups s e k t n = ((e ≡ event.GroupBegin) × MayBeginGroup t × (n ≡ suc t.open_groups))
+    ⊎ ((e ≡ event.GroupEnd) × MayEndGroup s k t × (n ≡ t.open_groups - 1))
+
 -- a law of each task over the effect of an event of thread i that takes an item, from a state to the next one
 pub record IsTaskLaw (p : Program) (s : State) (i : ℕ) (e : Event) (y : Item) (next : State) (P : Tid → Task → Type 0) : Type 0 where
   pub frees : (k : Tid) (t : Task) (free : Option Freeable) → IsFreeing s i e y k free → P k t
       → P k (record t { frees = free })
   pub shows : (k : Tid) (t : Task) (enter : ℕ) → P k t → P k (record t { enter = enter })
   pub tools : (k : Tid) (t : Task) (x : ℕ) → P k t → P k (record t { tool = x })
+  pub groups : (k : Tid) (t : Task) (n : ℕ) → IsCurrent s i k t → ChangesGroups s e k t n → P k t
+      → P k (record t { open_groups = n })
   pub sets : (k : Tid) (t : Task) (icv value : ℕ) (v : Variables)
       → with_variable icv value t.variables ≡ Some v → e ≡ event.Set icv value → P k t
       → P k (record t { variables = v })
@@ -285,6 +293,18 @@ module _ (p : Program) (P : Tid → Task → Type 0) where
       (λ k t is h law. each_freeing (Some (freeable.Finished k)) (on_task s k (λ u. record u { progress = Finished }))
       (each_changed s k (λ u. record u { progress = Finished }) all (λ u e q. law.finishes k u (the_current s i k t u is e) refl q)) t.scheduling
       (λ n u from q. law.frees n u _ (inl (k, t, is, refl, inl from, inr refl)) q))
+  task_effect s i event.GroupBegin y rule all =
+      of_current s i (group_begun s) (of_law s i event.GroupBegin y) (λ k t. MayBeginGroup t) rule
+      (λ k t is may law. each_changed s k (λ u. record u { open_groups = suc t.open_groups }) all
+      (λ u e q. let same : t ≡ u = some_same is.live e in
+      law.groups k u (suc t.open_groups) (the_current s i k t u is e)
+      (inl (refl, subst MayBeginGroup same may, ap (λ (x : Task). suc x.open_groups) same)) q))
+  task_effect s i event.GroupEnd y rule all =
+      of_current s i (group_ended s) (of_law s i event.GroupEnd y) (MayEndGroup s) rule
+      (λ k t is may law. each_changed s k (λ u. record u { open_groups = t.open_groups - 1 }) all
+      (λ u e q. let same : t ≡ u = some_same is.live e in
+      law.groups k u (t.open_groups - 1) (the_current s i k t u is e)
+      (inr (refl, subst (MayEndGroup s k) same may, ap (λ (x : Task). x.open_groups - 1) same)) q))
   task_effect s i (event.Set icv value) y rule all =
       of_set s i icv value (of_law s i (event.Set icv value) y) rule (λ law. all)
       (λ k t v is e law. each_changed s k (λ u. record u { variables = v }) all
@@ -442,6 +462,10 @@ module _ (p : Program) (Q : Rid → Region → Type 0) where
   region_effect s i (event.Finish task) y rule all =
       of_current s i (finished s i) (of_region_law s i) _ rule
       (λ k t is h law. all)
+  region_effect s i event.GroupBegin y rule all =
+      of_current s i (group_begun s) (of_region_law s i) _ rule (λ k t is h law. all)
+  region_effect s i event.GroupEnd y rule all =
+      of_current s i (group_ended s) (of_region_law s i) _ rule (λ k t is h law. all)
   region_effect s i (event.Set icv value) y rule all =
       of_set s i icv value (of_region_law s i) rule (λ law. all) (λ k t v is e law. all)
   region_effect s i (event.SetTool x) y rule all =

@@ -18,6 +18,7 @@ use Rattle.omi_model.specs.Barriers.{arrived, released}
 use Rattle.omi_model.specs.Changes.{IsCurrent, OfCurrentRegion, encounter, in_front, on_task, on_thread, with_list}
 use Rattle.omi_model.specs.Freeing.{freed}
 use Rattle.omi_model.specs.Fresh.{IsFresh}
+use Rattle.omi_model.specs.Groups.{group_begun, group_ended}
 use Rattle.omi_model.specs.LawStays.{Stays}
 use Rattle.omi_model.specs.Lists.{stays, take_item}
 use Rattle.omi_model.specs.Put.{put}
@@ -194,6 +195,10 @@ module _ (p : Program) (R : ℕ → Thread → Type 0) where
   thread_effect s i (event.Finish task) y rule all =
       of_current s i (finished s i) (of_law s i (event.Finish task)) (MayFinish task) rule
       (λ k t is h law. each_thread s i (record (s.threads i) { current = t.scheduling }) all (law.finishes k t is h.explicit refl (all i)))
+  thread_effect s i event.GroupBegin y rule all =
+      of_current s i (group_begun s) (of_law s i event.GroupBegin) _ rule (λ k t is h law. all)
+  thread_effect s i event.GroupEnd y rule all =
+      of_current s i (group_ended s) (of_law s i event.GroupEnd) _ rule (λ k t is h law. all)
   thread_effect s i (event.Set icv value) y rule all =
       of_set s i icv value (of_law s i (event.Set icv value)) rule (λ law. all) (λ k t v is e law. all)
   thread_effect s i (event.SetTool x) y rule all =

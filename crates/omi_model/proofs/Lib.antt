@@ -10,6 +10,8 @@ pub mod EachObject
 pub mod EachThread
 pub mod OpeningObjects
 pub mod ReachedStates
+pub mod Innermost
+pub mod GeneratingChains
 pub mod ScheduledFrom
 pub mod NeededTasks
 pub mod FreesLists
@@ -51,4 +53,5 @@ pub mod LocksHeld
 pub mod claims
 pub mod members
 pub mod freeing
+pub mod groups
 pub mod NamesLive

@@ -18,6 +18,7 @@ use Rattle.omi_model.specs.declared.thread.Thread.{Thread}
 use Rattle.omi_model.specs.Barriers.{arrived, released}
 use Rattle.omi_model.specs.Changes.{IsCurrent, ahead_of, encounter, in_front}
 use Rattle.omi_model.specs.Fresh.{IsFresh}
+use Rattle.omi_model.specs.Groups.{group_begun, group_ended}
 use Rattle.omi_model.specs.LawLocks.{IsHeldBy, gives_back}
 use Rattle.omi_model.specs.LawNames.{IsLiveTask}
 use Rattle.omi_model.specs.LawStays.{Stays}
@@ -136,6 +137,10 @@ locks_effect p s i (event.Start task) item.OneTask rule other =
 locks_effect p s i (event.Start task) y rule other = tt
 locks_effect p s i (event.Finish task) y rule other =
     of_current s i (finished s i) (λ u. u.locks ≡ s.locks) _ rule (λ k t is h. refl)
+locks_effect p s i event.GroupBegin y rule other =
+    of_current s i (group_begun s) (λ u. u.locks ≡ s.locks) _ rule (λ k t is h. refl)
+locks_effect p s i event.GroupEnd y rule other =
+    of_current s i (group_ended s) (λ u. u.locks ≡ s.locks) _ rule (λ k t is h. refl)
 locks_effect p s i (event.Set icv value) y rule other =
     of_set s i icv value (λ u. u.locks ≡ s.locks) rule refl (λ k t v is e. refl)
 locks_effect p s i (event.SetTool x) y rule other =
@@ -217,6 +222,7 @@ module _ (k : ℕ) (p : Program) (events : List (ℕ × Event)) (s : State) (rea
         frees = λ n t free how q. q;
         shows = λ n t x q. q;
         tools = λ n t x q. q;
+        groups = λ n t count is how q. q;
         sets = λ n t icv value v f at_set q. q;
         begins = λ n t waits mine by q. q;
         finishes = λ n t is over q. q;

@@ -75,6 +75,7 @@ members_step p s i e next step known = record {
       frees = λ k t free how q. record { generating = q.generating; scheduling = q.scheduling; waiting = q.waiting };
       shows = λ k t x q. record { generating = q.generating; scheduling = q.scheduling; waiting = q.waiting };
       tools = λ k t x q. record { generating = q.generating; scheduling = q.scheduling; waiting = q.waiting };
+      groups = λ k t count is how q. record { generating = q.generating; scheduling = q.scheduling; waiting = q.waiting };
       sets = λ k t icv value v f at_set q. record { generating = q.generating; scheduling = q.scheduling; waiting = q.waiting };
       begins = λ k t waits mine by q. record { generating = q.generating; scheduling = q.scheduling; waiting = λ w. absurd (begun_waits w) };
       finishes = λ k t is over q. record { generating = q.generating; scheduling = q.scheduling; waiting = λ w. absurd (finished_waits w) };
@@ -109,6 +110,7 @@ members_step p s i e next step known = record {
       frees = λ k t free how q. q;
       shows = λ k t x q. q;
       tools = λ k t x q. q;
+      groups = λ k t count is how q. q;
       sets = λ k t icv value v f at_set q. q;
       begins = λ k t waits mine by q. q;
       finishes = λ k t is over q. q;

@@ -11,8 +11,9 @@ use Rattle.omi_model.specs.LawStays.{IsNeeded}
 use Rattle.omi_model.specs.Reached.{Reached}
 use Rattle.omi_model.specs.State.{State, region_of, task_of}
 use Rattle.omi_model.proofs.ChainsKept.{current_begun}
+use Rattle.omi_model.proofs.GeneratingChains.{generated_on, have_line}
 use Rattle.omi_model.proofs.MembersKnown.{first_at, members_known}
-use Rattle.omi_model.proofs.ScheduledFrom.{IsLiveImplicit, scheduled_from}
+use Rattle.omi_model.proofs.ScheduledFrom.{IsLiveImplicit, IsOwnedBy, scheduled_from}
 use Rattle.omi_model.proofs.Slots.{some_same}
 use Rattle.omi_model.proofs.StaysKept.{needed_begun, needed_generating}
 
@@ -25,9 +26,14 @@ module _ (p : Program) (events : List (ℕ × Event)) (s : State) (reached : Rea
       → t.scheduling ≡ Some n → task_of s n ≡ Some v → IsNeeded s n v
   needed_scheduling k t live n v is found = go (scheduled_from p events s reached k t live n is)
     where
-      go : (t.generating ≡ Some n) ⊎ ((t.implicit ≡ false) × IsLiveImplicit s n t.region) → IsNeeded s n v
+      go : (t.generating ≡ Some n) ⊎ (IsOwnedBy t n ⊎ ((t.implicit ≡ false) × IsLiveImplicit s n t.region))
+          → IsNeeded s n v
       go (inl by) = needed_generating s k t live n v by
-      go (inr (ex, (w, found_w, im, region))) =
+      go (inr (inl (g, member, own))) =
+          let (gs, chain, owners) = have_line p events s reached k t live in
+          let (m, w, found_w, by) = generated_on s k t live gs chain g.owner (owners g member) in
+          needed_generating s m w found_w n v (by ∙ ap (λ (x : Tid). Some x) own)
+      go (inr (inr (ex, (w, found_w, im, region)))) =
           let one : v ≡ w = some_same found found_w in
           let here : t.region ≡ v.region = sym region ∙ ap (λ (x : Task). x.region) (sym one) in
           inl (ap (λ (x : Task). x.implicit) one ∙ im, inr (inl (k, t, live, ex, here)))

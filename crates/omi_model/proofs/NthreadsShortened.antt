@@ -110,6 +110,7 @@ module _ (p : Program) where
         frees = λ k t free how q. q;
         shows = λ k t x q. q;
         tools = λ k t x q. q;
+        groups = λ k t count is how q. q;
         begins = λ k t waits mine by q. q;
         finishes = λ k t is over q. q;
         sets = λ k t icv value v f at_set (r, found, is). (r, found, set_shortened r icv value t.variables v f is);

@@ -138,6 +138,7 @@ module _ (p : Program) (events : List (ℕ × Event)) (s : State) (reached : Rea
     frees = λ k t free how q. record { region = q.region; generating = q.generating; scheduling = q.scheduling };
     shows = λ k t x q. record { region = q.region; generating = q.generating; scheduling = q.scheduling };
     tools = λ k t x q. record { region = q.region; generating = q.generating; scheduling = q.scheduling };
+    groups = λ k t count is how q. record { region = q.region; generating = q.generating; scheduling = q.scheduling };
     sets = λ k t icv value v f at_set q. record { region = q.region; generating = q.generating; scheduling = q.scheduling };
     begins = λ k t waits mine by q. record { region = q.region; generating = q.generating; scheduling = q.scheduling };
     finishes = λ k t is over q. record { region = q.region; generating = q.generating; scheduling = q.scheduling };

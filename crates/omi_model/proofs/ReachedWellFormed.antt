@@ -5,6 +5,7 @@ use Rattle.std.proofs.lemmas.Option.{slice_get-get_or}
 use Rattle.omi_script.proofs.RuleLemmas.{Rules-from_accepted}
 use Rattle.omi_script.specs.declared.program.Program.{Program}
 use Rattle.omi_model.specs.declared.event.Event.{Event}
+use Rattle.omi_model.specs.declared.group.Group.{Group}
 use Rattle.omi_model.specs.declared.id.Rid.{Rid}
 use Rattle.omi_model.specs.declared.id.Tid.{Tid}
 use Rattle.omi_model.specs.declared.progress.Progress.{Progress}
@@ -19,13 +20,13 @@ use Rattle.omi_model.proofs.ChainsKept.{current_begun}
 use Rattle.omi_model.proofs.LevelsCount.{levels_count}
 use Rattle.omi_model.proofs.members.EncounterLaws.{encounters, open_around, visible_open}
 use Rattle.omi_model.proofs.members.Encounters.{child_region}
-use Rattle.omi_model.proofs.members.Lineages.{have_lines}
+use Rattle.omi_model.proofs.GeneratingChains.{have_line, on_lineage}
 use Rattle.omi_model.proofs.members.WholeTeams.{AreWhole, are_whole, live_of}
 use Rattle.omi_model.proofs.MembersKnown.{first_at, members_known}
 use Rattle.omi_model.proofs.NamesLive.{names_live}
 use Rattle.omi_model.proofs.NthreadsShortened.{nthreads_shortened}
 use Rattle.omi_model.proofs.ReleaseAmong.{undeferred}
-use Rattle.omi_model.proofs.ScheduledFrom.{IsLiveImplicit, scheduled_from}
+use Rattle.omi_model.proofs.ScheduledFrom.{IsLiveImplicit, IsOwnedBy, scheduled_from}
 use Rattle.omi_model.proofs.SchedulingChains.{scheduling_right}
 use Rattle.omi_model.proofs.Slots.{false_true, some_same}
 use Rattle.omi_model.proofs.Tables.{in_tables}
@@ -155,17 +156,27 @@ module _ (p : Program) (events : List (ℕ × Event)) (s : State) (reached : Rea
             let made = ((members_known p events s reached).encountered k t live).generating im around.region around.live in
             seen_encountering t.region around n u (sym made ∙ by) live_u un
         go false ex (u, live_u, un) =
-            let (gs, chain) = (have_lines p events s reached).lines k t live in
+            let (gs, chain, owners) = have_line p events s reached k t live in
             let same = child_region s t u n gs chain ex by live_u in
             seen_task n u live_u un (λ im. subst (IsVisibleRegion s) (sym same) around)
+
+    -- the owner of its group
+    seen_owner : (g : Group) → t.group ≡ Some g → IsVisibleTask s g.owner
+    seen_owner g is =
+        let (gs, chain, owners) = have_line p events s reached k t live in
+        let (u, found, region, begun) =
+        on_lineage s t.implicit t.region t.generating gs chain g.owner (owners g is) in
+        seen_task g.owner u found (not_deferred u.progress begun) (λ im. subst (IsVisibleRegion s) (sym region) around)
 
     seen_scheduling : (n : Tid) → t.scheduling ≡ Some n → IsVisibleTask s n
     seen_scheduling n is = go (scheduled_from p events s reached k t live n is) ((names.tasks k t live).scheduling n is)
       where
-        go : (t.generating ≡ Some n) ⊎ ((t.implicit ≡ false) × IsLiveImplicit s n t.region) → IsLiveTask s n
+        go : (t.generating ≡ Some n) ⊎ (IsOwnedBy t n ⊎ ((t.implicit ≡ false) × IsLiveImplicit s n t.region))
+            → IsLiveTask s n
             → IsVisibleTask s n
         go (inl by) of = seen_generating n by
-        go (inr (ex, (v, found, im, region))) (u, live_u, un) =
+        go (inr (inl (g, member, own))) of = subst (IsVisibleTask s) own (seen_owner g member)
+        go (inr (inr (ex, (v, found, im, region)))) (u, live_u, un) =
             let here = ap (λ (x : Task). x.region) (some_same live_u found) ∙ region in
             seen_task n u live_u un (λ im. subst (IsVisibleRegion s) (sym here) around)
 
@@ -176,6 +187,7 @@ module _ (p : Program) (events : List (ℕ × Event)) (s : State) (reached : Rea
         region = around;
         generating = λ n e. seen_generating k seen.task seen.live around n e;
         scheduling = λ n e. seen_scheduling k seen.task seen.live around n e;
+        owner = λ g e. seen_owner k seen.task seen.live around g e;
         begun = manned.tasks k seen.task seen.live (seen_undeferred k seen);
         ends = (scheduling_right p events s reached k seen.task seen.live).ends;
         variables = in_range k seen.task seen.live;

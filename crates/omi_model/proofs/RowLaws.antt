@@ -16,7 +16,7 @@ use Rattle.omi_model.proofs.EachObject.{start_list}
 use Rattle.omi_model.proofs.Slots.{false_true}
 use Rattle.omi_model.specs.declared.freeable.Freeable.{Freeable}
 
--- the items that are not of a fork, a wait, a barrier or a lock, and that do not close a list
+-- the items that are not of a fork, a wait, a barrier, a group or a lock, and that do not close a list
 abbrev pub is_plain : Item → Bool
 is_plain (item.Want num) = false
 is_plain item.Asks = false
@@ -25,6 +25,8 @@ is_plain (item.Tasks state) = false
 is_plain item.Arrive = false
 is_plain item.Release = false
 is_plain item.Pass = false
+is_plain item.GroupBegin = false
+is_plain item.GroupEnd = false
 is_plain (item.Lock k) = false
 is_plain (item.Unlock k) = false
 is_plain item.Join = false

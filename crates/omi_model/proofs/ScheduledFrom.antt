@@ -1,15 +1,17 @@
--- The scheduling task of a task: its generating task, or, of an explicit task, a live implicit one of its region.
+-- The scheduling task of a task: its generating task, or, of an explicit task, the owner of its group or a live implicit one of its region.
 use Rattle.std.proofs.Common.{◌≡◌, ◌==◌, ◌⊎◌, inl, inr, ℕ, Bool, true, false, List, [], Option, Some, None, if◌then◌else◌, refl, sym, ap, ◌∙◌, subst}
 use Rattle.omi_script.specs.declared.program.Program.{Program}
 use Rattle.omi_model.specs.declared.event.Event.{Event}
 use Rattle.omi_model.specs.declared.event.Event.TheVariants as event
 use Rattle.omi_model.specs.declared.freeable.Freeable.{Freeable}
+use Rattle.omi_model.specs.declared.group.Group.{Group}
 use Rattle.omi_model.specs.declared.id.Rid.{Rid}
 use Rattle.omi_model.specs.declared.id.Tid.{Tid}
 use Rattle.omi_model.specs.declared.item.Item.{Item}
 use Rattle.omi_model.specs.declared.item.Item.TheVariants as item
 use Rattle.omi_model.specs.declared.task.Task.{Task}
 use Rattle.omi_model.specs.Changes.{IsCurrent, encounter}
+use Rattle.omi_model.specs.Groups.{IsInInnermost}
 use Rattle.omi_model.specs.LawScheduling.{IsInBarrier}
 use Rattle.omi_model.specs.LawStays.{Stays}
 use Rattle.omi_model.specs.Lists.{fits, stays, take_item}
@@ -18,6 +20,7 @@ use Rattle.omi_model.specs.Reached.{Reached, Step}
 use Rattle.omi_model.specs.State.{State, task_of}
 use Rattle.omi_model.specs.Tasking.{MayStartAt}
 use Rattle.omi_model.proofs.ChainsKept.{current_begun}
+use Rattle.omi_model.proofs.Innermost.{innermost_own}
 use Rattle.omi_model.proofs.EachObject.{EachTask, IsTaskLaw, ahead_of_current, task_step_from}
 use Rattle.omi_model.proofs.ListLaws.{take_fits, taken_plain}
 use Rattle.omi_model.proofs.OpeningObjects.{each_first_task}
@@ -37,13 +40,17 @@ starts_only e state fit = absurd (false_true fit)
 abbrev pub IsLiveImplicit : State → Tid → Rid → Type 0
 IsLiveImplicit s k region = (v : Task) × (task_of s k ≡ Some v) × (v.implicit ≡ true) × (v.region ≡ region)
 
+-- the group of a task is of this owner
+abbrev pub IsOwnedBy : Task → Tid → Type 0
+IsOwnedBy t n = (g : Group) × (t.group ≡ Some g) × (g.owner ≡ n)
+
 abbrev pub IsScheduledFrom : State → Tid → Task → Type 0
 IsScheduledFrom s k t = (n : Tid) → t.scheduling ≡ Some n
-    → (t.generating ≡ Some n) ⊎ ((t.implicit ≡ false) × IsLiveImplicit s n t.region)
+    → (t.generating ≡ Some n) ⊎ (IsOwnedBy t n ⊎ ((t.implicit ≡ false) × IsLiveImplicit s n t.region))
 
--- a task was made by this one, or is of the region of this live implicit one
+-- a task was made by this one, is a member of a group of this one, or is of the region of this live implicit one
 abbrev pub IsStartedUnder : State → Tid → Task → Type 0
-IsStartedUnder s j u = (u.generating ≡ Some j) ⊎ IsLiveImplicit s j u.region
+IsStartedUnder s j u = (u.generating ≡ Some j) ⊎ (IsOwnedBy u j ⊎ IsLiveImplicit s j u.region)
 
 module _ (p : Program) (events : List (ℕ × Event)) (s : State) (reached : Reached p events s) (i : ℕ)
     (e : Event) (next : State) (step : Step p s i e next) (m : IsMove p s i e next) where
@@ -65,7 +72,7 @@ module _ (p : Program) (events : List (ℕ × Event)) (s : State) (reached : Rea
 
   -- a task starts from this item under the current one
   under : (x : Item) → m.item ≡ x → (k : Tid) (t : Task) → IsCurrent s i k t → (u : Task) → MayStartAt x k t u
-      → (u.generating ≡ Some k) ⊎ (IsInBarrier t × (u.region ≡ t.region))
+      → (u.generating ≡ Some k) ⊎ (IsInInnermost k t u ⊎ (IsInBarrier t × (u.region ≡ t.region)))
   under (item.Tasks state) of k t is u may =
       let taken : take_item p (encounter s i) e t.list ≡ Some (item.Tasks state, m.behind) =
       taken_plain p (encounter s i) e t.frees t.list (item.Tasks state) m.behind refl
@@ -92,19 +99,22 @@ module _ (p : Program) (events : List (ℕ × Event)) (s : State) (reached : Rea
       let (v, xs, current, same) = was j t is in
       go v current (under x of j v current u (may_before x j t v u xs same may))
     where
-      go : (v : Task) → IsCurrent s i j v → (u.generating ≡ Some j) ⊎ (IsInBarrier v × (u.region ≡ v.region))
+      go : (v : Task) → IsCurrent s i j v
+          → (u.generating ≡ Some j) ⊎ (IsInInnermost j v u ⊎ (IsInBarrier v × (u.region ≡ v.region)))
           → IsStartedUnder next j u
       go v current (inl by) = inl by
-      go v current (inr (barrier, region)) =
+      go v current (inr (inl (g, innermost_is, member))) = inr (inl (g, member, (innermost_own j v g innermost_is).0))
+      go v current (inr (inr (barrier, region))) =
           let (w, found, kept) = stay.tasks j v current.live (needed_begun s j v (current_begun p events s reached i j v current.name current.live).0) in
-          inr (w, found, kept.implicit ∙ barrier.implicit, kept.region ∙ sym region)
+          inr (inr (w, found, kept.implicit ∙ barrier.implicit, kept.region ∙ sym region))
 
   from_current : (j : Tid) (u : Task) → u.implicit ≡ false → IsStartedUnder next j u → (n : Tid)
       → ◌≡◌ {A = Option Tid} (Some j) (Some n)
-      → (u.generating ≡ Some n) ⊎ ((u.implicit ≡ false) × IsLiveImplicit next n u.region)
+      → (u.generating ≡ Some n) ⊎ (IsOwnedBy u n ⊎ ((u.implicit ≡ false) × IsLiveImplicit next n u.region))
   from_current j u ex (inl by) n is = inl (by ∙ is)
-  from_current j u ex (inr (v, found, im, region)) n is =
-      inr (ex, (v, ap (task_of next) (sym (some_same refl is)) ∙ found, im, region))
+  from_current j u ex (inr (inl (g, member, own))) n is = inr (inl (g, member, own ∙ some_same refl is))
+  from_current j u ex (inr (inr (v, found, im, region))) n is =
+      inr (inr (ex, (v, ap (task_of next) (sym (some_same refl is)) ∙ found, im, region)))
 
   from_law : EachTask (IsScheduledFrom next) middle
       → IsTaskLaw p middle i e m.item next (IsScheduledFrom next)
@@ -112,6 +122,7 @@ module _ (p : Program) (events : List (ℕ × Event)) (s : State) (reached : Rea
     frees = λ k t free how q. q;
     shows = λ k t x q. q;
     tools = λ k t x q. q;
+    groups = λ k t count is how q. q;
     sets = λ k t icv value v f at_set q. q;
     begins = λ k t waits mine by q. q;
     finishes = λ k t is over q. q;
@@ -122,7 +133,8 @@ module _ (p : Program) (events : List (ℕ × Event)) (s : State) (reached : Rea
   }
     where
       of_first : (region : Rid) (b : Bool) (k n : Tid) → (if b then Some k else None) ≡ Some n
-          → (◌≡◌ {A = Option Tid} (Some k) (Some n)) ⊎ ((true ≡ false) × IsLiveImplicit next n region)
+          → (◌≡◌ {A = Option Tid} (Some k) (Some n))
+          ⊎ (((g : Group) × (◌≡◌ {A = Option Group} None (Some g)) × (g.owner ≡ n)) ⊎ ((true ≡ false) × IsLiveImplicit next n region))
       of_first region true k n from = inl from
       of_first region false k n from = absurd (none_some refl from)
 
@@ -132,12 +144,13 @@ module _ (p : Program) (events : List (ℕ × Event)) (s : State) (reached : Rea
       (λ k t ne live q. q) from_law (λ k t live n is. later k t live n (all k t live n is))
     where
       later : (k : Tid) (t : Task) → task_of s k ≡ Some t → (n : Tid)
-          → (t.generating ≡ Some n) ⊎ ((t.implicit ≡ false) × IsLiveImplicit s n t.region)
-          → (t.generating ≡ Some n) ⊎ ((t.implicit ≡ false) × IsLiveImplicit next n t.region)
+          → (t.generating ≡ Some n) ⊎ (IsOwnedBy t n ⊎ ((t.implicit ≡ false) × IsLiveImplicit s n t.region))
+          → (t.generating ≡ Some n) ⊎ (IsOwnedBy t n ⊎ ((t.implicit ≡ false) × IsLiveImplicit next n t.region))
       later k t live n (inl by) = inl by
-      later k t live n (inr (ex, (v, found, im, region))) =
+      later k t live n (inr (inl own)) = inr (inl own)
+      later k t live n (inr (inr (ex, (v, found, im, region)))) =
           let (w, found_w, same) = stay.tasks n v found (inl (im, inr (inl (k, t, live, ex, sym region)))) in
-          inr (ex, (w, found_w, same.implicit ∙ im, same.region ∙ region))
+          inr (inr (ex, (w, found_w, same.implicit ∙ im, same.region ∙ region)))
 
 pub scheduled_from : (p : Program) (events : List (ℕ × Event)) (s : State) → Reached p events s
     → EachTask (IsScheduledFrom s) s

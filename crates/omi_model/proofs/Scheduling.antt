@@ -12,11 +12,12 @@ use Rattle.omi_model.specs.declared.item.Item.{Item}
 use Rattle.omi_model.specs.declared.item.Item.TheVariants as item
 use Rattle.omi_model.specs.declared.task.Task.{Task}
 use Rattle.omi_model.specs.Changes.{IsCurrent, encounter}
+use Rattle.omi_model.specs.Groups.{IsInInnermost}
 use Rattle.omi_model.specs.LawScheduling.{IsInBarrier, passes_next}
 use Rattle.omi_model.specs.LawStays.{Stays}
 use Rattle.omi_model.specs.Lists.{fits, may_drop, opened, take_item, stays}
 use Rattle.omi_model.specs.Rows.{first_of}
-use Rattle.omi_numbers.specs.declared.states.TheConstants.{WAIT_TASKWAIT}
+use Rattle.omi_numbers.specs.declared.states.TheConstants.{WAIT_TASKGROUP, WAIT_TASKWAIT}
 use Rattle.omi_model.specs.Opening.{opening}
 use Rattle.omi_model.specs.Reached.{Reached, Step}
 use Rattle.omi_model.specs.Rules.{Legal}
@@ -47,6 +48,7 @@ waits_step p s i e next step all = task_step p TaskWaits s i e next step
       frees = λ k t free how q. q;
       shows = λ k t x q. q;
       tools = λ k t x q. q;
+      groups = λ k t count is how q. q;
       sets = λ k t icv value v f at_set q. q;
       begins = λ k t waits mine by q. q;
       finishes = λ k t is over q. q;
@@ -135,31 +137,36 @@ module _ (p : Program) (events : List (ℕ × Event)) (s : State) (reached : Rea
   pub at_item : (x : Item) (ys : List Item) (k : Tid) (t u : Task) (i : ℕ) (task : Tid)
       → take_item p (encounter s i) (event.Start task) t.list ≡ Some (x, ys) → task_of s k ≡ Some t
       → MayStartAt x k t u
-      → (u.generating ≡ Some k) ⊎ (IsInBarrier t × (u.region ≡ t.region))
-  at_item (item.Tasks state) ys k t u i task taken live may = go (state == WAIT_TASKWAIT) refl may
+      → (u.generating ≡ Some k) ⊎ (IsInInnermost k t u ⊎ (IsInBarrier t × (u.region ≡ t.region)))
+  at_item (item.Tasks state) ys k t u i task taken live may =
+      go (state == WAIT_TASKWAIT) refl (state == WAIT_TASKGROUP) refl may
     where
       waits : Waits (item.Tasks state ∷ ys)
       waits =
           take_waits p (encounter s i) (event.Start task) t.list (item.Tasks state) ys taken
           (waits_reached p events s reached k t live)
 
-      in_wait : state == WAIT_TASKWAIT ≡ false → (state ≡ WAIT_TASKWAIT) ⊎ (passes_next ys ≡ true)
+      in_wait : state == WAIT_TASKWAIT ≡ false → state == WAIT_TASKGROUP ≡ false
+          → (state ≡ WAIT_TASKWAIT) ⊎ ((state ≡ WAIT_TASKGROUP) ⊎ (passes_next ys ≡ true))
           → passes_next ys ≡ true
-      in_wait e (inl same) = absurd (false_true (sym e ∙ eq-eqb state WAIT_TASKWAIT same))
-      in_wait e (inr passes) = passes
+      in_wait e f (inl same) = absurd (false_true (sym e ∙ eq-eqb state WAIT_TASKWAIT same))
+      in_wait e f (inr (inl same)) = absurd (false_true (sym f ∙ eq-eqb state WAIT_TASKGROUP same))
+      in_wait e f (inr (inr passes)) = passes
 
-      go : (b : Bool) → state == WAIT_TASKWAIT ≡ b → MatchBool b (u.generating ≡ Some k) (u.region ≡ t.region)
-          → (u.generating ≡ Some k) ⊎ (IsInBarrier t × (u.region ≡ t.region))
-      go true e h = inl h
-      go false e h =
+      go : (b : Bool) → state == WAIT_TASKWAIT ≡ b → (c : Bool) → state == WAIT_TASKGROUP ≡ c
+          → MatchBool b (u.generating ≡ Some k) (MatchBool c (IsInInnermost k t u) (u.region ≡ t.region))
+          → (u.generating ≡ Some k) ⊎ (IsInInnermost k t u ⊎ (IsInBarrier t × (u.region ≡ t.region)))
+      go true e c f h = inl h
+      go false e true f h = inr (inl h)
+      go false e false f h =
           inr
-          (in_barrier k t live (passes_back p (encounter s i) task state ys (in_wait e waits.0) t.list taken), h)
+          (inr (in_barrier k t live (passes_back p (encounter s i) task state ys (in_wait e f waits.0) t.list taken), h))
   at_item item.OneTask ys k t u i task taken live may = inl may
   at_item x ys k t u i task taken live may = absurd may
 
   pub starts_constrained : (i : ℕ) (task k : Tid) (t u : Task) → Legal p s i (event.Start task)
       → IsCurrent s i k t → task_of s task ≡ Some u
-      → (u.generating ≡ Some k) ⊎ (IsInBarrier t × (u.region ≡ t.region))
+      → (u.generating ≡ Some k) ⊎ (IsInInnermost k t u ⊎ (IsInBarrier t × (u.region ≡ t.region)))
   starts_constrained i task k t u legal is live =
       let (k0, t0, is0, may) = legal.rule in
       let one_name : k0 ≡ k = some_same is0.name is.name in
@@ -175,5 +182,5 @@ module _ (p : Program) (events : List (ℕ × Event)) (s : State) (reached : Rea
 pub starts_are_constrained : (p : Program) (events : List (ℕ × Event)) (s : State) → Reached p events s
     → (i : ℕ) (task k : Tid) (t u : Task) → Legal p s i (event.Start task) → IsCurrent s i k t
     → task_of s task ≡ Some u
-    → (u.generating ≡ Some k) ⊎ (IsInBarrier t × (u.region ≡ t.region))
+    → (u.generating ≡ Some k) ⊎ (IsInInnermost k t u ⊎ (IsInBarrier t × (u.region ≡ t.region)))
 starts_are_constrained p events s reached = starts_constrained p events s reached

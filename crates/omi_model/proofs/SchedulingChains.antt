@@ -1,8 +1,9 @@
--- Scheduling tasks: each is the generating task or a member of the region, and their chains end.
+-- Scheduling tasks: each is the generating task, the owner of the task's group or a member of the region, and their chains end.
 use Rattle.std.proofs.Common.{◌≡◌, ◌==◌, ◌⊎◌, inl, inr, ℕ, zero, suc, Bool, true, false, List, [], Option, Some, None, if◌then◌else◌, refl, sym, ap, ◌∙◌}
 use Rattle.std.specs.Option.{option_and_then}
 use Rattle.omi_script.specs.declared.program.Program.{Program}
 use Rattle.omi_model.specs.declared.event.Event.{Event}
+use Rattle.omi_model.specs.declared.group.Group.{Group}
 use Rattle.omi_model.specs.declared.id.Tid.{Tid}
 use Rattle.omi_model.specs.declared.item.Item.{Item}
 use Rattle.omi_model.specs.declared.progress.Progress.{Progress}
@@ -10,7 +11,7 @@ use Rattle.omi_model.specs.declared.progress.Progress.TheVariants.{Begun, Deferr
 use Rattle.omi_model.specs.declared.task.Task.{Task}
 use Rattle.omi_model.specs.Changes.{IsCurrent}
 use Rattle.omi_model.specs.LawNames.{IsLiveTask}
-use Rattle.omi_model.specs.LawScheduling.{IsScheduled, IsScheduledRightly}
+use Rattle.omi_model.specs.LawScheduling.{IsScheduled, IsScheduledRightly, IsUnderOwner}
 use Rattle.omi_model.specs.LawStays.{IsNeeded, Stays}
 use Rattle.omi_model.specs.Opening.{opening}
 use Rattle.omi_model.specs.Reached.{Reached, Step}
@@ -63,12 +64,17 @@ rightly_later : (s u : State) → Stays s u → (k : Tid) (t : Task) → task_of
     → IsScheduledRightly u t
 rightly_later s u stay k t live h ex un = go (h ex un)
   where
-    go : (t.scheduling ≡ t.generating) ⊎ ((k : Tid) × (v : Task) × (t.scheduling ≡ Some k) × (task_of s k ≡ Some v) × (v.implicit ≡ true) × (v.region ≡ t.region))
-        → (t.scheduling ≡ t.generating) ⊎ ((k : Tid) × (v : Task) × (t.scheduling ≡ Some k) × (task_of u k ≡ Some v) × (v.implicit ≡ true) × (v.region ≡ t.region))
+    go : (t.scheduling ≡ t.generating) ⊎ (IsUnderOwner t ⊎ ((k : Tid) × (v : Task) × (t.scheduling ≡ Some k) × (task_of s k ≡ Some v) × (v.implicit ≡ true) × (v.region ≡ t.region)))
+        → (t.scheduling ≡ t.generating) ⊎ (IsUnderOwner t ⊎ ((k : Tid) × (v : Task) × (t.scheduling ≡ Some k) × (task_of u k ≡ Some v) × (v.implicit ≡ true) × (v.region ≡ t.region)))
     go (inl e) = inl e
-    go (inr (n, v, is, found, im, region)) =
+    go (inr (inl under)) = inr (inl under)
+    go (inr (inr (n, v, is, found, im, region))) =
         let (w, found_w, same) = stay.tasks n v found (inl (im, inr (inl (k, t, live, ex, sym region)))) in
-        inr (n, w, is, found_w, same.implicit ∙ im, same.region ∙ region)
+        inr (inr (n, w, is, found_w, same.implicit ∙ im, same.region ∙ region))
+
+-- the owner of a task's group, as the task that it is scheduled from
+abbrev UnderOwner : Tid → Task → Type 0
+UnderOwner j u = (g : Group) × (u.group ≡ Some g) × (◌≡◌ {A = Option Tid} (Some j) (Some g.owner))
 
 module _ (p : Program) (events : List (ℕ × Event)) (s : State) (reached : Reached p events s) (i : ℕ)
     (e : Event) (next : State) (step : Step p s i e next) (all : EachTask (λ k u. IsScheduled s u) s) where
@@ -105,6 +111,7 @@ module _ (p : Program) (events : List (ℕ × Event)) (s : State) (reached : Rea
     frees = λ k t free how q. record { rightly = q.rightly; ends = q.ends };
     shows = λ k t x q. record { rightly = q.rightly; ends = q.ends };
     tools = λ k t x q. record { rightly = q.rightly; ends = q.ends };
+    groups = λ k t count is how q. record { rightly = q.rightly; ends = q.ends };
     sets = λ k t icv value v f at_set q. record { rightly = q.rightly; ends = q.ends };
     begins = λ k t waits mine by q. record { rightly = λ ex un. q.rightly ex (λ d. waits_not t waits d); ends = q.ends };
     finishes = λ k t is over q. record { rightly = λ ex un. q.rightly ex (started k t is); ends = q.ends };
@@ -124,13 +131,14 @@ module _ (p : Program) (events : List (ℕ × Event)) (s : State) (reached : Rea
 
       under_here : (x : Item) → m.item ≡ x → (j : Tid) (t : Task) → IsCurrent middle i j t → (u : Task)
           → MayStartAt x j t u
-          → (◌≡◌ {A = Option Tid} (Some j) u.generating) ⊎ ((k : Tid) × (v : Task) × (◌≡◌ {A = Option Tid} (Some j) (Some k)) × (task_of next k ≡ Some v) × (v.implicit ≡ true) × (v.region ≡ u.region))
+          → (◌≡◌ {A = Option Tid} (Some j) u.generating) ⊎ (UnderOwner j u ⊎ ((k : Tid) × (v : Task) × (◌≡◌ {A = Option Tid} (Some j) (Some k)) × (task_of next k ≡ Some v) × (v.implicit ≡ true) × (v.region ≡ u.region)))
       under_here x of j t is u may = go (starts_under p events s reached i e next step m x of j t is u may)
         where
           go : IsStartedUnder next j u
-              → (◌≡◌ {A = Option Tid} (Some j) u.generating) ⊎ ((k : Tid) × (v : Task) × (◌≡◌ {A = Option Tid} (Some j) (Some k)) × (task_of next k ≡ Some v) × (v.implicit ≡ true) × (v.region ≡ u.region))
+              → (◌≡◌ {A = Option Tid} (Some j) u.generating) ⊎ (UnderOwner j u ⊎ ((k : Tid) × (v : Task) × (◌≡◌ {A = Option Tid} (Some j) (Some k)) × (task_of next k ≡ Some v) × (v.implicit ≡ true) × (v.region ≡ u.region)))
           go (inl by) = inl (sym by)
-          go (inr (v, found, im, region)) = inr (j, v, refl, found, im, region)
+          go (inr (inl (g, member, own))) = inr (inl (g, member, ap (λ (x : Tid). Some x) (sym own)))
+          go (inr (inr (v, found, im, region))) = inr (inr (j, v, refl, found, im, region))
 
   pub scheduled_step : EachTask (λ k u. IsScheduled next u) next
   scheduled_step =

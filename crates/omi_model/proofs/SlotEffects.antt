@@ -17,6 +17,7 @@ use Rattle.omi_model.specs.Barriers.{MayRelease, arrived, released}
 use Rattle.omi_model.specs.Changes.{IsCurrent}
 use Rattle.omi_model.specs.Freeing.{MayFreeRegion, freed, freeing}
 use Rattle.omi_model.specs.Fresh.{IsFresh}
+use Rattle.omi_model.specs.Groups.{group_begun, group_ended}
 use Rattle.omi_model.specs.Put.{Slots, gone, made, named, on}
 use Rattle.omi_model.specs.Rules.{Rule, effect}
 use Rattle.omi_model.specs.Settings.{entered, left, with_tool}
@@ -162,6 +163,12 @@ module _ (p : Program) (s : State) (i : ℕ) (Q : Event → Slots Region → Slo
   slots_effect (event.Finish task) y rule =
       of_current s i (finished s i) (Of (event.Finish task)) _ rule
       (λ k t is h. freeing_effect (event.Finish task) refl (Some (freeable.Finished k)) k _ t.scheduling)
+  slots_effect event.GroupBegin y rule =
+      of_current s i (group_begun s) (Of event.GroupBegin) _ rule
+      (λ k t is h. task_effect event.GroupBegin refl k _)
+  slots_effect event.GroupEnd y rule =
+      of_current s i (group_ended s) (Of event.GroupEnd) _ rule
+      (λ k t is h. task_effect event.GroupEnd refl k _)
   slots_effect (event.Set icv value) y rule =
       of_set s i icv value (Of (event.Set icv value)) rule (q.stays (event.Set icv value) refl)
       (λ k t v is e. task_effect (event.Set icv value) refl k _)

@@ -24,6 +24,7 @@ use Rattle.omi_model.specs.Changes.{on_region, on_task, on_thread, with_list, en
 use Rattle.omi_model.specs.Freeing.{IsOver, IsSpent, MayFree, MayFreeMember, MayFreeRegion, freed, freeing, region_freed}
 use Rattle.omi_model.specs.Fresh.{AreDistinct, IsFresh}
 use Rattle.omi_model.specs.LawStays.{IsTeamNeeded, IsNeeded, IsNeededRegion, IsSameRegion, IsSameTask, Stays, StaysOver, stage_of, is_free}
+use Rattle.omi_model.specs.Groups.{group_begun, group_ended}
 use Rattle.omi_model.specs.Lists.{stays}
 use Rattle.omi_model.specs.Put.{Slots, gone, made, named, put}
 use Rattle.omi_model.specs.Reached.{Step}
@@ -46,6 +47,7 @@ same_task t = record {
   generating = refl;
   function = refl;
   is_final = refl;
+  group = refl;
   stage = omega arith;
   started = λ h. h;
   thread = λ h. refl;
@@ -60,6 +62,7 @@ same_task_trans t u v a b = record {
   generating = b.generating ∙ a.generating;
   function = b.function ∙ a.function;
   is_final = b.is_final ∙ a.is_final;
+  group = b.group ∙ a.group;
   stage = omega (arith, a.stage, b.stage);
   started = λ h. b.started (a.started h);
   thread = λ h. b.thread (a.started h) ∙ a.thread h;
@@ -249,6 +252,22 @@ other_task t enter tool v zs next = record {
   generating = refl;
   function = refl;
   is_final = refl;
+  group = refl;
+  stage = omega arith;
+  started = λ h. h;
+  thread = λ h. refl;
+  number = λ h. refl;
+  scheduling = λ h. refl;
+}
+
+grouped_task : (t : Task) (n : ℕ) → IsSameTask t (record t { open_groups = n })
+grouped_task t n = record {
+  implicit = refl;
+  region = refl;
+  generating = refl;
+  function = refl;
+  is_final = refl;
+  group = refl;
   stage = omega arith;
   started = λ h. h;
   thread = λ h. refl;
@@ -263,6 +282,7 @@ begun_task t is = record {
   generating = refl;
   function = refl;
   is_final = refl;
+  group = refl;
   stage = subst (λ q. stage_of q ≤ 1) (sym is) (omega arith);
   started = λ h e. cc;
   thread = λ h. refl;
@@ -277,6 +297,7 @@ finished_task t = record {
   generating = refl;
   function = refl;
   is_final = refl;
+  group = refl;
   stage = stage_most t.progress;
   started = λ h e. cc;
   thread = λ h. refl;
@@ -292,6 +313,7 @@ started_task i k t u zs is = record {
   generating = refl;
   function = refl;
   is_final = refl;
+  group = refl;
   stage = subst (λ q. stage_of q ≤ 1) (sym is) (omega arith);
   started = λ h e. cc;
   thread = λ h. absurd (h is);
@@ -481,6 +503,12 @@ keeps_effect p s i (event.Finish task) y other rule =
     of_current s i (finished s i) (KeepsAll s) _ rule
     (λ k t is h. let first : State = on_task s k (λ u. record u { progress = Finished }) in
     keeps_current s _ i t.scheduling (keeps_trans s first _ (keeps_setting s k (λ u. record u { progress = Finished }) finished_task) (keeps_freeing first (Some (freeable.Finished k)) t.scheduling)))
+keeps_effect p s i event.GroupBegin y other rule =
+    of_current s i (group_begun s) (KeepsAll s) _ rule
+    (λ k t is h. keeps_setting s k (λ u. record u { open_groups = suc t.open_groups }) (λ u. grouped_task u _))
+keeps_effect p s i event.GroupEnd y other rule =
+    of_current s i (group_ended s) (KeepsAll s) _ rule
+    (λ k t is h. keeps_setting s k (λ u. record u { open_groups = t.open_groups - 1 }) (λ u. grouped_task u _))
 keeps_effect p s i (event.Set icv value) y other rule =
     of_set s i icv value (KeepsAll s) rule (keeps_global s s.locks value)
     (λ k t v is e. keeps_setting s k (λ u. record u { variables = v }) (λ u. other_task u u.enter u.tool v u.list u.frees))

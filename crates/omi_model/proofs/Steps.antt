@@ -8,6 +8,7 @@ use Rattle.omi_model.specs.declared.event.Event.{Event}
 use Rattle.omi_model.specs.declared.event.Event.TheVariants as event
 use Rattle.omi_model.specs.declared.freeable.Freeable.{Freeable}
 use Rattle.omi_model.specs.declared.freeable.Freeable.TheVariants as freeable
+use Rattle.omi_model.specs.declared.group.Group.{Group}
 use Rattle.omi_model.specs.declared.id.Id.{Id}
 use Rattle.omi_model.specs.declared.id.Rid.{Rid}
 use Rattle.omi_model.specs.declared.id.Tid.{Tid}
@@ -23,6 +24,7 @@ use Rattle.omi_model.specs.Barriers.{HasNoExplicit}
 use Rattle.omi_model.specs.Changes.{IsCurrent, OfCurrent, OfCurrentRegion, ahead_of, by_current, by_region, encounter, on_task, on_thread, with_list}
 use Rattle.omi_model.specs.Freeing.{IsOver, IsSpent, MayFree, MayFreeMember, MayFreeRegion}
 use Rattle.omi_model.specs.Fresh.{IsFresh}
+use Rattle.omi_model.specs.Groups.{AreMembersFinished}
 use Rattle.omi_model.specs.Lists.{stays, take_item}
 use Rattle.omi_numbers.specs.declared.variables.TheConstants.{MAX_ACTIVE_LEVELS_VAR}
 use Rattle.omi_model.specs.Put.{Slots, changed, on}
@@ -177,6 +179,12 @@ module _ (s : State) (i : ℕ) (k0 : Tid) (is_current : (s.threads i).current �
   children_moved k all c j t live =
       on_live s.tasks k0.0 (relisted zs)
       (λ u. u.implicit ≡ false → u.generating ≡ Some k → u.progress ≡ Finished) (λ x h. h) c j
+      (all c j) t live
+
+  members_moved : (g : Group) → AreMembersFinished s g → AreMembersFinished next g
+  members_moved g all c j t live =
+      on_live s.tasks k0.0 (relisted zs)
+      (λ u. u.implicit ≡ false → u.group ≡ Some g → u.progress ≡ Finished) (λ x h. h) c j
       (all c j) t live
 
   taken_moved : (region : Rid) (place : ℕ) → IsTaken s i region place → IsTaken next i region place
@@ -360,6 +368,10 @@ module _ (s : State) (i : ℕ) (k0 : Tid) (is_current : (s.threads i).current �
   busy_rule (event.Finish task) y rule =
       of_moved _ _ (λ k t h. record { current = h.current; explicit = h.explicit }) rule
   busy_rule event.WaitDone y rule = of_moved _ _ (λ k t h. children_moved k h) rule
+  busy_rule event.GroupBegin y rule = of_moved _ _ (λ k t h. h) rule
+  busy_rule event.GroupEnd y rule =
+      of_moved _ _
+      (λ k t h. record { group = h.group; innermost_is = h.innermost_is; finished = members_moved h.group h.finished }) rule
   busy_rule (event.Set icv value) y rule = of_moved _ _ (λ k t h. h) rule
   busy_rule (event.SetTool x) y rule = of_moved _ _ (λ k t h. h) rule
   busy_rule e y rule = rule
@@ -423,6 +435,8 @@ module _ (s : State) (i : ℕ) (none : (s.threads i).current ≡ None) (zs : Lis
   idle_rule (event.Start task) y rule = absurd (no_current rule)
   idle_rule (event.Finish task) y rule = absurd (no_current rule)
   idle_rule event.WaitDone y rule = absurd (no_current rule)
+  idle_rule event.GroupBegin y rule = absurd (no_current rule)
+  idle_rule event.GroupEnd y rule = absurd (no_current rule)
   idle_rule (event.Set icv value) y rule = absurd (no_current rule)
   idle_rule (event.SetTool x) y rule = absurd (no_current rule)
   idle_rule e y rule = rule

@@ -127,6 +127,7 @@ module _ (p : Program) (s : State) (i : ℕ) (e : Event) (next : State) (step : 
     frees = λ k t free how q. q;
     shows = λ k t x q. q;
     tools = λ k t x q. q;
+    groups = λ k t count is how q. q;
     begins = λ k t waits mine by q. q;
     finishes = λ k t is over q. q;
     sets = λ k t icv value v f at_set q. (q.0, of_set icv value t.variables v f at_set q.1);

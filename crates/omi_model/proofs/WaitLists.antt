@@ -1,4 +1,4 @@
--- Where deferred tasks may start by a to-do list: at a taskwait, or between an arrival and its pass.
+-- Where deferred tasks may start by a to-do list: at a taskwait, at the end of a taskgroup, or between an arrival and its pass.
 use Rattle.std.proofs.Common.{◌≡◌, ◌⊎◌, inl, inr, ℕ, true, List, [], ◌∷◌, Some, refl}
 use Rattle.omi_script.specs.Bodies.{body_of}
 use Rattle.omi_script.specs.declared.program.Program.{Program}
@@ -9,7 +9,7 @@ use Rattle.omi_model.specs.declared.item.Item.{Item}
 use Rattle.omi_model.specs.declared.item.Item.TheVariants as item
 use Rattle.omi_model.specs.LawScheduling.{passes_next}
 use Rattle.omi_model.specs.Lists.{stays, take_item}
-use Rattle.omi_numbers.specs.declared.states.TheConstants.{WAIT_TASKWAIT}
+use Rattle.omi_numbers.specs.declared.states.TheConstants.{WAIT_TASKGROUP, WAIT_TASKWAIT}
 use Rattle.omi_model.specs.Rows.{main_items, member_items, task_items}
 use Rattle.omi_model.specs.Shapes.{shape_of}
 use Rattle.omi_model.proofs.EachObject.{start_list}
@@ -17,10 +17,11 @@ use Rattle.omi_model.proofs.ListLaws.{take_keeps}
 use Rattle.omi_model.proofs.RowLaws.{KeepsPlain, KeepsRows, barrier_keeps, critical_keeps, drop_keeps, last_keeps, main_keeps, member_keeps, row_keeps, shown_keeps, start_keeps, task_keeps}
 use Rattle.omi_model.proofs.Slots.{false_true}
 
--- each wait for tasks is a taskwait, or stands between an arrival and its pass
+-- each wait for tasks is a taskwait or that of a taskgroup, or stands between an arrival and its pass
 abbrev pub Waits : List Item → Type 0
 Waits [] = Unit {0}
-Waits (item.Tasks state ∷ xs) = ((state ≡ WAIT_TASKWAIT) ⊎ (passes_next xs ≡ true)) × Waits xs
+Waits (item.Tasks state ∷ xs) =
+    ((state ≡ WAIT_TASKWAIT) ⊎ ((state ≡ WAIT_TASKGROUP) ⊎ (passes_next xs ≡ true))) × Waits xs
 Waits (x ∷ xs) = Waits xs
 
 plain_waits : KeepsPlain Waits
@@ -33,8 +34,8 @@ module _ (p : Program) where
     plain = plain_waits;
     fork = λ num f xs h. h;
     taskwait = λ xs h. (inl refl, h);
-    barrier = λ state xs other h. (inr refl, h);
-    first_barrier = λ state xs first h. (inr refl, h);
+    barrier = λ state xs other h. (inr (inr refl), h);
+    first_barrier = λ state xs first h. (inr (inr refl), h);
     critical = λ k f xs h. critical_keeps Waits plain_waits p at f (item.Unlock k ∷ xs) h;
   }
 

@@ -1,7 +1,8 @@
--- Lineage: the chain of generating tasks of a task runs through explicit tasks of its region to an implicit one, and each of them has begun. An explicit task that has started is scheduled from one of them, or from its thread's member of the region.
+-- Lineage: the chain of generating tasks of a task runs through explicit tasks of its region to an implicit one, and each of them has begun. The owner of its group is one of them. An explicit task that has started is scheduled from one of them, or from its thread's member of the region.
 use Rattle.std.specs.Prelude.{◌≡◌, ◌⊎◌, ℕ, Bool, true, false, List, [], ◌∷◌, Option, Some, Contains}
 use Rattle.omi_script.specs.declared.program.Program.{Program}
 use Rattle.omi_model.specs.declared.event.Event.{Event}
+use Rattle.omi_model.specs.declared.group.Group.{Group}
 use Rattle.omi_model.specs.declared.id.Rid.{Rid}
 use Rattle.omi_model.specs.declared.id.Tid.{Tid}
 use Rattle.omi_model.specs.declared.progress.Progress.TheVariants.{Deferred}
@@ -28,6 +29,7 @@ pub record IsMemberOn (s : State) (k : Tid) (region : Rid) (thread : ℕ) : Type
 pub record HasLineage (s : State) (t : Task) : Type 0 where
   pub tasks : List Tid
   pub chain : IsLineage s t.implicit t.region t.generating tasks
+  pub owner : (g : Group) → t.group ≡ Some g → Contains tasks g.owner
   pub scheduling : t.implicit ≡ false → (t.progress ≡ Deferred → ⊥)
       → (k : Tid) × (t.scheduling ≡ Some k) × (Contains tasks k ⊎ IsMemberOn s k t.region t.thread)
 

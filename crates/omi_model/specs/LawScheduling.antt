@@ -1,4 +1,4 @@
--- The task scheduling constraint of tied tasks: a deferred task starts as a child of the task that its thread runs, unless that task is a member that waits in a barrier of the same region.
+-- The task scheduling constraint of tied tasks: a deferred task starts as a child of the task that its thread runs, or in the innermost open group of that task, unless that task is a member that waits in a barrier of the same region.
 use Rattle.std.specs.Prelude.{◌≡◌, ◌⊎◌, ℕ, List, [], ◌∷◌, Bool, true, false, Some}
 use Rattle.omi_script.specs.declared.program.Program.{Program}
 use Rattle.omi_model.specs.declared.event.Event.{Event}
@@ -8,7 +8,9 @@ use Rattle.omi_model.specs.declared.item.Item.{Item}
 use Rattle.omi_model.specs.declared.item.Item.TheVariants as item
 use Rattle.omi_model.specs.declared.progress.Progress.TheVariants.{Deferred}
 use Rattle.omi_model.specs.declared.task.Task.{Task}
+use Rattle.omi_model.specs.declared.group.Group.{Group}
 use Rattle.omi_model.specs.Changes.{IsCurrent}
+use Rattle.omi_model.specs.Groups.{IsInInnermost}
 use Rattle.omi_model.specs.Reached.{Reached}
 use Rattle.omi_model.specs.Rules.{Legal}
 use Rattle.omi_model.specs.State.{State, scheduling_of, task_of}
@@ -33,13 +35,17 @@ abbrev pub StartsAreConstrained : Type 0
 StartsAreConstrained = (p : Program) (events : List (ℕ × Event)) (s : State) → Reached p events s
     → (i : ℕ) (task k : Tid) (t u : Task) → Legal p s i (event.Start task) → IsCurrent s i k t
     → task_of s task ≡ Some u
-    → (u.generating ≡ Some k) ⊎ (IsInBarrier t × (u.region ≡ t.region))
+    → (u.generating ≡ Some k) ⊎ (IsInInnermost k t u ⊎ (IsInBarrier t × (u.region ≡ t.region)))
 
--- so an explicit task that has started was scheduled from its generating task, or from a member of its region
+-- so an explicit task that has started was scheduled from its generating task, from the owner of its group, or from a member of its region
+abbrev pub IsUnderOwner : Task → Type 0
+IsUnderOwner u = (g : Group) × (u.group ≡ Some g) × (u.scheduling ≡ Some g.owner)
+
 abbrev pub IsScheduledRightly : State → Task → Type 0
 IsScheduledRightly s u = u.implicit ≡ false → (u.progress ≡ Deferred → ⊥)
-    → (u.scheduling ≡ u.generating) ⊎ ((k : Tid) × (t : Task) × (u.scheduling ≡ Some k)
-    × (task_of s k ≡ Some t) × (t.implicit ≡ true) × (t.region ≡ u.region))
+    → (u.scheduling ≡ u.generating) ⊎ (IsUnderOwner u ⊎ ((k : Tid) × (t : Task)
+    × (u.scheduling ≡ Some k) × (task_of s k ≡ Some t) × (t.implicit ≡ true)
+    × (t.region ≡ u.region)))
 
 pub record IsScheduled (s : State) (u : Task) : Type 0 where
   pub rightly : IsScheduledRightly s u

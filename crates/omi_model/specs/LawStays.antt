@@ -26,6 +26,7 @@ pub record IsSameTask (t u : Task) : Type 0 where
   pub generating : u.generating ≡ t.generating
   pub function : u.function ≡ t.function
   pub is_final : u.is_final ≡ t.is_final
+  pub group : u.group ≡ t.group
   pub stage : stage_of t.progress ≤ stage_of u.progress
   pub started : (t.progress ≡ Deferred → ⊥) → u.progress ≡ Deferred → ⊥
   pub thread : (t.progress ≡ Deferred → ⊥) → u.thread ≡ t.thread

@@ -10,6 +10,7 @@ pub mod Opening
 pub mod Changes
 pub mod Barriers
 pub mod Freeing
+pub mod Groups
 pub mod Teams
 pub mod Tasking
 pub mod Settings
@@ -32,6 +33,7 @@ pub mod LawOrder
 pub mod LawScheduling
 pub mod LawChains
 pub mod LawLineage
+pub mod LawGroups
 pub mod LawEnds
 pub mod LawJoins
 pub mod LawProgress

@@ -51,6 +51,8 @@ fits (event.Finish task) item.Finish = true
 fits (event.FreeTask task) (item.Frees next) = true
 fits (event.FreeRegion region) (item.Frees (freeable.Joined n number)) = true
 fits event.WaitDone item.WaitDone = true
+fits event.GroupBegin item.GroupBegin = true
+fits event.GroupEnd item.GroupEnd = true
 fits event.Yield item.Yield = true
 fits (event.Set icv value) (item.Set v x) = icv == v && value == x
 fits (event.SetTool x) (item.SetTool y) = x == y

@@ -92,6 +92,8 @@ opening_task p = record {
   tool = 0;
   progress = Begun;
   place = 0;
+  group = None;
+  open_groups = 0;
   frees = None;
   list = main_items (record { debug = p.env.debug; number = 0; level = 0; is_final = false })
       (body_of p.funcs p.main);

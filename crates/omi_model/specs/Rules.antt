@@ -11,6 +11,7 @@ use Rattle.omi_model.specs.Barriers.{MayArrive, arrived, MayRelease, released, M
 use Rattle.omi_model.specs.Changes.{OfCurrent, OfCurrentRegion, ahead_of, by_current, by_region, with_list, encounter}
 use Rattle.omi_model.specs.Freeing.{MayFree, MayFreeMember, MayFreeRegion, above, freed, region_freed}
 use Rattle.omi_model.specs.Fresh.{IsFresh}
+use Rattle.omi_model.specs.Groups.{MayBeginGroup, MayEndGroup, group_begun, group_ended}
 use Rattle.omi_model.specs.Lists.{take_item, stays}
 use Rattle.omi_model.specs.Settings.{with_state, entered, left, with_set, with_tool, with_lock}
 use Rattle.omi_model.specs.State.{State}
@@ -48,6 +49,8 @@ Rule s i (event.StartNow task) x = OfCurrent s i (λ k t. IsFresh s.tasks i task
 Rule s i (event.Start task) x = OfCurrent s i (MayStart s task x)
 Rule s i (event.Finish task) x = OfCurrent s i (MayFinish task)
 Rule s i event.WaitDone x = OfCurrent s i (λ k t. AreChildrenFinished s k)
+Rule s i event.GroupBegin x = OfCurrent s i (λ k t. MayBeginGroup t)
+Rule s i event.GroupEnd x = OfCurrent s i (MayEndGroup s)
 Rule s i event.Yield x = ⊤
 Rule s i (event.Set icv value) x = OfCurrent s i (λ k t. ⊤)
 Rule s i (event.SetTool y) x = OfCurrent s i (λ k t. ⊤)
@@ -98,6 +101,8 @@ effect p s i (event.Start task) item.OneTask = by_current s i (started_alone s i
 effect p s i (event.Start task) x = None
 effect p s i (event.Finish task) x = by_current s i (finished s i)
 effect p s i event.WaitDone x = Some s
+effect p s i event.GroupBegin x = by_current s i (group_begun s)
+effect p s i event.GroupEnd x = by_current s i (group_ended s)
 effect p s i event.Yield x = Some s
 effect p s i (event.Set icv value) x = with_set s i icv value
 effect p s i (event.SetTool y) x = by_current s i (λ k t. with_tool s y k)

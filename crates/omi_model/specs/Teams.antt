@@ -129,6 +129,8 @@ member_task p region k t r f number thread = record {
   tool = 0;
   progress = if number == 0 then Begun else NotBegun;
   place = 0;
+  group = None;
+  open_groups = 0;
   frees = None;
   list = member_items p
       (record { debug = p.env.debug; number = number; level = r.levels + 1; is_final = false }) f;

@@ -3,6 +3,7 @@ use Rattle.std.specs.Prelude.{◌≡◌, ℕ, zero, suc, ◌<◌, ◌≤◌, tru
 use Rattle.std.specs.Option.{option_and_then}
 use Rattle.omi_script.specs.declared.limits.TheConstants.{MAX_SIZES}
 use Rattle.omi_numbers.specs.declared.schedules.TheConstants.{STATIC, AUTO}
+use Rattle.omi_model.specs.declared.group.Group.{Group}
 use Rattle.omi_model.specs.declared.id.Tid.{Tid}
 use Rattle.omi_model.specs.declared.id.Rid.{Rid}
 use Rattle.omi_numbers.specs.States.{state_numbers}
@@ -53,6 +54,7 @@ pub record IsTaskRight (s : State) (t : Task) : Type 0 where
   pub region : IsVisibleRegion s t.region
   pub generating : (k : Tid) → t.generating ≡ Some k → IsVisibleTask s k
   pub scheduling : (k : Tid) → t.scheduling ≡ Some k → IsVisibleTask s k
+  pub owner : (g : Group) → t.group ≡ Some g → IsVisibleTask s g.owner
   pub begun : HasBegun s t.thread
   pub ends : Ends (scheduling_of s) t.scheduling
   pub variables : AreInRange t.variables

@@ -49,6 +49,10 @@ pub enum Event {
     Finish { task: Tid },
     /// The children of the current task have finished.
     WaitDone,
+    /// A taskgroup region begins: the current task has a group more open.
+    GroupBegin,
+    /// A taskgroup region ends: every task of the current task's innermost group has finished.
+    GroupEnd,
     /// A task yields.
     Yield,
     /// An internal control variable is set, by its number, to this word.

@@ -42,6 +42,10 @@ pub enum Item {
     /// What has just finished or was joined is given back.
     Frees { next: Freeable },
     WaitDone,
+    /// A taskgroup region begins.
+    GroupBegin,
+    /// A taskgroup region ends.
+    GroupEnd,
     /// At most one deferred task starts.
     OneTask,
     Yield,

@@ -6,6 +6,7 @@ mod claim;
 mod encounter;
 mod event;
 mod freeable;
+mod group;
 mod id;
 mod item;
 mod item_list;
@@ -26,6 +27,7 @@ pub use claim::Claim;
 pub use encounter::Encounter;
 pub use event::Event;
 pub use freeable::Freeable;
+pub use group::Group;
 pub use id::{Id, Rid, Tid};
 pub use item::Item;
 pub use item_list::ItemList;
@@ -33,11 +35,11 @@ pub use laws::one_view;
 pub use limits::{MOST_EVENTS, MOST_MEMBERS};
 pub use machine_laws::{
     a_run_is_legal, asks_are_in_order, barriers_are_in_order, barriers_are_left, barriers_hold,
-    begun_tasks_are_on_chains, claims_are_kept, joins_come_last, levels_count_regions,
-    lists_are_right, locks_are_held, members_are_in_step, members_are_known, names_are_live,
-    nthreads_shorten, reached_is_well_formed, regions_are_encountered, regions_are_freed,
-    regions_end_alone, starts_are_constrained, tasks_have_lineage, teams_are_asked,
-    threads_have_chains, what_stays,
+    begun_tasks_are_on_chains, claims_are_kept, groups_are_right, joins_come_last,
+    levels_count_regions, lists_are_right, locks_are_held, members_are_in_step, members_are_known,
+    names_are_live, nthreads_shorten, reached_is_well_formed, regions_are_encountered,
+    regions_are_freed, regions_end_alone, starts_are_constrained, tasks_have_lineage,
+    teams_are_asked, threads_have_chains, what_stays,
 };
 pub use omi_word::OutOfMemory;
 pub use progress::Progress;

@@ -9,6 +9,7 @@ ghost use Rattle.omi_model.specs.LawClaims.{AsksAreInOrder, ClaimsAreKept};
 ghost use Rattle.omi_model.specs.LawEncounters.{RegionsAreEncountered};
 ghost use Rattle.omi_model.specs.LawEnds.{RegionsEndAlone};
 ghost use Rattle.omi_model.specs.LawFreeing.{FinishedMayBeFreed, JoinedMayBeFreed, RegionsAreFreed};
+ghost use Rattle.omi_model.specs.LawGroups.{FinishedGroupsStay, GroupsAreRight};
 ghost use Rattle.omi_model.specs.LawJoins.{JoinsComeLast};
 ghost use Rattle.omi_model.specs.LawLevels.{LevelsCountRegions};
 ghost use Rattle.omi_model.specs.LawLineage.{TasksHaveLineage};
@@ -64,9 +65,10 @@ pub fn barriers_hold()
     ensures released { PassFollowsRelease }
 {}
 
-/// The task scheduling constraint of tied tasks: a deferred task starts as a child of the task that its thread runs, or in a
-/// barrier of its region, by a member that has arrived and not passed. So an explicit task's scheduling task is its generating
-/// task or a member of its region, and the chain of scheduling tasks ends.
+/// The task scheduling constraint of tied tasks: a deferred task starts as a child of the task that its thread runs, as a member
+/// of that task's innermost open group, or in a barrier of its region, by a member that has arrived and not passed. So an explicit
+/// task's scheduling task is its generating task, the owner of its group or a member of its region, and the chain of scheduling
+/// tasks ends.
 pub fn starts_are_constrained()
     ensures starts { StartsAreConstrained }
     ensures scheduled { SchedulingIsRight }
@@ -154,8 +156,8 @@ pub fn members_are_in_step()
     ensures { MembersAreInStep }
 {}
 
-/// The chain of generating tasks of a task runs through tasks of its region that have begun to an implicit one, and an explicit
-/// task that has started is scheduled from one of them, or from the member of its region that runs on its thread.
+/// The chain of generating tasks of a task runs through tasks of its region that have begun to an implicit one, the owner of its
+/// group is on it, and an explicit task that has started is scheduled from one of them, or from the member of its region that runs on its thread.
 pub fn tasks_have_lineage()
     ensures { TasksHaveLineage }
 {}
@@ -166,6 +168,14 @@ pub fn tasks_have_lineage()
 /// member's thread, runs on that of the member with its number, and its region is not joined while the task lives.
 pub fn regions_are_encountered()
     ensures { RegionsAreEncountered }
+{}
+
+/// A task has at most four groups open, as many as its list has to end, and none unless it has begun and not finished; the owner
+/// of a task's group is a live task of its region that has begun, and while the task isn't finished its group is open. A group
+/// whose members have all finished gets no other one but by its owner.
+pub fn groups_are_right()
+    ensures right { GroupsAreRight }
+    ensures finished { FinishedGroupsStay }
 {}
 
 /// Each task that has begun and not finished is in the chain of the thread that it runs on.

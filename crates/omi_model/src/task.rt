@@ -1,6 +1,6 @@
 //! A task of the machine, with its data environment.
 
-use crate::{Freeable, ItemList, Progress, Rid, Tid};
+use crate::{Freeable, Group, ItemList, Progress, Rid, Tid};
 use omi_script::{NumList, Sched};
 
 /// The internal control variables of a task's data environment.
@@ -14,7 +14,8 @@ pub struct Variables {
 
 /// A task. `thread` and `number` (in the team) are those of an implicit task from the fork on, and are set once an explicit
 /// task starts; `place` is that of a deferred task; `exit` and `enter` are frame addresses. `frees` is what may be
-/// given back next, in front of all that stands in the list.
+/// given back next, in front of all that stands in the list. `group` is the task group that an explicit task is a member of,
+/// and `open_groups` the number of those that the task has begun and not ended, 0 to 4.
 #[derive(Drop)]
 pub struct Task {
     pub implicit: bool,
@@ -31,6 +32,8 @@ pub struct Task {
     pub tool: u64,
     pub progress: Progress,
     pub place: u8,
+    pub group: Option<Group>,
+    pub open_groups: u8,
     pub frees: Option<Freeable>,
     pub list: ItemList,
 }

@@ -225,6 +225,7 @@ module _ (p : Program) (events : List (ℕ × Event)) (s : State) (reached : Rea
         };
         shows = λ k t x q. record { placed = q.placed; first = q.first; top = λ asks. let h = q.top asks in record { before = h.before; asking = h.asking; was = h.was }; alone = q.alone };
         tools = λ k t x q. record { placed = q.placed; first = q.first; top = λ asks. let h = q.top asks in record { before = h.before; asking = h.asking; was = h.was }; alone = q.alone };
+        groups = λ k t count is how q. record { placed = q.placed; first = q.first; top = λ asks. let h = q.top asks in record { before = h.before; asking = h.asking; was = h.was }; alone = q.alone };
         sets = λ k t icv value v f at_set q. record {
           placed = q.placed;
           first = q.first;
@@ -287,6 +288,7 @@ module _ (p : Program) (events : List (ℕ × Event)) (s : State) (reached : Rea
         frees = λ k t free how q. q;
         shows = λ k t x q. q;
         tools = λ k t x q. q;
+        groups = λ k t count is how q. q;
         sets = λ k t icv value v f at_set q. q;
         begins = λ k t waits mine by q. q;
         finishes = λ k t is over q. q;

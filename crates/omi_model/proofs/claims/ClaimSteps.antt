@@ -294,6 +294,7 @@ module _ (p : Program) (s : State) (i : ℕ) (e : Event) (next : State) (step : 
         frees = λ k t free how q. q;
         shows = λ k t x q. q;
         tools = λ k t x q. q;
+        groups = λ k t count is how q. q;
         sets = λ k t icv value v f at_set q. q;
         begins = λ k t waits mine by q w. absurd (begun_waits w);
         finishes = λ k t is over q w. absurd (finished_waits w);
@@ -380,6 +381,7 @@ module _ (p : Program) (events : List (ℕ × Event)) (s : State) (reached : Rea
         frees = λ k t free how q. q;
         shows = λ k t x q. q;
         tools = λ k t x q. q;
+        groups = λ k t count is how q. q;
         sets = λ k t icv value v f at_set q. q;
         begins = λ k t waits mine by q v found was ne. absurd (ne (sym (q v found was ne).1 ∙ mine));
         finishes = λ k t is over q v found was ne. absurd (begun_waits (sym (current_begun p events s reached i k v (sym (relists.currents i) ∙ is.name) found).0 ∙ was));

@@ -55,6 +55,7 @@ scheduling_step p events s reached i e next step all =
       frees = λ k t free how q. q;
       shows = λ k t x q. q;
       tools = λ k t x q. q;
+      groups = λ k t count is how q. q;
       sets = λ k t icv value v f at_set q. q;
       begins = λ k t waits mine by q ex un. q ex (waits_not t waits);
       finishes = λ k t is over q ex un. q ex (current k t is);

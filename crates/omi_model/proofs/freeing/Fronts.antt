@@ -103,6 +103,7 @@ module _ (p : Program) (events : List (ℕ × Event)) (s : State) (reached : Rea
         frees = λ a u free how q same. let (w, live_w, mine) = freeing_here a free how in absurd (here a w live_w mine same);
         shows = λ a u x q. q;
         tools = λ a u x q. q;
+        groups = λ a u count is how q. q;
         sets = λ a u icv value x f at_set q. q;
         begins = λ a u waits mine by q. q;
         finishes = λ a u is over q. q;

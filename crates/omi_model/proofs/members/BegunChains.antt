@@ -281,6 +281,7 @@ module _ (p : Program) (events : List (ℕ × Event)) (s : State) (reached : Rea
         frees = λ k t free how q. q;
         shows = λ k t x q. q;
         tools = λ k t x q. q;
+        groups = λ k t count is how q. q;
         sets = λ k t icv value v f at_set q. q;
         begins = λ k t waits mine by q begun still. (0, ap (λ j. (next.threads j).current) mine ∙ names_now (event.ImplicitBegin k) by);
         finishes = λ k t is over q begun still. absurd (finished_begun begun);

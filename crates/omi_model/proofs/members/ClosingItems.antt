@@ -132,6 +132,7 @@ module _ (p : Program) (events : List (ℕ × Event)) (s : State) (reached : Rea
         frees = λ k t free how q. record { is = record { closes = q.is.closes; finished = q.is.finished }; over = q.over };
         shows = λ k t x q. record { is = record { closes = q.is.closes; finished = q.is.finished }; over = q.over };
         tools = λ k t x q. record { is = record { closes = q.is.closes; finished = q.is.finished }; over = q.over };
+        groups = λ k t count is how q. record { is = record { closes = q.is.closes; finished = q.is.finished }; over = q.over };
         sets = λ k t icv value v f at_set q. record { is = record { closes = q.is.closes; finished = q.is.finished }; over = q.over };
         begins = λ k t waits mine by q. other k (record t { progress = Begun }) q.over q.is.closes begun_finished;
         finishes = λ k t is over q. let none = q.over (sym (before.currents i) ∙ is.name) over in record { is = record { closes = q.is.closes; finished = λ f. none }; over = q.over };

@@ -15,16 +15,18 @@ use Rattle.omi_model.specs.Changes.{IsCurrent}
 use Rattle.omi_model.specs.LawEncounters.{IsNamedByFirst, IsThreadOf}
 use Rattle.omi_model.specs.LawLineage.{IsLineage}
 use Rattle.omi_model.specs.LawStays.{IsNeededRegion, Stays}
-use Rattle.omi_numbers.specs.declared.states.TheConstants.{WAIT_TASKWAIT}
+use Rattle.omi_numbers.specs.declared.states.TheConstants.{WAIT_TASKGROUP, WAIT_TASKWAIT}
 use Rattle.omi_model.specs.Opening.{initial_region, opening, opening_region}
 use Rattle.omi_model.specs.Reached.{Reached, Step}
 use Rattle.omi_model.specs.State.{State, task_of}
+use Rattle.omi_model.specs.Groups.{IsInInnermost}
 use Rattle.omi_model.specs.Tasking.{MayStartAt}
 use Rattle.omi_model.specs.Teams.{got_threads}
 use Rattle.omi_model.proofs.claims.AsksOrder.{map_at}
 use Rattle.omi_model.proofs.ChainsKept.{current_begun}
 use Rattle.omi_model.proofs.EachObject.{EachRegion, EachTask, IsRegionLaw, IsTaskLaw, region_step, task_step}
-use Rattle.omi_model.proofs.members.Lineages.{have_lines, was}
+use Rattle.omi_model.proofs.GeneratingChains.{have_line, on_lineage, was}
+use Rattle.omi_model.proofs.Innermost.{innermost_own}
 use Rattle.omi_model.proofs.MembersKnown.{members_known}
 use Rattle.omi_model.proofs.NamesKept.{names_kept}
 use Rattle.omi_model.proofs.OpeningObjects.{each_first_region, each_first_task}
@@ -77,13 +79,14 @@ child_region s u v k (g ∷ gs) (explicit, w, met, live, here, started, rest) ex
 
 -- a task starts in its own region
 start_region : (x : Item) (k : Tid) (t u : Task) → MayStartAt x k t u
-    → (u.generating ≡ Some k) ⊎ (u.region ≡ t.region)
-start_region (item.Tasks state) k t u may = go (state == WAIT_TASKWAIT) may
+    → (u.generating ≡ Some k) ⊎ (IsInInnermost k t u ⊎ (u.region ≡ t.region))
+start_region (item.Tasks state) k t u may = go (state == WAIT_TASKWAIT) (state == WAIT_TASKGROUP) may
   where
-    go : (b : Bool) → MatchBool b (u.generating ≡ Some k) (u.region ≡ t.region)
-        → (u.generating ≡ Some k) ⊎ (u.region ≡ t.region)
-    go true h = inl h
-    go false h = inr h
+    go : (b c : Bool) → MatchBool b (u.generating ≡ Some k) (MatchBool c (IsInInnermost k t u) (u.region ≡ t.region))
+        → (u.generating ≡ Some k) ⊎ (IsInInnermost k t u ⊎ (u.region ≡ t.region))
+    go true c h = inl h
+    go false true h = inr (inl h)
+    go false false h = inr (inr h)
 start_region item.OneTask k t u may = inl may
 start_region x k t u may = absurd may
 
@@ -185,6 +188,7 @@ module _ (p : Program) (events : List (ℕ × Event)) (s : State) (reached : Rea
         frees = λ k t free how q. q;
         shows = λ k t x q. q;
         tools = λ k t x q. q;
+        groups = λ k t count is how q. q;
         sets = λ k t icv value v f at_set q. q;
         begins = λ k t waits mine by q ex. let h = q ex in (h.0, λ un. h.1 (waits_not t waits));
         finishes = λ k t is over q ex. let h = q ex in (h.0, λ un. h.1 (current_undeferred k t is));
@@ -212,12 +216,22 @@ module _ (p : Program) (events : List (ℕ × Event)) (s : State) (reached : Rea
               subst (λ n. IsThreadOf next n t.number i) (sym (go (start_region x j t u may)))
               (current_member middle before j t is)
             where
-              go : (u.generating ≡ Some j) ⊎ (u.region ≡ t.region) → u.region ≡ t.region
-              go (inr same) = same
+              go : (u.generating ≡ Some j) ⊎ (IsInInnermost j t u ⊎ (u.region ≡ t.region)) → u.region ≡ t.region
+              go (inr (inr same)) = same
+              go (inr (inl (g, innermost_is, member))) =
+                  let (v, xs, live_v, same) = before.tasks k u live in
+                  let (w, ys, cur, same_w) = was p events s reached i e next step middle before j t is in
+                  let (gs, chain, owners) = have_line p events s reached k v live_v in
+                  let own : g.owner ≡ j = (innermost_own j t g innermost_is).0 in
+                  let (o, found, region, begun) =
+                  on_lineage s v.implicit v.region v.generating gs chain g.owner (owners g (ap (λ (x : Task). x.group) (sym same) ∙ member)) in
+                  let one : o ≡ w = some_same found (ap (task_of s) own ∙ cur.live) in
+                  ap (λ (x : Task). x.region) same
+                  ∙ (sym region ∙ (ap (λ (x : Task). x.region) one ∙ ap (λ (x : Task). x.region) (sym same_w)))
               go (inl child) =
                   let (v, xs, live_v, same) = before.tasks k u live in
                   let (w, ys, cur, same_w) = was p events s reached i e next step middle before j t is in
-                  let (gs, chain) = (have_lines p events s reached).lines k v live_v in
+                  let (gs, chain, owners) = have_line p events s reached k v live_v in
                   ap (λ (x : Task). x.region) same
                   ∙
                   (sym (child_region s v w j gs chain (ap (λ (x : Task). x.implicit) (sym same) ∙ ex) (ap (λ (x : Task). x.generating) (sym same) ∙ child) cur.live) ∙ ap (λ (x : Task). x.region) (sym same_w))

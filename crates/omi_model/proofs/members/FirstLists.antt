@@ -77,6 +77,7 @@ module _ (p : Program) (events : List (ℕ × Event)) (s : State) (reached : Rea
         frees = λ k t free how q. record { deferred = q.deferred; waiting = q.waiting };
         shows = λ k t x q. record { deferred = q.deferred; waiting = q.waiting };
         tools = λ k t x q. record { deferred = q.deferred; waiting = q.waiting };
+        groups = λ k t count is how q. record { deferred = q.deferred; waiting = q.waiting };
         sets = λ k t icv value v f at_set q. record { deferred = q.deferred; waiting = q.waiting };
         begins = λ k t waits mine by q. runs p next _ refl;
         finishes = λ k t is over' q. over p next _ refl;

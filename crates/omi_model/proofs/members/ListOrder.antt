@@ -165,6 +165,7 @@ ordered_step p s i e next step all = task_step p IsOrdered s i e next step
       frees = λ k t free how q. q;
       shows = λ k t x q. q;
       tools = λ k t x q. q;
+      groups = λ k t count is how q. q;
       sets = λ k t icv value v f at_set q. q;
       begins = λ k t waits mine by q. q;
       finishes = λ k t is over q. q;

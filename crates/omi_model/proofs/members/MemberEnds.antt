@@ -219,6 +219,7 @@ module _ (p : Program) (events : List (ℕ × Event)) (s : State) (reached : Rea
         frees = λ k t free how q. record { over = q.over; still = q.still };
         shows = λ k t x q. record { over = q.over; still = q.still };
         tools = λ k t x q. record { over = q.over; still = q.still };
+        groups = λ k t count is how q. record { over = q.over; still = q.still };
         sets = λ k t icv value v f at_set q. record { over = q.over; still = q.still };
         begins = λ k t w mine by q. record { over = q.over; still = λ not im r found. q.still not im r found ∙ waits t w };
         finishes = λ k t is over q. record { over = q.over; still = λ not im r found. absurd (not (sym (before.currents i) ∙ is.name, over)) };

@@ -20,7 +20,7 @@ use Rattle.omi_model.specs.Visible.{IsVisibleRegion}
 use Rattle.omi_model.proofs.ChainsKept.{current_begun}
 use Rattle.omi_model.proofs.EachObject.{EachRegion, EachTask, IsRegionLaw, IsTaskLaw, region_step, task_step}
 use Rattle.omi_model.proofs.members.EncounterLaws.{open_around, visible_open}
-use Rattle.omi_model.proofs.members.Lineages.{was}
+use Rattle.omi_model.proofs.GeneratingChains.{was}
 use Rattle.omi_model.proofs.OpenNames.{open_names}
 use Rattle.omi_model.proofs.OpeningObjects.{each_first_region, each_first_task}
 use Rattle.omi_model.proofs.ReachedStates.{over_reached}
@@ -102,6 +102,7 @@ module _ (p : Program) (events : List (ℕ × Event)) (s : State) (reached : Rea
         frees = λ k t free how q. q;
         shows = λ k t x q. q;
         tools = λ k t x q. q;
+        groups = λ k t count is how q. q;
         sets = λ k t icv value v f at_set q. q;
         begins = λ k t waits mine by q. q;
         finishes = λ k t is over q. q;
