@@ -19,6 +19,7 @@ use Rattle.omi_model.specs.declared.slot.Slot.{Slot}
 use Rattle.omi_model.specs.declared.task.Task.{Task}
 use Rattle.omi_model.specs.Changes.{IsCurrent, OfCurrent, OfCurrentRegion, ahead_of, encounter, on_task, on_thread, with_list}
 use Rattle.omi_model.specs.Freeing.{MayFreeMember}
+use Rattle.omi_model.specs.Groups.{MayBeginGroup}
 use Rattle.omi_model.specs.Lists.{fits, may_drop, opened, stays, take_item}
 use Rattle.omi_model.specs.Put.{Slots, changed, found, named, on, put}
 use Rattle.omi_model.specs.Rules.{Legal, Rule, after, effect}
@@ -217,6 +218,10 @@ module _ (s : State) (i : ℕ) (list : List Item) where
   needs_moved (event.FreeTask task) x rule = absurd rule
   needs_moved (event.FreeRegion region) (item.Frees (freeable.Joined n number)) rule = tt
   needs_moved (event.FreeRegion region) x rule = absurd rule
+  needs_moved event.GroupBegin x (k, t, is, may) =
+      subst (λ (y : State). OfCurrent y i (λ j u. MayBeginGroup u)) (sym (in_task k is.name))
+      (k, record t { frees = None; list = list }, current_now k t is, may)
+  needs_moved event.GroupEnd x rule = has_current _ rule
   needs_moved (event.Set icv value) x rule = has_current _ rule
   needs_moved (event.SetTool y) x rule = has_current _ rule
   needs_moved e x rule = tt

@@ -8,6 +8,7 @@ use Rattle.omi_model.specs.declared.item.Item.{Item}
 use Rattle.omi_model.specs.declared.item.Item.TheVariants as item
 use Rattle.omi_model.specs.declared.region.Region.{Region}
 use Rattle.omi_model.specs.Changes.{OfCurrent, OfCurrentRegion}
+use Rattle.omi_model.specs.Groups.{MayBeginGroup}
 use Rattle.omi_model.specs.State.{State, region_of, task_of}
 
 -- a thread has a current task that is live, and one whose region is live
@@ -42,6 +43,8 @@ Needs s i (event.Finish task) x = HasCurrent s i
 Needs s i (event.FreeTask task) x = HasCurrent s i × HasNextMember s x
 Needs s i (event.FreeRegion region) (item.Frees (freeable.Joined n number)) = ⊤
 Needs s i (event.FreeRegion region) x = ⊥
+Needs s i event.GroupBegin x = OfCurrent s i (λ k t. MayBeginGroup t)
+Needs s i event.GroupEnd x = HasCurrent s i
 Needs s i (event.Set icv value) x = HasCurrent s i
 Needs s i (event.SetTool y) x = HasCurrent s i
 Needs s i e x = ⊤

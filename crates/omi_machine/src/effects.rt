@@ -12,6 +12,7 @@ ghost use Rattle.omi_model.specs.declared.event.Event.TheVariants as event;
 use crate::State;
 use crate::barrier_changes::{arrive, release};
 use crate::freeing::{free_finished, free_member, free_region};
+use crate::group_changes::{begin_group, end_group};
 use crate::lock_changes::set_lock;
 use crate::new_tasks::{defer, start_now};
 use crate::new_teams::fork;
@@ -177,6 +178,8 @@ pub(crate) fn take_effect(
         Event::Finish { .. } => finish(alloc, s, i),
         Event::FreeTask { task } => free_by(alloc, s, i, *task, x),
         Event::FreeRegion { region } => free_region(alloc, s, *region),
+        Event::GroupBegin => begin_group(alloc, s, i),
+        Event::GroupEnd => end_group(alloc, s, i),
         Event::SetTool { x } => set_tool(alloc, s, i, *x),
         Event::Pass
         | Event::Seen { .. }

@@ -7,6 +7,7 @@ mod barrier_changes;
 mod effects;
 mod first_lists;
 mod freeing;
+mod group_changes;
 mod list_changes;
 mod lock_changes;
 mod looking;

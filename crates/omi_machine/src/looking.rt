@@ -98,6 +98,8 @@ pub fn is_events_item(e: &Event, x: Item) -> bool
             },
         ) => true,
         (Event::WaitDone, Item::WaitDone) => true,
+        (Event::GroupBegin, Item::GroupBegin) => true,
+        (Event::GroupEnd, Item::GroupEnd) => true,
         (Event::Yield, Item::Yield) => true,
         (Event::Set { icv, value }, Item::Set { icv: v, value: x }) => *icv == v && *value == x,
         (Event::SetTool { x }, Item::SetTool { x: y }) => *x == y,

@@ -3,6 +3,7 @@
 ghost use Rattle.std.specs.Prelude.{◌≡◌, ◌<◌, IfOk, OnOk, OnErr, Some, ⊤};
 ghost use Rattle.omi_machine.specs.Kept.{state_of};
 ghost use Rattle.omi_model.specs.Changes.{OfCurrent, by_current};
+ghost use Rattle.omi_model.specs.Groups.{group_within};
 ghost use Rattle.omi_model.specs.Rows.{task_items};
 ghost use Rattle.omi_model.specs.Tasking.{deferred, deferred_task, scheduled, started_now};
 
@@ -10,7 +11,7 @@ use crate::State;
 use crate::first_lists::push_function;
 use crate::slot_changes::{keep_slot, make};
 use crate::thread_changes::set_current;
-use omi_model::{Item, ItemList, Progress, Task, Tid, Variables};
+use omi_model::{Group, Item, ItemList, Progress, Task, Tid, Variables};
 use omi_numbers::exit_below;
 use omi_script::Program;
 use omi_word::OutOfMemory;
@@ -36,6 +37,16 @@ fn same_variables(alloc: Global, v: &Variables) -> Result<Variables, OutOfMemory
         schedule: v.schedule,
         device: v.device,
     })
+}
+
+/// The group of a task that task `k`, which is `t`, generates.
+fn group_of_new(k: Tid, t: &Task) -> Option<Group>
+    ensures { result ≡ group_within k t.now }
+{
+    match Group::innermost(k, t.open_groups) {
+        Some(group) => Some(group),
+        None => t.group,
+    }
 }
 
 /// A task over `f` that task `k`, which is `t`, defers in a place.
@@ -65,6 +76,8 @@ fn new_deferred(
         tool: 0,
         progress: Progress::Deferred,
         place,
+        group: group_of_new(k, t),
+        open_groups: 0,
         frees: None,
         list: task_list(alloc, p, f)?,
     })

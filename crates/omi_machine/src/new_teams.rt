@@ -178,6 +178,8 @@ fn new_member(
             Progress::NotBegun
         },
         place: 0,
+        group: None,
+        open_groups: 0,
         frees: None,
         list: member_list(alloc, p, at, f)?,
     })

@@ -175,6 +175,8 @@ fn initial_task(alloc: Global, p: &Program) -> Result<Task, OutOfMemory>
         tool: 0,
         progress: Progress::Begun,
         place: 0,
+        group: None,
+        open_groups: 0,
         frees: None,
         list: main_list(alloc, p)?,
     })
