@@ -30,12 +30,13 @@ fn find<T: Copy>(rows: &[(&str, T)], name: &str) -> Option<T> {
 }
 
 /// The states by their names.
-const STATES: [(&str, u32); 8] = [
+const STATES: [(&str, u32); 9] = [
     ("work_serial", 0x000),
     ("work_parallel", 0x001),
     ("wait_barrier_implicit_parallel", 0x011),
     ("wait_barrier_explicit", 0x014),
     ("wait_taskwait", 0x020),
+    ("wait_taskgroup", 0x021),
     ("wait_critical", 0x042),
     ("idle", 0x100),
     ("overhead", 0x101),
@@ -58,7 +59,7 @@ fn team(members: &str) -> Option<Team> {
 }
 
 /// The events that are one word.
-const PLAIN: [(&str, Event); 13] = [
+const PLAIN: [(&str, Event); 15] = [
     ("begin", Event::Begin),
     ("offer", Event::Offer),
     ("enter", Event::Enter),
@@ -71,6 +72,8 @@ const PLAIN: [(&str, Event); 13] = [
     ("ret", Event::Ret),
     ("done", Event::Done),
     ("wait_done", Event::WaitDone),
+    ("group_begin", Event::GroupBegin),
+    ("group_end", Event::GroupEnd),
     ("yield", Event::Yield),
 ];
 

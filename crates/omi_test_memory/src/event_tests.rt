@@ -93,7 +93,7 @@ fn lines_of_events_without_their_teams(rt: HostRuntime) -> Result<(), Fail> {
 }
 
 /// Each other event.
-const EVENTS: [(Event, &str); 36] = [
+const EVENTS: [(Event, &str); 38] = [
     (Event::Begin, "begin"),
     (Event::Offer, "offer"),
     (Event::Want { n: 64 }, "want 64"),
@@ -125,6 +125,8 @@ const EVENTS: [(Event, &str); 36] = [
     (Event::Start { task: TASK }, "start k1.30.2"),
     (Event::Finish { task: TASK }, "finish k1.30.2"),
     (Event::WaitDone, "wait_done"),
+    (Event::GroupBegin, "group_begin"),
+    (Event::GroupEnd, "group_end"),
     (Event::Yield, "yield"),
     (Event::Set { icv: 1, value: 1 }, "set dyn-var 1"),
     (Event::Set { icv: 2, value: 64 }, "set nthreads-var 64"),

@@ -45,6 +45,8 @@ fn push_compact(text: &mut String, event: CompactEvent, team: &Team) -> Result<(
         CompactEvent::Start { task } => push_of_task(text, "start", task),
         CompactEvent::Finish { task } => push_of_task(text, "finish", task),
         CompactEvent::WaitDone => text.push_str("wait_done\n"),
+        CompactEvent::GroupBegin => text.push_str("group_begin\n"),
+        CompactEvent::GroupEnd => text.push_str("group_end\n"),
         CompactEvent::Yield => text.push_str("yield\n"),
         CompactEvent::Set { icv, value } => push_set(text, icv, value),
         CompactEvent::SetTool { x } => push_of_number(text, "tool", x),

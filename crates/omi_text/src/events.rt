@@ -205,6 +205,8 @@ fn push_event(text: &mut String, event: &Event) -> Result<(), OutOfMemory>
         Event::Start { task } => push_of_task(text, "start", *task),
         Event::Finish { task } => push_of_task(text, "finish", *task),
         Event::WaitDone => text.push_str("wait_done\n"),
+        Event::GroupBegin => text.push_str("group_begin\n"),
+        Event::GroupEnd => text.push_str("group_end\n"),
         Event::Yield => text.push_str("yield\n"),
         Event::Set { icv, value } => push_set(text, *icv, *value),
         Event::SetTool { x } => push_of_number(text, "tool", *x),
