@@ -1,6 +1,7 @@
 -- Parts of the event rules, which the plain program decides one by one.
 use Rattle.std.specs.Prelude.{◌≡◌, ◌≢◌, ◌⊎◌, ◌<◌, ℕ, suc, Bool, true, false, List, length, slice_get, Some}
 use Rattle.omi_model.specs.declared.claim.Claim.TheVariants.{Free}
+use Rattle.omi_model.specs.declared.group.Group.{Group}
 use Rattle.omi_model.specs.declared.id.Rid.{Rid}
 use Rattle.omi_model.specs.declared.id.Tid.{Tid}
 use Rattle.omi_model.specs.declared.progress.Progress.TheVariants.{Deferred, Finished}
@@ -32,6 +33,10 @@ IsOneOf (tasks.Parent k) t = t.generating ≡ Some k
 -- a task is no unfinished explicit child of a task
 abbrev pub IsFinishedOf : Tid → Task → Type 0
 IsFinishedOf k t = t.implicit ≡ false → t.generating ≡ Some k → t.progress ≡ Finished
+
+-- a task is no unfinished explicit one of a group
+abbrev pub IsFinishedIn : Group → Task → Type 0
+IsFinishedIn g t = t.implicit ≡ false → t.group ≡ Some g → t.progress ≡ Finished
 
 -- a task is none of those, or no explicit one of a region
 abbrev pub IsNoneOf : TasksOf → Task → Type 0

@@ -7,6 +7,7 @@ mod barrier_rules;
 mod fork_rules;
 mod freeing_rules;
 mod fresh;
+mod group_rules;
 mod legality;
 mod live;
 mod lock_rules;

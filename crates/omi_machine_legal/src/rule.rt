@@ -10,6 +10,7 @@ use crate::ask_rules::{may_ask, may_want};
 use crate::barrier_rules::{may_arrive, may_pass, may_release};
 use crate::fork_rules::may_fork;
 use crate::freeing_rules::{may_free, may_free_member, may_free_region};
+use crate::group_rules::{may_begin_group, may_end_group};
 use crate::lock_rules::{may_lock, may_unlock};
 use crate::task_rules::{may_end_wait, may_finish, may_make, may_see, may_start};
 use crate::team_rules::{may_begin, may_begin_task, may_end, may_join, may_offer};
@@ -86,6 +87,8 @@ pub fn rule_holds(s: &State, i: usize, e: &Event, x: Item) -> bool
         Event::Start { task } => may_start(s, i, *task, x),
         Event::Finish { task } => may_finish(s, i, *task),
         Event::WaitDone => may_end_wait(s, i),
+        Event::GroupBegin => may_begin_group(s, i),
+        Event::GroupEnd => may_end_group(s, i),
         Event::Enter | Event::Leave => has_current(s, i),
         Event::Set { .. } | Event::SetTool { .. } => has_current(s, i),
         Event::Lock { k } => may_lock(s, *k),

@@ -9,10 +9,11 @@ ghost use Rattle.omi_machine.specs.Kept.{slots_of, state_of};
 ghost use Rattle.omi_model.specs.Tasking.{AreChildrenFinished, IsTaken, MayFinish, MayStart, MayStartAt};
 
 use crate::fresh::is_fresh_task;
+use crate::group_rules::is_in_innermost;
 use crate::unfinished::are_children_finished;
 use omi_machine::State;
 use omi_model::{Item, Progress, Rid, Rows, Slot, Task, Tid};
-use omi_numbers::WAIT_TASKWAIT;
+use omi_numbers::{WAIT_TASKGROUP, WAIT_TASKWAIT};
 
 /// Whether a task is deferred in a place, in a region.
 fn is_deferred_in(region: Rid, place: u8, t: &Task) -> bool
@@ -88,10 +89,10 @@ fn may_start_at(x: Item, k: Tid, t: &Task, new: &Task) -> bool
 {
     match x {
         Item::Tasks { state } => {
-            if state == WAIT_TASKWAIT {
-                new.generating == Some(k)
-            } else {
-                new.region == t.region
+            match state {
+                WAIT_TASKWAIT => new.generating == Some(k),
+                WAIT_TASKGROUP => is_in_innermost(k, t, new),
+                _ => new.region == t.region,
             }
         }
         Item::OneTask => new.generating == Some(k),
