@@ -8,7 +8,7 @@ use Rattle.std.proofs.lemmas.Bool.{le-leb}
 use Rattle.std.proofs.lemmas.Bool.Decides.{nat_tests}
 use Rattle.omi_script.specs.declared.line.SourceLine.TheVariants as line
 use Rattle.omi_script.specs.declared.statement.Construct.TheVariants as construct
-use Rattle.omi_script.specs.declared.statement.Stmt.TheVariants.{Parallel, Task, Critical, Call, Only, Repeat, SetNumThreads, SetDynamic, SetMaxActive, SetSchedule, SetDevice, Tool}
+use Rattle.omi_script.specs.declared.statement.Stmt.TheVariants.{Parallel, Task, Critical, Call, Only, Repeat, Taskgroup, SetNumThreads, SetDynamic, SetMaxActive, SetSchedule, SetDevice, Tool}
 use Rattle.omi_script.specs.Bodies.{name_at, named_by}
 use Rattle.omi_script.specs.Canonical.{kind_text, statement_words}
 use Rattle.omi_script.specs.Constructs.{over}
@@ -30,6 +30,7 @@ abbrev pub construct_of : Stmt → Option Construct
 construct_of (Parallel f num) = Some (construct.Parallel num)
 construct_of (Task f undeferred is_final) = Some (construct.Task undeferred is_final)
 construct_of (Critical k f) = Some (construct.Critical k)
+construct_of (Taskgroup f) = Some construct.Taskgroup
 construct_of (Call f) = Some construct.Call
 construct_of (Only m f) = Some (construct.Only m)
 construct_of (Repeat n f) = Some (construct.Repeat n)
@@ -50,6 +51,7 @@ over_again (Task g undeferred is_final) f e =
     let same : g ≡ f = cc e in (construct.Task undeferred is_final, refl, ap (λ h. Task h undeferred is_final) (sym same))
 over_again (Critical k g) f e =
     let same : g ≡ f = cc e in (construct.Critical k, refl, ap (Critical k) (sym same))
+over_again (Taskgroup g) f e = let same : g ≡ f = cc e in (construct.Taskgroup, refl, ap Taskgroup (sym same))
 over_again (Call g) f e = let same : g ≡ f = cc e in (construct.Call, refl, ap Call (sym same))
 over_again (Only m g) f e = let same : g ≡ f = cc e in (construct.Only m, refl, ap (Only m) (sym same))
 over_again (Repeat n g) f e = let same : g ≡ f = cc e in (construct.Repeat n, refl, ap (Repeat n) (sym same))
@@ -69,6 +71,7 @@ said funcs (Task f true true) h = refl
 said funcs (Critical n f) h =
     ap (λ o. Some (line.Construct (name_at funcs f) (option_map construct.Critical o)))
     (number_up_to-decimal MAX_LOCK n (omega arith) h)
+said funcs (Taskgroup f) h = refl
 said funcs (Call f) h = refl
 said funcs (Only n f) h =
     ap (λ o. Some (line.Construct (name_at funcs f) (option_map construct.Only o)))
@@ -119,6 +122,7 @@ plain_words funcs (Task f false true) h e = one_word (name_at funcs f) e
 plain_words funcs (Task f true true) h e = one_word (name_at funcs f) e
 plain_words funcs (Critical n f) h e =
     two_words (decimal n) (name_at funcs f) (plain-decimal n (below_word MAX_LOCK n (omega arith) h)) e
+plain_words funcs (Taskgroup f) h e = one_word (name_at funcs f) e
 plain_words funcs (Call f) h e = one_word (name_at funcs f) e
 plain_words funcs (Only n f) h e =
     two_words (decimal n) (name_at funcs f) (plain-decimal n (below_word MAX_MEMBER n (omega arith) h)) e

@@ -8,10 +8,10 @@ use Rattle.std.proofs.lemmas.Option.{slice_get-get_or}
 use Rattle.std.proofs.Math.Seq.{get_or-append_seam}
 use Rattle.omi_script.specs.Bodies.{body_of, named_by}
 use Rattle.omi_script.specs.Ranges.{is_in_range}
-use Rattle.omi_script.specs.Reach.{Reach, are_allowed, depth_of, greatest, is_allowed, names_rightly, reach_at, reach_in, reach_of, reaches, reaches_barrier}
+use Rattle.omi_script.specs.Reach.{Reach, are_allowed, depth_of, greatest, group_depth_of, is_allowed, names_rightly, reach_at, reach_in, reach_of, reaches, reaches_barrier}
 use Rattle.omi_script.specs.declared.function.Func.{Func}
 use Rattle.omi_script.specs.declared.statement.Stmt.{Stmt}
-use Rattle.omi_script.specs.declared.statement.Stmt.TheVariants.{Parallel, Task, Critical, Call, Only, Repeat}
+use Rattle.omi_script.specs.declared.statement.Stmt.TheVariants.{Parallel, Task, Critical, Call, Only, Repeat, Taskgroup}
 use Rattle.omi_script.proofs.Conjunctions.{and_left, and_right}
 use Rattle.omi_script.proofs.NamingLemmas.{IsBelow, named_above}
 use Rattle.omi_script.proofs.StateLemmas.{length-reaches}
@@ -24,7 +24,7 @@ reach_kept above (f ∷ fs) g l =
     let r : Reach = reach_of above f.body in
     let longer : length (above ++ r ∷ []) ≡ length above + 1 = length_push above r in
     reach_kept (above ++ r ∷ []) fs g (omega arith)
-    ∙ get_or_append_left above (r ∷ []) (record { barrier = false; depth = 0 }) g l
+    ∙ get_or_append_left above (r ∷ []) (record { barrier = false; depth = 0; groups = 0 }) g l
 
 -- a function reaches among all what it reaches among the first
 pub reach_first : (above : List Reach) (fs : List Func) (f g : ℕ) → f ≤ length fs → g < length above + f
@@ -67,7 +67,7 @@ reach_of_own above (x ∷ fs) zero n g e i =
     let at : n ≡ length above = omega arith in
     reach_kept (above ++ r ∷ []) fs n (omega arith)
     ∙ ap (reach_at (above ++ r ∷ [])) at
-    ∙ get_or-append_seam above r [] (record { barrier = false; depth = 0 })
+    ∙ get_or-append_seam above r [] (record { barrier = false; depth = 0; groups = 0 })
     ∙ ap (λ (y : Func). reach_of above y.body) same
 reach_of_own above (x ∷ fs) (suc f) n g e i =
     let r : Reach = reach_of above x.body in
@@ -84,6 +84,7 @@ same_barrier xs ys (Critical k f) h = ap (λ (r : Reach). r.barrier) (h f refl)
 same_barrier xs ys (Call f) h = ap (λ (r : Reach). r.barrier) (h f refl)
 same_barrier xs ys (Only m f) h = ap (λ (r : Reach). r.barrier) (h f refl)
 same_barrier xs ys (Repeat n f) h = ap (λ (r : Reach). r.barrier) (h f refl)
+same_barrier xs ys (Taskgroup f) h = ap (λ (r : Reach). r.barrier) (h f refl)
 same_barrier xs ys s h = refl
 
 same_depth : (xs ys : List Reach) (s : Stmt) → SameFor xs ys (named_by s) → depth_of xs s ≡ depth_of ys s
@@ -93,13 +94,24 @@ same_depth xs ys (Critical k f) h = ap (λ (r : Reach). r.depth) (h f refl)
 same_depth xs ys (Call f) h = ap (λ (r : Reach). r.depth) (h f refl)
 same_depth xs ys (Only m f) h = ap (λ (r : Reach). r.depth) (h f refl)
 same_depth xs ys (Repeat n f) h = ap (λ (r : Reach). r.depth) (h f refl)
+same_depth xs ys (Taskgroup f) h = ap (λ (r : Reach). r.depth) (h f refl)
 same_depth xs ys s h = refl
+
+same_group_depth : (xs ys : List Reach) (s : Stmt) → SameFor xs ys (named_by s)
+    → group_depth_of xs s ≡ group_depth_of ys s
+same_group_depth xs ys (Taskgroup f) h = ap (λ (r : Reach). r.groups + 1) (h f refl)
+same_group_depth xs ys (Critical k f) h = ap (λ (r : Reach). r.groups) (h f refl)
+same_group_depth xs ys (Call f) h = ap (λ (r : Reach). r.groups) (h f refl)
+same_group_depth xs ys (Only m f) h = ap (λ (r : Reach). r.groups) (h f refl)
+same_group_depth xs ys (Repeat n f) h = ap (λ (r : Reach). r.groups) (h f refl)
+same_group_depth xs ys s h = refl
 
 -- what a list of statements reaches, where each function above reaches the same
 same_body : (xs ys : List Reach) (body : List Stmt)
     → ((g : ℕ) → g < length xs → reach_at xs g ≡ reach_at ys g) → list_all (is_allowed xs) body ≡ true
     → (list_any (reaches_barrier xs) body ≡ list_any (reaches_barrier ys) body) × (greatest (map (depth_of xs) body) ≡ greatest (map (depth_of ys) body))
-same_body xs ys [] h k = (refl, refl)
+    × (greatest (map (group_depth_of xs) body) ≡ greatest (map (group_depth_of ys) body))
+same_body xs ys [] h k = (refl, refl, refl)
 same_body xs ys (s ∷ body) h k =
     let rightly : names_rightly xs s ≡ true =
     and_right (is_in_range s) (names_rightly xs s)
@@ -108,6 +120,7 @@ same_body xs ys (s ∷ body) h k =
     let each : SameFor xs ys (named_by s) = λ g e. h g (below g e (named_above xs s rightly)) in (
       ap (λ b. b || list_any (reaches_barrier xs) body) (same_barrier xs ys s each) ∙ ap (λ b. reaches_barrier ys s || b) rest.0,
       ap (λ d. max d (greatest (map (depth_of xs) body))) (same_depth xs ys s each) ∙ ap (λ d. max (depth_of ys s) d) rest.1,
+      ap (λ d. max d (greatest (map (group_depth_of xs) body))) (same_group_depth xs ys s each) ∙ ap (λ d. max (group_depth_of ys s) d) rest.2,
     )
   where
     below : (g : ℕ) → named_by s ≡ Some g → IsBelow (length xs) (named_by s) → g < length xs
@@ -127,10 +140,13 @@ same_reach fs f l h =
     same_body first (reaches [] fs) g.body (λ k m. sym (reach_first [] fs f k (omega arith) (omega arith)))
     (allowed_at [] fs f g at h) in
     let barrier : Bool → Reach =
-    λ b. record { barrier = b; depth = greatest (map (depth_of first) g.body) } in
+    λ b. record { barrier = b; depth = greatest (map (depth_of first) g.body); groups = greatest (map (group_depth_of first) g.body) } in
     let depth : ℕ → Reach =
-    λ d. record { barrier = list_any (reaches_barrier (reaches [] fs)) g.body; depth = d } in
+    λ d. record { barrier = list_any (reaches_barrier (reaches [] fs)) g.body; depth = d; groups = greatest (map (group_depth_of first) g.body) } in
+    let groups : ℕ → Reach =
+    λ n. record { barrier = list_any (reaches_barrier (reaches [] fs)) g.body; depth = greatest (map (depth_of (reaches [] fs)) g.body); groups = n } in
     reach_of_own [] fs f f g at (omega arith)
     ∙ ap barrier same.0
     ∙ ap depth same.1
+    ∙ ap groups same.2
     ∙ sym (ap (λ o. reach_of (reaches [] fs) (option_map_or (λ (h : Func). h.body) o [])) at)

@@ -16,7 +16,7 @@ use Rattle.omi_script.specs.Names.{is_within}
 use Rattle.omi_script.specs.Numbers.{is_comma, number_of, sizes_of}
 use Rattle.omi_script.specs.Ranges.{are_sizes, is_device, is_in_range, is_level_count, is_processor_count, is_schedule}
 use Rattle.omi_numbers.specs.Schedules.{schedule_kind_of}
-use Rattle.omi_script.specs.StatementLines.{bare_line, call_line, critical_line, only_line, parallel_line, repeat_line, set_device_line, set_dynamic_line, set_max_active_line, set_num_threads_line, set_schedule_line, statement_line, task_construct_line, task_construct, tool_line}
+use Rattle.omi_script.specs.StatementLines.{bare_line, call_line, critical_line, group_line, only_line, parallel_line, repeat_line, set_device_line, set_dynamic_line, set_max_active_line, set_num_threads_line, set_schedule_line, statement_line, task_construct_line, task_construct, tool_line}
 use Rattle.omi_script.specs.declared.head.Head.{Head}
 use Rattle.omi_script.specs.declared.limits.TheConstants.{MAX_CHUNK, MAX_DEVICE, MAX_LEVELS, MAX_LOCK, MAX_MEMBER, MAX_PROCS, MAX_REPEATS, MAX_SIZE, MAX_THREADS}
 use Rattle.omi_script.specs.declared.line.HeadLine.{HeadLine}
@@ -219,6 +219,11 @@ critical_good (k ∷ f ∷ []) =
     (number_up_to MAX_LOCK k)
 critical_good (k ∷ f ∷ more ∷ ws) = refl
 
+group_good : (ws : List (List ℕ)) → is_good (group_line ws) ≡ true
+group_good [] = refl
+group_good (f ∷ []) = refl
+group_good (f ∷ more ∷ ws) = refl
+
 call_good : (ws : List (List ℕ)) → is_good (call_line ws) ≡ true
 call_good [] = refl
 call_good (f ∷ []) = refl
@@ -304,6 +309,7 @@ statement_good first ws =
     (chosen (bytes_eq first (codes "barrier")) _ _ (bare_good Barrier ws refl)
     (chosen (bytes_eq first (codes "work")) _ _ (bare_good Work ws refl)
     (chosen (bytes_eq first (codes "critical")) _ _ (critical_good ws)
+    (chosen (bytes_eq first (codes "taskgroup")) _ _ (group_good ws)
     (chosen (bytes_eq first (codes "call")) _ _ (call_good ws)
     (chosen (bytes_eq first (codes "only")) _ _ (only_good ws)
     (chosen (bytes_eq first (codes "repeat")) _ _ (repeat_good ws)
@@ -312,7 +318,7 @@ statement_good first ws =
     (chosen (bytes_eq first (codes "set_max_active_levels")) _ _ (set_max_active_good ws)
     (chosen (bytes_eq first (codes "set_schedule")) _ _ (set_schedule_good ws)
     (chosen (bytes_eq first (codes "set_default_device")) _ _ (set_device_good ws)
-    (chosen (bytes_eq first (codes "tool")) _ None (tool_good ws) refl)))))))))))))))
+    (chosen (bytes_eq first (codes "tool")) _ None (tool_good ws) refl))))))))))))))))
 
 function_good : (ws : List (List ℕ)) → is_good (function_line ws) ≡ true
 function_good [] = refl
@@ -338,6 +344,7 @@ pub range_over : (c : Construct) (f : ℕ) → is_in_range (over c f) ≡ is_con
 range_over (construct.Parallel num) f = refl
 range_over (construct.Task undeferred is_final) f = refl
 range_over (construct.Critical k) f = refl
+range_over construct.Taskgroup f = refl
 range_over construct.Call f = refl
 range_over (construct.Only m) f = refl
 range_over (construct.Repeat n) f = refl
@@ -346,6 +353,7 @@ pub named_over : (c : Construct) (f : ℕ) → named_by (over c f) ≡ Some f
 named_over (construct.Parallel num) f = refl
 named_over (construct.Task undeferred is_final) f = refl
 named_over (construct.Critical k) f = refl
+named_over construct.Taskgroup f = refl
 named_over construct.Call f = refl
 named_over (construct.Only m) f = refl
 named_over (construct.Repeat n) f = refl

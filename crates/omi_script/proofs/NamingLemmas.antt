@@ -1,15 +1,16 @@
 -- What a statement without a fault may name, and names from their bytes.
-use Rattle.std.proofs.Common.{◌≡◌, ℕ, ◌<◌, ◌-◌, Bool, true, false, not, cond, List, length, drop, replicate, Option, Some, None, refl, sym, ap, ◌∙◌, arith}
+use Rattle.std.proofs.Common.{◌≡◌, ℕ, ◌<◌, ◌-◌, Bool, true, false, not, ◌&&◌, cond, List, length, drop, replicate, Option, Some, None, refl, sym, ap, ◌∙◌, arith}
 use Rattle.std.specs.Prelude.{nat_le, nat_lt, position}
 use Rattle.std.specs.List.{position_or_len}
 use Rattle.std.proofs.lemmas.Bool.{lt-ltb, ltb-true, leb-false, lt-leb}
 use Rattle.std.proofs.lemmas.List.{drop-replicate}
+use Rattle.omi_numbers.specs.declared.limits.TheConstants.{OPEN_GROUPS}
 use Rattle.omi_script.specs.Bodies.{named_by}
 use Rattle.omi_script.specs.LineFaults.{is_task_with_barrier, is_too_deep, nests_barrier}
 use Rattle.omi_script.specs.Reach.{Reach, is_above, names_rightly, reach_at}
 use Rattle.omi_script.specs.declared.limits.TheConstants.{MAX_DEPTH, MAX_NAME}
 use Rattle.omi_script.specs.declared.statement.Stmt.{Stmt}
-use Rattle.omi_script.specs.declared.statement.Stmt.TheVariants.{Parallel, Task, Critical, Call, Only, Repeat}
+use Rattle.omi_script.specs.declared.statement.Stmt.TheVariants.{Parallel, Task, Critical, Call, Only, Repeat, Taskgroup}
 use Rattle.omi_script.proofs.Conjunctions.{and_left, and_right, and_true, not_so}
 
 -- a place that is found is one of the list
@@ -37,6 +38,9 @@ IsBelow n (Some f) = f < n
 not_deep : (d : ℕ) → nat_le MAX_DEPTH d ≡ false → nat_lt d MAX_DEPTH ≡ true
 not_deep d h = let l : d < MAX_DEPTH = leb-false MAX_DEPTH d h in lt-ltb d MAX_DEPTH l
 
+not_group_deep : (d : ℕ) → nat_le OPEN_GROUPS d ≡ false → nat_lt d OPEN_GROUPS ≡ true
+not_group_deep d h = let l : d < OPEN_GROUPS = leb-false OPEN_GROUPS d h in lt-ltb d OPEN_GROUPS l
+
 -- a statement without a fault names what it may
 pub rightly_named : (above : List Reach) (s : Stmt) → IsBelow (length above) (named_by s)
     → is_task_with_barrier above s ≡ false → nests_barrier above s ≡ false → is_too_deep above s ≡ false
@@ -50,6 +54,10 @@ rightly_named above (Critical k f) l a b c =
     and_true (is_above above f) (not (reach_at above f).barrier) (lt-ltb f (length above) l) (ap not b)
 rightly_named above (Only m f) l a b c =
     and_true (is_above above f) (not (reach_at above f).barrier) (lt-ltb f (length above) l) (ap not b)
+rightly_named above (Taskgroup f) l a b c =
+    and_true (is_above above f && not (reach_at above f).barrier) (nat_lt (reach_at above f).groups OPEN_GROUPS)
+    (and_true (is_above above f) (not (reach_at above f).barrier) (lt-ltb f (length above) l) (ap not b))
+    (not_group_deep (reach_at above f).groups c)
 rightly_named above (Call f) l a b c = lt-ltb f (length above) l
 rightly_named above (Repeat n f) l a b c = lt-ltb f (length above) l
 rightly_named above s l a b c = refl
@@ -63,6 +71,10 @@ named_above above (Task f undeferred is_final) h =
     ltb-true f (length above) (and_left (is_above above f) (not (reach_at above f).barrier) h)
 named_above above (Critical k f) h =
     ltb-true f (length above) (and_left (is_above above f) (not (reach_at above f).barrier) h)
+named_above above (Taskgroup f) h =
+    ltb-true f (length above)
+    (and_left (is_above above f) (not (reach_at above f).barrier)
+    (and_left (is_above above f && not (reach_at above f).barrier) (nat_lt (reach_at above f).groups OPEN_GROUPS) h))
 named_above above (Call f) h = ltb-true f (length above) h
 named_above above (Only m f) h =
     ltb-true f (length above) (and_left (is_above above f) (not (reach_at above f).barrier) h)
@@ -83,6 +95,10 @@ rightly_no_nest above (Critical k f) h =
     not_so (reach_at above f).barrier (and_right (is_above above f) (not (reach_at above f).barrier) h)
 rightly_no_nest above (Only m f) h =
     not_so (reach_at above f).barrier (and_right (is_above above f) (not (reach_at above f).barrier) h)
+rightly_no_nest above (Taskgroup f) h =
+    not_so (reach_at above f).barrier
+    (and_right (is_above above f) (not (reach_at above f).barrier)
+    (and_left (is_above above f && not (reach_at above f).barrier) (nat_lt (reach_at above f).groups OPEN_GROUPS) h))
 rightly_no_nest above s h = refl
 
 -- it nests no region too deep
@@ -91,6 +107,9 @@ pub rightly_not_deep : (above : List Reach) (s : Stmt) → names_rightly above s
 rightly_not_deep above (Parallel f num) h =
     lt-leb MAX_DEPTH (reach_at above f).depth
     (ltb-true (reach_at above f).depth MAX_DEPTH (and_right (is_above above f) (nat_lt (reach_at above f).depth MAX_DEPTH) h))
+rightly_not_deep above (Taskgroup f) h =
+    lt-leb OPEN_GROUPS (reach_at above f).groups
+    (ltb-true (reach_at above f).groups OPEN_GROUPS (and_right (is_above above f && not (reach_at above f).barrier) (nat_lt (reach_at above f).groups OPEN_GROUPS) h))
 rightly_not_deep above s h = refl
 
 -- what stands after the first bytes of zeros

@@ -10,6 +10,7 @@ use Rattle.std.specs.List.{list_all, position_or_len}
 use Rattle.std.specs.Option.{option_map_or}
 use Rattle.omi_script.specs.Bodies.{HasStatement, name_at, named_by}
 use Rattle.omi_script.specs.LineFaults.{least}
+use Rattle.omi_numbers.specs.declared.limits.TheConstants.{OPEN_GROUPS}
 use Rattle.omi_script.specs.Names.{are_distinct, is_name, is_name_text, is_within, text_of}
 use Rattle.omi_script.specs.ParserState.{is_called}
 use Rattle.omi_script.specs.Program.{are_functions, is_main}
@@ -22,7 +23,7 @@ use Rattle.omi_script.specs.declared.name.Name.{Name}
 use Rattle.omi_script.specs.declared.program.Program.{Program}
 use Rattle.omi_script.specs.declared.statement.Sched.{Sched}
 use Rattle.omi_script.specs.declared.statement.Stmt.{Stmt}
-use Rattle.omi_script.specs.declared.statement.Stmt.TheVariants.{Parallel, Task, Critical, Only, Repeat, SetNumThreads, SetMaxActive, SetSchedule, SetDevice, Tool}
+use Rattle.omi_script.specs.declared.statement.Stmt.TheVariants.{Parallel, Task, Critical, Only, Repeat, Taskgroup, SetNumThreads, SetMaxActive, SetSchedule, SetDevice, Tool}
 use Rattle.omi_script.proofs.Conjunctions.{and_left, and_right, not_so}
 use Rattle.omi_script.proofs.RangeLemmas.{EnvTests, env_tests}
 use Rattle.omi_script.proofs.NamingLemmas.{IsBelow, named_above}
@@ -216,6 +217,24 @@ not_too_deep_in fs f g num h has =
     (and_right (is_above above g) (nat_lt (reach_at above g).depth MAX_DEPTH) (rightly_in fs f (Parallel g num) h has)) in
     omega arith
 
+no_barrier_in_group_of : (fs : List Func) (f g : ℕ) → are_allowed [] (map (λ (h : Func). h.body) fs) ≡ true
+    → HasStatement fs f (Taskgroup g) → (reach_in fs g).barrier ≡ false
+no_barrier_in_group_of fs f g h has =
+    let above : List Reach = reaches [] (take f fs) in
+    no_barrier_in fs f g (Taskgroup g) h has refl
+    (and_left (is_above above g && not (reach_at above g).barrier) (nat_lt (reach_at above g).groups OPEN_GROUPS) (rightly_in fs f (Taskgroup g) h has))
+
+group_not_too_deep_in : (fs : List Func) (f g : ℕ) → are_allowed [] (map (λ (h : Func). h.body) fs) ≡ true
+    → HasStatement fs f (Taskgroup g) → (reach_in fs g).groups < OPEN_GROUPS
+group_not_too_deep_in fs f g h has =
+    let above : List Reach = reaches [] (take f fs) in
+    let same : (reach_in fs g).groups ≡ (reach_at above g).groups =
+    ap (λ (r : Reach). r.groups) (above_in fs f g (Taskgroup g) h has refl).1 in
+    let less : (reach_at above g).groups < OPEN_GROUPS =
+    ltb-true (reach_at above g).groups OPEN_GROUPS
+    (and_right (is_above above g && not (reach_at above g).barrier) (nat_lt (reach_at above g).groups OPEN_GROUPS) (rightly_in fs f (Taskgroup g) h has)) in
+    omega arith
+
 -- each program meets the rules
 pub Rules-from_accepted : (p : Program) → Rules p
 Rules-from_accepted p =
@@ -241,5 +260,7 @@ Rules-from_accepted p =
       no_barrier_in_task = λ f g undeferred is_final has. no_barrier_in p.funcs f g (Task g undeferred is_final) tests.allowed has refl (rightly_in p.funcs f (Task g undeferred is_final) tests.allowed has);
       no_barrier_in_only = λ f m g has. no_barrier_in p.funcs f g (Only m g) tests.allowed has refl (rightly_in p.funcs f (Only m g) tests.allowed has);
       no_barrier_in_critical = λ f k g has. no_barrier_in p.funcs f g (Critical k g) tests.allowed has refl (rightly_in p.funcs f (Critical k g) tests.allowed has);
+      no_barrier_in_group = λ f g has. no_barrier_in_group_of p.funcs f g tests.allowed has;
       depth = λ f g num has. not_too_deep_in p.funcs f g num tests.allowed has;
+      group_depth = λ f g has. group_not_too_deep_in p.funcs f g tests.allowed has;
     }

@@ -4,7 +4,7 @@ use Rattle.std.specs.Option.{option_map_or}
 use Rattle.omi_script.specs.Names.{text_of}
 use Rattle.omi_script.specs.declared.function.Func.{Func}
 use Rattle.omi_script.specs.declared.statement.Stmt.{Stmt}
-use Rattle.omi_script.specs.declared.statement.Stmt.TheVariants.{Parallel, Task, Critical, Call, Only, Repeat}
+use Rattle.omi_script.specs.declared.statement.Stmt.TheVariants.{Parallel, Task, Critical, Call, Only, Repeat, Taskgroup}
 
 -- the name of the function with a number, none past the last
 abbrev pub name_at : List Func → ℕ → List ℕ
@@ -23,6 +23,7 @@ abbrev pub named_by : Stmt → Option ℕ
 named_by (Parallel f num) = Some f
 named_by (Task f undeferred is_final) = Some f
 named_by (Critical k f) = Some f
+named_by (Taskgroup f) = Some f
 named_by (Call f) = Some f
 named_by (Only m f) = Some f
 named_by (Repeat n f) = Some f

@@ -12,7 +12,7 @@ use Rattle.omi_script.specs.declared.function.Func.{Func}
 use Rattle.omi_script.specs.declared.program.Program.{Program}
 use Rattle.omi_script.specs.declared.statement.Sched.{Sched}
 use Rattle.omi_script.specs.declared.statement.Stmt.{Stmt}
-use Rattle.omi_script.specs.declared.statement.Stmt.TheVariants.{Parallel, Task, Taskwait, Taskyield, Barrier, Critical, Call, Only, Repeat, SetNumThreads, SetDynamic, SetMaxActive, SetSchedule, SetDevice, Tool, Work}
+use Rattle.omi_script.specs.declared.statement.Stmt.TheVariants.{Parallel, Task, Taskwait, Taskyield, Barrier, Critical, Call, Only, Repeat, Taskgroup, SetNumThreads, SetDynamic, SetMaxActive, SetSchedule, SetDevice, Tool, Work}
 
 -- a schedule's kind as a word
 abbrev pub kind_text : ℕ → List ℕ
@@ -76,6 +76,7 @@ statement_words funcs (Parallel f (Some n)) =
 statement_words funcs (Task f undeferred is_final) =
     task_words (name_at funcs f) undeferred is_final
 statement_words funcs (Critical k f) = codes "critical" ∷ decimal k ∷ name_at funcs f ∷ []
+statement_words funcs (Taskgroup f) = codes "taskgroup" ∷ name_at funcs f ∷ []
 statement_words funcs (Call f) = codes "call" ∷ name_at funcs f ∷ []
 statement_words funcs (Only m f) = codes "only" ∷ decimal m ∷ name_at funcs f ∷ []
 statement_words funcs (Repeat n f) = codes "repeat" ∷ decimal n ∷ name_at funcs f ∷ []

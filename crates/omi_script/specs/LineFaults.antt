@@ -2,6 +2,7 @@
 use Rattle.std.specs.Prelude.{ℕ, Bool, false, not, ◌||◌, nat_le, List, [], ◌∷◌, ◌++◌, length, find, codes, Option, is_some}
 use Rattle.std.specs.List.{list_all, list_any, position}
 use Rattle.std.specs.Option.{option_map_or, option_to_list}
+use Rattle.omi_numbers.specs.declared.limits.TheConstants.{OPEN_GROUPS}
 use Rattle.omi_script.specs.Lines.{is_text}
 use Rattle.omi_script.specs.Names.{is_name_text}
 use Rattle.omi_script.specs.HeadLines.{has_number, stands_above}
@@ -14,7 +15,7 @@ use Rattle.omi_script.specs.declared.line.SourceLine.{SourceLine}
 use Rattle.omi_script.specs.declared.line.SourceLine.TheVariants.{Head, Function, Construct, StandAlone}
 use Rattle.omi_script.specs.declared.parser.ParserState.{ParserState}
 use Rattle.omi_script.specs.declared.statement.Stmt.{Stmt}
-use Rattle.omi_script.specs.declared.statement.Stmt.TheVariants.{Parallel, Task, Critical, Only}
+use Rattle.omi_script.specs.declared.statement.Stmt.TheVariants.{Parallel, Task, Critical, Only, Taskgroup}
 
 -- a number is not in its range, or is none
 abbrev pub has_bad_number : SourceLine → Bool
@@ -40,15 +41,18 @@ abbrev pub is_task_with_barrier : List Reach → Stmt → Bool
 is_task_with_barrier above (Task f undeferred is_final) = (reach_at above f).barrier
 is_task_with_barrier above _ = false
 
--- `only` or `critical` of a function that reaches a barrier
+-- `only`, `critical` or `taskgroup` of a function that reaches a barrier
 abbrev pub nests_barrier : List Reach → Stmt → Bool
 nests_barrier above (Only m f) = (reach_at above f).barrier
 nests_barrier above (Critical k f) = (reach_at above f).barrier
+nests_barrier above (Taskgroup f) = (reach_at above f).barrier
 nests_barrier above _ = false
 
--- a parallel region over a function of the greatest depth
+-- a parallel region over a function of the greatest depth, or a taskgroup region over one of the
+-- greatest group depth
 abbrev pub is_too_deep : List Reach → Stmt → Bool
 is_too_deep above (Parallel f num) = nat_le MAX_DEPTH (reach_at above f).depth
+is_too_deep above (Taskgroup f) = nat_le OPEN_GROUPS (reach_at above f).groups
 is_too_deep above _ = false
 
 -- the line says a statement of which this holds

@@ -7,7 +7,7 @@ use Rattle.omi_script.specs.declared.env.Env.{Env}
 use Rattle.omi_script.specs.declared.statement.Sched.{Sched}
 use Rattle.omi_script.specs.declared.statement.Stmt.{Stmt}
 use Rattle.omi_script.specs.declared.limits.TheConstants.{MAX_SIZE, MAX_SIZES, MAX_LEVELS, MAX_DEVICE, MAX_CHUNK, MAX_PROCS, MAX_LOCK, MAX_MEMBER, MAX_REPEATS}
-use Rattle.omi_script.specs.declared.statement.Stmt.TheVariants.{Parallel, Task, Taskwait, Taskyield, Barrier, Critical, Call, Only, Repeat, SetNumThreads, SetDynamic, SetMaxActive, SetSchedule, SetDevice, Tool, Work}
+use Rattle.omi_script.specs.declared.statement.Stmt.TheVariants.{Parallel, Task, Taskwait, Taskyield, Barrier, Critical, Call, Only, Repeat, Taskgroup, SetNumThreads, SetDynamic, SetMaxActive, SetSchedule, SetDevice, Tool, Work}
 
 -- a team's size, as it is asked for
 abbrev pub is_size : ℕ → Bool
@@ -55,6 +55,7 @@ is_in_range Taskwait = true
 is_in_range Taskyield = true
 is_in_range Barrier = true
 is_in_range (Critical k f) = nat_le k MAX_LOCK
+is_in_range (Taskgroup f) = true
 is_in_range (Call f) = true
 is_in_range (Only m f) = nat_le m MAX_MEMBER
 is_in_range (Repeat n f) = nat_le n MAX_REPEATS

@@ -1,6 +1,7 @@
 -- The rules of the language as plain facts of a program. Only the size of a text is no matter of
 -- a program.
 use Rattle.std.specs.Prelude.{◌≡◌, ℕ, List, ◌<◌, ◌≤◌, ◌^◌, ◌-◌, Bool, false, IsTrue, [], length, drop, replicate, slice_get, slice_index, sum_by, Option, Some, codes}
+use Rattle.omi_numbers.specs.declared.limits.TheConstants.{OPEN_GROUPS}
 use Rattle.omi_numbers.specs.declared.schedules.TheConstants.{STATIC, AUTO}
 use Rattle.omi_script.specs.Names.{text_of, is_name_text}
 use Rattle.omi_script.specs.Bodies.{name_at, body_of, HasStatement, named_by}
@@ -11,7 +12,7 @@ use Rattle.omi_script.specs.declared.name.Name.{Name}
 use Rattle.omi_script.specs.declared.program.Program.{Program}
 use Rattle.omi_script.specs.declared.statement.Sched.{Sched}
 use Rattle.omi_script.specs.declared.statement.Stmt.{Stmt}
-use Rattle.omi_script.specs.declared.statement.Stmt.TheVariants.{Parallel, Task, Critical, Only, Repeat, SetNumThreads, SetMaxActive, SetSchedule, SetDevice, Tool}
+use Rattle.omi_script.specs.declared.statement.Stmt.TheVariants.{Parallel, Task, Critical, Only, Repeat, Taskgroup, SetNumThreads, SetMaxActive, SetSchedule, SetDevice, Tool}
 
 -- a team's size, as it is asked for
 abbrev pub IsSize : ℕ → Type 0
@@ -69,13 +70,17 @@ pub record Rules (p : Program) : Type 0 where
   -- what a function reaches is what its statements reach
   pub reach : (f : ℕ) → f < length p.funcs
       → reach_in p.funcs f ≡ reach_of (reaches [] p.funcs) (body_of p.funcs f)
-  -- no barrier is reached through `task`, `only` and `critical`, and no parallel region is nested
-  -- too deep
+  -- no barrier is reached through `task`, `only`, `critical` and `taskgroup`, and no parallel or
+  -- taskgroup region is nested too deep
   pub no_barrier_in_task : (f g : ℕ) (undeferred is_final : Bool)
       → HasStatement p.funcs f (Task g undeferred is_final) → HasNoBarrier p.funcs g
   pub no_barrier_in_only : (f m g : ℕ)
       → HasStatement p.funcs f (Only m g) → HasNoBarrier p.funcs g
   pub no_barrier_in_critical : (f k g : ℕ)
       → HasStatement p.funcs f (Critical k g) → HasNoBarrier p.funcs g
+  pub no_barrier_in_group : (f g : ℕ)
+      → HasStatement p.funcs f (Taskgroup g) → HasNoBarrier p.funcs g
   pub depth : (f g : ℕ) (num : Option ℕ)
       → HasStatement p.funcs f (Parallel g num) → (reach_in p.funcs g).depth < MAX_DEPTH
+  pub group_depth : (f g : ℕ)
+      → HasStatement p.funcs f (Taskgroup g) → (reach_in p.funcs g).groups < OPEN_GROUPS

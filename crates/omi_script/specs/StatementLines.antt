@@ -57,6 +57,11 @@ abbrev pub critical_line : List (List ℕ) → Option SourceLine
 critical_line (k ∷ f ∷ []) = Some (numbered f construct.Critical (number_of 0 MAX_LOCK k))
 critical_line _ = None
 
+-- `taskgroup F`
+abbrev pub group_line : List (List ℕ) → Option SourceLine
+group_line (f ∷ []) = Some (line.Construct f (Some construct.Taskgroup))
+group_line _ = None
+
 -- `call F`
 abbrev pub call_line : List (List ℕ) → Option SourceLine
 call_line (f ∷ []) = Some (line.Construct f (Some construct.Call))
@@ -126,7 +131,8 @@ statement_line first rest =
     else (if bytes_eq first (codes "barrier") then bare_line Barrier rest
     else (if bytes_eq first (codes "work") then bare_line Work rest
     else (if bytes_eq first (codes "critical") then critical_line rest
+    else (if bytes_eq first (codes "taskgroup") then group_line rest
     else (if bytes_eq first (codes "call") then call_line rest
     else (if bytes_eq first (codes "only") then only_line rest
     else (if bytes_eq first (codes "repeat") then repeat_line rest
-    else set_line first rest)))))))))
+    else set_line first rest))))))))))

@@ -189,6 +189,7 @@ fn push_words(
             is_final,
         } => push_task(text, name_of(funcs, f), undeferred, is_final),
         Stmt::Critical { k, f } => push_counted(alloc, text, b"critical ", k.into(), funcs, f),
+        Stmt::Taskgroup { f } => push_name(text, b"taskgroup ", funcs, f),
         Stmt::Call { f } => push_name(text, b"call ", funcs, f),
         Stmt::Only { m, f } => push_counted(alloc, text, b"only ", m.into(), funcs, f),
         Stmt::Repeat { n, f } => push_counted(alloc, text, b"repeat ", n.into(), funcs, f),

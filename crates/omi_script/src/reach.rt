@@ -1,16 +1,17 @@
-//! What a function reaches: barriers, and nested parallel regions.
+//! What a function reaches: barriers, nested parallel regions and nested taskgroup regions.
 ghost use Rattle.std.specs.Prelude.{◌≡◌, ◌+◌, ◌≤◌, ℕ, length, map};
 ghost use Rattle.std.specs.List.{list_any};
-ghost use Rattle.omi_script.specs.Reach.{reach_at, reaches_barrier, depth_of, greatest, reach_of};
+ghost use Rattle.omi_script.specs.Reach.{reach_at, reaches_barrier, depth_of, greatest, group_depth_of, reach_of};
 
 use crate::Stmt;
 use std::marker::Model;
 
-/// What a function reaches: whether a barrier, and how deep its parallel regions are nested.
+/// What a function reaches: whether a barrier, how deep its parallel regions are nested, and how deep its taskgroup regions.
 #[derive(Clone, Copy)]
 pub struct Reach {
     pub barrier: bool,
     pub depth: usize,
+    pub groups: usize,
 }
 
 impl Model for Reach {
@@ -18,9 +19,17 @@ impl Model for Reach {
 
     ghost Value = { Reach };
 
-    ghost view = { λ a. record { barrier = a.barrier; depth = a.depth } };
+    ghost view = { λ a. record {
+      barrier = a.barrier;
+      depth = a.depth;
+      groups = a.groups;
+    } };
 
-    ghost inverse = { λ r. record { barrier = r.barrier; depth = r.depth } };
+    ghost inverse = { λ r. record {
+      barrier = r.barrier;
+      depth = r.depth;
+      groups = r.groups;
+    } };
 }
 
 /// What the function with a number reaches, of those that are closed. Nothing where none has it.
@@ -32,6 +41,7 @@ pub fn reach_at(above: &[Reach], f: u8) -> Reach
         None => Reach {
             barrier: false,
             depth: 0,
+            groups: 0,
         },
     }
 }
@@ -44,7 +54,8 @@ fn reaches_barrier(above: &[Reach], statement: &Stmt) -> bool
         Stmt::Call { f }
         | Stmt::Only { f, .. }
         | Stmt::Critical { f, .. }
-        | Stmt::Repeat { f, .. } => reach_at(above, *f).barrier,
+        | Stmt::Repeat { f, .. }
+        | Stmt::Taskgroup { f } => reach_at(above, *f).barrier,
         _ => false,
     }
 }
@@ -60,7 +71,23 @@ fn depth_of(above: &[Reach], statement: &Stmt) -> usize
         | Stmt::Call { f }
         | Stmt::Only { f, .. }
         | Stmt::Critical { f, .. }
-        | Stmt::Repeat { f, .. } => reach_at(above, *f).depth,
+        | Stmt::Repeat { f, .. }
+        | Stmt::Taskgroup { f } => reach_at(above, *f).depth,
+        _ => 0,
+    }
+}
+
+/// How deep a statement nests taskgroup regions of one task.
+fn group_depth_of(above: &[Reach], statement: &Stmt) -> usize
+    requires { (f : ℕ) → (reach_at above.now f).groups ≤ length above.now }
+    ensures { result ≡ group_depth_of above.now statement.now }
+{
+    match statement {
+        Stmt::Taskgroup { f } => reach_at(above, *f).groups + 1,
+        Stmt::Call { f }
+        | Stmt::Only { f, .. }
+        | Stmt::Critical { f, .. }
+        | Stmt::Repeat { f, .. } => reach_at(above, *f).groups,
         _ => 0,
     }
 }
@@ -81,6 +108,22 @@ fn greatest_depth(above: &[Reach], body: &[Stmt]) -> usize
     greatest
 }
 
+/// The greatest group depth of the statements.
+#[tactic(auto, using(crate::proofs::ReachLemmas::greatest_more))]
+fn greatest_group_depth(above: &[Reach], body: &[Stmt]) -> usize
+    requires { (f : ℕ) → (reach_at above.now f).groups ≤ length above.now }
+    ensures { result ≡ greatest (map (group_depth_of above.now) body.now) }
+{
+    let mut greatest = 0;
+    for statement in body {
+        let depth = group_depth_of(above, statement);
+        if greatest < depth {
+            greatest = depth;
+        }
+    }
+    greatest
+}
+
 fn any_barrier(above: &[Reach], body: &[Stmt]) -> bool
     ensures { result ≡ list_any (reaches_barrier above.now) body.now }
 {
@@ -90,11 +133,13 @@ fn any_barrier(above: &[Reach], body: &[Stmt]) -> bool
 /// What a function with these statements reaches, from what those above it reach. None is deeper
 /// than there are functions, so that each depth fits.
 pub fn reach_of(above: &[Reach], body: &[Stmt]) -> Reach
-    requires { (f : ℕ) → (reach_at above.now f).depth ≤ length above.now }
+    requires depth { (f : ℕ) → (reach_at above.now f).depth ≤ length above.now }
+    requires groups { (f : ℕ) → (reach_at above.now f).groups ≤ length above.now }
     ensures { result ≡ reach_of above.now body.now }
 {
     Reach {
         barrier: any_barrier(above, body),
         depth: greatest_depth(above, body),
+        groups: greatest_group_depth(above, body),
     }
 }

@@ -45,6 +45,10 @@ pub enum Stmt {
         k: u8,
         f: u8,
     },
+    /// A taskgroup region over `f`.
+    Taskgroup {
+        f: u8,
+    },
     /// A plain call of `f`.
     Call {
         f: u8,
@@ -78,6 +82,8 @@ pub enum Construct {
     Task { undeferred: bool, is_final: bool },
     /// `critical K F`
     Critical { k: u8 },
+    /// `taskgroup F`
+    Taskgroup,
     /// `call F`
     Call,
     /// `only M F`
@@ -102,6 +108,7 @@ impl Construct {
                 is_final,
             },
             Construct::Critical { k } => Stmt::Critical { k, f },
+            Construct::Taskgroup => Stmt::Taskgroup { f },
             Construct::Call => Stmt::Call { f },
             Construct::Only { m } => Stmt::Only { m, f },
             Construct::Repeat { n } => Stmt::Repeat { n, f },

@@ -6,6 +6,7 @@ ghost use Rattle.omi_script.specs.SaidFaults.{has_statement_fault};
 use crate::limits::{MAX_DEPTH, MAX_STATEMENTS};
 use crate::reach::{Reach, reach_at};
 use crate::{Stmt, Why};
+use omi_numbers::OPEN_GROUPS;
 
 fn is_task_with_barrier(above: &[Reach], statement: &Stmt) -> bool
     ensures { result ≡ is_task_with_barrier above.now statement.now }
@@ -20,7 +21,9 @@ fn nests_barrier(above: &[Reach], statement: &Stmt) -> bool
     ensures { result ≡ nests_barrier above.now statement.now }
 {
     match statement {
-        Stmt::Only { f, .. } | Stmt::Critical { f, .. } => reach_at(above, *f).barrier,
+        Stmt::Only { f, .. } | Stmt::Critical { f, .. } | Stmt::Taskgroup { f } => reach_at(
+            above, *f,
+        ).barrier,
         _ => false,
     }
 }
@@ -30,6 +33,7 @@ fn is_too_deep(above: &[Reach], statement: &Stmt) -> bool
 {
     match statement {
         Stmt::Parallel { f, .. } => reach_at(above, *f).depth >= MAX_DEPTH,
+        Stmt::Taskgroup { f } => reach_at(above, *f).groups >= OPEN_GROUPS as usize,
         _ => false,
     }
 }

@@ -1,6 +1,6 @@
 //! Statements: what each line says, by the words behind the first.
 ghost use Rattle.std.specs.Prelude.{◌≡◌, ◌∷◌, []};
-ghost use Rattle.omi_script.specs.StatementLines.{parallel_line, task_construct, task_construct_line, bare_line, critical_line, call_line, only_line, repeat_line, set_num_threads_line, set_dynamic_line, set_max_active_line, set_schedule_line, set_device_line, tool_line, set_line, statement_line};
+ghost use Rattle.omi_script.specs.StatementLines.{parallel_line, task_construct, task_construct_line, bare_line, critical_line, group_line, call_line, only_line, repeat_line, set_num_threads_line, set_dynamic_line, set_max_active_line, set_schedule_line, set_device_line, tool_line, set_line, statement_line};
 
 use crate::Stmt;
 use crate::head_lines::schedule;
@@ -115,6 +115,17 @@ fn critical<'a>(words: &mut Words<'a>) -> Option<SourceLine<'a>>
             let construct = number_u8(k, 0, MAX_LOCK).map(|k| Construct::Critical { k });
             Some(SourceLine::Construct(Word::new(f), construct))
         }
+        Some(_) => None,
+    }
+}
+
+/// `taskgroup F`
+fn group<'a>(words: &mut Words<'a>) -> Option<SourceLine<'a>>
+    ensures { result ≡ group_line words.old }
+{
+    let f = words.next()?;
+    match words.next() {
+        None => Some(SourceLine::Construct(Word::new(f), Some(Construct::Taskgroup))),
         Some(_) => None,
     }
 }
@@ -269,6 +280,8 @@ pub fn statement<'a>(first: &[u8], words: &mut Words<'a>) -> Option<SourceLine<'
         bare(Stmt::Work, words)
     } else if first == b"critical".as_slice() {
         critical(words)
+    } else if first == b"taskgroup".as_slice() {
+        group(words)
     } else if first == b"call".as_slice() {
         call(words)
     } else if first == b"only".as_slice() {

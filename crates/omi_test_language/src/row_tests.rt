@@ -174,7 +174,7 @@ fn head_rows(rt: HostRuntime) -> Result<(), Fail> {
 }
 
 /// Each statement, with its numbers at the ends of the ranges.
-const STATEMENTS: [&str; 35] = [
+const STATEMENTS: [&str; 36] = [
     "parallel f",
     "parallel f num 1",
     "parallel f num 64",
@@ -191,6 +191,7 @@ const STATEMENTS: [&str; 35] = [
     "work",
     "critical 0 f",
     "critical 7 f",
+    "taskgroup f",
     "call f",
     "only 0 f",
     "only 63 f",
@@ -242,7 +243,7 @@ const STATEMENT_NUMBERS: [&str; 25] = [
 ];
 
 /// No statements, by their first word, their count of words or their fixed words.
-const NO_STATEMENTS: [&str; 42] = [
+const NO_STATEMENTS: [&str; 45] = [
     "work 1",
     "Work",
     "taskwait f",
@@ -263,6 +264,9 @@ const NO_STATEMENTS: [&str; 42] = [
     "task f final 1 if 0",
     "task f final 1 final 1",
     "task f if 0 final 1 work",
+    "taskgroup",
+    "taskgroup f f",
+    "taskgroup 0 f",
     "call",
     "call f f",
     "critical f",
@@ -288,7 +292,7 @@ const NO_STATEMENTS: [&str; 42] = [
 ];
 
 /// Statements over a function that is not there.
-const NO_FUNCTIONS: [&str; 11] = [
+const NO_FUNCTIONS: [&str; 12] = [
     "parallel g",
     "parallel g num 4",
     "task g",
@@ -296,6 +300,7 @@ const NO_FUNCTIONS: [&str; 11] = [
     "task g final 1",
     "task g if 0 final 1",
     "critical 0 g",
+    "taskgroup g",
     "call g",
     "call 9",
     "only 0 g",
@@ -343,6 +348,9 @@ fn barrier_rows(rt: HostRuntime) -> Result<(), Fail> {
         "critical 0 direct",
         "critical 0 called",
         "critical 7 repeated",
+        "taskgroup direct",
+        "taskgroup called",
+        "taskgroup repeated",
     ];
     over_barriers(&rt, alloc, Some(Why::BarrierNested), &lines)?;
     let lines = [
@@ -354,6 +362,7 @@ fn barrier_rows(rt: HostRuntime) -> Result<(), Fail> {
         "task forked",
         "only 0 forked",
         "critical 0 forked",
+        "taskgroup forked",
         "call forked",
     ];
     over_barriers(&rt, alloc, None, &lines)?;
@@ -432,6 +441,18 @@ const REPEATED: [(u32, &str); 13] = [
 
 const BARRIER_IN_TASK: [(u32, &str); 1] = [(5, "func b\nbarrier\nend\nfunc c\ntask b\nonly 0 b\n")];
 
+const BARRIER_NESTED: [(u32, &str); 1] = [(
+    5,
+    "func b\nbarrier\nend\nfunc main\ntaskgroup b\nend\n",
+)];
+
+/// Taskgroup regions of one task that are nested a fifth time.
+const OVER_LIMIT: [(u32, &str); 1] = [(
+    17,
+    "func g0\nwork\nend\nfunc g1\ntaskgroup g0\nend\nfunc g2\ntaskgroup g1\nend\nfunc g3\ntaskgroup g2\nend\n\
+    func g4\ntaskgroup g3\nend\nfunc g5\ntaskgroup g4\nend\n",
+)];
+
 const NO_MAIN: [(u32, &str); 10] = [
     (1, ""),
     (2, "\n"),
@@ -477,6 +498,8 @@ fn text_rows(rt: HostRuntime) {
     refuse_all(&rt, alloc, Why::UnknownName, &UNKNOWN_NAME);
     refuse_all(&rt, alloc, Why::Repeated, &REPEATED);
     refuse_all(&rt, alloc, Why::BarrierInTask, &BARRIER_IN_TASK);
+    refuse_all(&rt, alloc, Why::BarrierNested, &BARRIER_NESTED);
+    refuse_all(&rt, alloc, Why::OverLimit, &OVER_LIMIT);
     refuse_all(&rt, alloc, Why::NoMain, &NO_MAIN);
     refuse_all(&rt, alloc, Why::Unclosed, &UNCLOSED);
     for text in ACCEPTED {

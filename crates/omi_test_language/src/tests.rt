@@ -14,14 +14,14 @@ const CANONICAL: [(&str, &str); 6] = [
         "threads 16\nenv num_threads 4,2\nenv dynamic true\nenv max_active_levels 3\nenv schedule guided,7\n\
          env device 1\nenv debug disabled\nenv procs 8\nfunc leaf\n  work\nend\nfunc main\n  parallel leaf\n  \
          parallel leaf num 4\n  task leaf\n  task leaf if 0\n  task leaf final 1\n  task leaf if 0 final 1\n  \
-         taskwait\n  taskyield\n  barrier\n  critical 7 leaf\n  call leaf\n  only 63 leaf\n  repeat 1000 leaf\n  \
+         taskwait\n  taskyield\n  barrier\n  critical 7 leaf\n  taskgroup leaf\n  call leaf\n  only 63 leaf\n  repeat 1000 leaf\n  \
          set_num_threads 64\n  set_dynamic 1\n  set_max_active_levels 255\n  set_schedule auto 65535\n  \
          set_default_device 255\n  tool 18446744073709551615\n  work\n\
          end\n",
         "threads 16\nenv num_threads 4,2\nenv dynamic true\nenv max_active_levels 3\nenv schedule guided,7\n\
          env device 1\nenv debug disabled\nenv procs 8\nfunc leaf\n  work\nend\nfunc main\n  parallel leaf\n  \
          parallel leaf num 4\n  task leaf\n  task leaf if 0\n  task leaf final 1\n  task leaf if 0 final 1\n  \
-         taskwait\n  taskyield\n  barrier\n  critical 7 leaf\n  call leaf\n  only 63 leaf\n  repeat 1000 leaf\n  \
+         taskwait\n  taskyield\n  barrier\n  critical 7 leaf\n  taskgroup leaf\n  call leaf\n  only 63 leaf\n  repeat 1000 leaf\n  \
          set_num_threads 64\n  set_dynamic 1\n  set_max_active_levels 255\n  set_schedule auto 65535\n  \
          set_default_device 255\n  tool 18446744073709551615\n  work\n\
          end\n",
@@ -206,7 +206,14 @@ fn counts(rt: HostRuntime) -> Result<(), Fail> {
 }
 
 /// Statements that are as deep as the function that they name.
-const AS_DEEP: [&str; 5] = ["call", "task", "only 0", "critical 0", "repeat 0"];
+const AS_DEEP: [&str; 6] = [
+    "call",
+    "task",
+    "only 0",
+    "critical 0",
+    "repeat 0",
+    "taskgroup",
+];
 
 #[test]
 fn depths(rt: HostRuntime) -> Result<(), Fail> {
@@ -218,6 +225,31 @@ fn depths(rt: HostRuntime) -> Result<(), Fail> {
         let last = format!(in alloc; "{last}\nend\nfunc over\nparallel main num 2")?;
         let text = functions(alloc, "parallel f", MAX_DEPTH, &last)?;
         refuses(&rt, alloc, text.as_bytes(), 52, Why::OverLimit, word);
+    }
+    Ok(())
+}
+
+/// Statements whose taskgroup regions are as deep as those of the function that they name.
+const AS_DEEP_IN_GROUPS: [&str; 4] = ["call", "only 0", "critical 0", "repeat 0"];
+
+/// Statements over a function whose taskgroup regions are those of other tasks.
+const OF_OTHER_TASKS: [&str; 2] = ["task", "parallel"];
+
+#[test]
+fn group_depths(rt: HostRuntime) -> Result<(), Fail> {
+    let alloc = rt.alloc();
+    for word in AS_DEEP_IN_GROUPS {
+        let last = format!(in alloc; "{word} f4")?;
+        let text = functions(alloc, "taskgroup f", 4, &last)?;
+        accepts(&rt, alloc, text.as_bytes(), word);
+        let last = format!(in alloc; "{last}\nend\nfunc over\ntaskgroup main")?;
+        let text = functions(alloc, "taskgroup f", 4, &last)?;
+        refuses(&rt, alloc, text.as_bytes(), 19, Why::OverLimit, word);
+    }
+    for word in OF_OTHER_TASKS {
+        let last = format!(in alloc; "{word} f4\nend\nfunc over\ntaskgroup main")?;
+        let text = functions(alloc, "taskgroup f", 4, &last)?;
+        accepts(&rt, alloc, text.as_bytes(), word);
     }
     Ok(())
 }

@@ -1,11 +1,15 @@
 use Rattle.std.proofs.Common.{◌++◌, ◌∷◌, [], ◌∙◌, sym, ap}
 use Rattle.omi_script.specs.Reach.{reach_of, reaches}
-use Rattle.omi_script.proofs.ReachLemmas.{shallow_closed, known_more}
+use Rattle.omi_script.proofs.ReachLemmas.{groups_shallow_closed, shallow_closed, known_more}
 use Rattle.omi_script.proofs.closed.Closed.with.Goals as goal
 
-pub reach_of-reach-requires : goal.reach_of-reach-requires
-reach_of-reach-requires c =
+pub reach_of-reach-requires-clause-depth : goal.reach_of-reach-requires-clause-depth
+reach_of-reach-requires-clause-depth c =
     shallow_closed c.self.inside.funcs c.deref.result.now (c.deref.ensures.value ∙ c.self.invariant)
+
+pub reach_of-reach-requires-clause-groups : goal.reach_of-reach-requires-clause-groups
+reach_of-reach-requires-clause-groups c =
+    groups_shallow_closed c.self.inside.funcs c.deref.result.now (c.deref.ensures.value ∙ c.self.invariant)
 
 pub invariant_of-result : goal.invariant_of-result
 invariant_of-result c =
