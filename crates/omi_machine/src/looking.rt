@@ -21,6 +21,7 @@ pub fn first_item(at: Encounter, s: Stmt) -> Item
         | Shape::Taskyield
         | Shape::Barrier
         | Shape::Critical { .. } => Item::Enter,
+        Shape::Taskgroup { .. } => Item::GroupBegin,
         Shape::Call { f } => Item::Call { f },
         Shape::Only { m, f } => {
             if at.number == m as u64 {

@@ -6,7 +6,9 @@ ghost use Rattle.omi_model.specs.Rows.{barrier_items, behind, call_items, shown,
 
 use crate::first_lists::{push_barrier, push_function, push_shown, push_working};
 use omi_model::{Encounter, Item, ItemList, Shape};
-use omi_numbers::{OVERHEAD, WAIT_BARRIER_EXPLICIT, WAIT_CRITICAL, WAIT_TASKWAIT, lock_wait};
+use omi_numbers::{
+    OVERHEAD, WAIT_BARRIER_EXPLICIT, WAIT_CRITICAL, WAIT_TASKGROUP, WAIT_TASKWAIT, lock_wait,
+};
 use omi_script::{Program, Stmt};
 use omi_word::OutOfMemory;
 
@@ -125,6 +127,21 @@ fn push_critical(
     push_shown(list, at, WAIT_CRITICAL, lock_wait(k))
 }
 
+/// Puts the row of a taskgroup construct in front.
+fn push_group(list: &mut ItemList, p: &Program, at: Encounter, f: u8) -> Result<(), OutOfMemory>
+    ensures { OnOk result (list.new ≡ behind p.now at (Stmt.Taskgroup f) list.old) }
+{
+    push_leaving(list, at)?;
+    list.push_front(Item::GroupEnd)?;
+    list.push_front(Item::Tasks {
+        state: WAIT_TASKGROUP,
+    })?;
+    push_shown(list, at, WAIT_TASKGROUP, 0)?;
+    list.push_front(Item::Enter)?;
+    push_call(list, p, f)?;
+    list.push_front(Item::Call { f })
+}
+
 /// Puts the calls of a repeated function in front, behind the event of the first.
 fn push_repeat(
     list: &mut ItemList,
@@ -162,6 +179,7 @@ pub(crate) fn push_behind(
         Shape::Taskyield => push_taskyield(list),
         Shape::Barrier => push_explicit_barrier(list, at),
         Shape::Critical { k, f } => push_critical(list, p, at, k, f),
+        Shape::Taskgroup { f } => push_group(list, p, at, f),
         Shape::Call { f } => push_call(list, p, f),
         Shape::Only { m, f } => {
             if at.number == m as u64 {

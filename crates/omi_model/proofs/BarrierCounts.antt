@@ -1,4 +1,4 @@
--- The barriers that each function of a program meets: their number is met by its statements, and `task`, `only` and `critical` name functions with none.
+-- The barriers that each function of a program meets: their number is met by its statements, and `task`, `only`, `critical` and `taskgroup` name functions with none.
 use Rattle.std.proofs.Common.{◌≡◌, ◌==◌, ℕ, zero, suc, ◌*◌, ◌<◌, ◌≤◌, ◌||◌, ◌⊎◌, inl, inr, Bool, true, false, List, [], ◌∷◌, length, slice_get, Option, Some, refl, sym, ap, ◌∙◌, arith, eq-eqb}
 use Rattle.std.specs.List.{list_any}
 use Rattle.std.specs.Option.{option_map_or}
@@ -104,6 +104,7 @@ module _ (p : Program) where
   fair_at : (f : ℕ) (s : Stmt) → HasStatement p.funcs f s → fair_stmt (barriers_of p) s ≡ true
   fair_at f (stmt.Only m g) at = none_of g (rules.no_barrier_in_only f m g at)
   fair_at f (stmt.Critical k g) at = none_of g (rules.no_barrier_in_critical f k g at)
+  fair_at f (stmt.Taskgroup g) at = none_of g (rules.no_barrier_in_group f g at)
   fair_at f (stmt.Task g undeferred final) at = none_of g (rules.no_barrier_in_task f g undeferred final at)
   fair_at f s at = refl
 

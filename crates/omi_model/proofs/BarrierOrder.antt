@@ -11,7 +11,7 @@ use Rattle.omi_model.specs.declared.item.Item.{Item}
 use Rattle.omi_model.specs.declared.item.Item.TheVariants as item
 pub use Rattle.omi_model.specs.LawBarriersLeft.{stmt_barriers, body_barriers, item_barriers, left}
 use Rattle.omi_model.specs.Lists.{fits, may_drop, stays, take_item}
-use Rattle.omi_model.specs.Rows.{barrier_items, behind, body_items, call_items, end_of_member, first_of, function_items, last_of_member, main_items, member_items, task_items, shown, working}
+use Rattle.omi_model.specs.Rows.{barrier_items, behind, body_items, call_items, end_of_group, end_of_member, first_of, function_items, last_of_member, main_items, member_items, task_items, shown, working}
 use Rattle.omi_model.proofs.ListLaws.{take_keeps}
 use Rattle.omi_model.proofs.Slots.{false_true}
 
@@ -50,10 +50,11 @@ abbrev pub order : ℕ → Phase → List Item → Bool
 order n ph [] = is_outside ph
 order n ph (x ∷ xs) = order n (next n x ph) xs
 
--- a statement that some members alone make, or that makes a task, meets no barrier
+-- a statement that some members alone make, that makes a task or that begins a group meets no barrier
 abbrev pub fair_stmt : (ℕ → ℕ) → Stmt → Bool
 fair_stmt b (stmt.Only m f) = b f == 0
 fair_stmt b (stmt.Critical k f) = b f == 0
+fair_stmt b (stmt.Taskgroup f) = b f == 0
 fair_stmt b (stmt.Task f undeferred final) = b f == 0
 fair_stmt b _ = true
 
@@ -235,6 +236,10 @@ module _ (p : Program) (b : ℕ → ℕ) (ok : IsCounted p b) where
     row_ready w (stmt.Critical k f) rest is r =
         none_more _
         (on item.Enter _ refl (shown_ready b at at.number Outside w _ (k + 1) _ (on (item.Lock k) _ refl (working_on _ (on item.Leave _ refl (quiet_call at.number f w (item.Unlock k ∷ rest) is (on (item.Unlock k) rest refl r)))))))
+    row_ready w (stmt.Taskgroup f) rest is r =
+        none_more _
+        (on item.GroupBegin _ refl (quiet_call at.number f w (end_of_group at rest) is
+        (on item.Enter _ refl (shown_ready b at at.number Outside w _ 0 _ (on (item.Tasks _) _ refl (on item.GroupEnd _ refl (working_on _ (on item.Leave rest refl r))))))))
     row_ready w (stmt.Call f) rest is r = call_row at.number f w rest r
     row_ready w (stmt.Only m f) rest is r = go (at.number == m)
       where

@@ -13,7 +13,7 @@ use Rattle.omi_model.specs.Rows.{end_of_member, main_items, member_items, shown}
 use Rattle.omi_model.specs.LawBarriersLeft.{left}
 use Rattle.omi_model.specs.Shapes.{shape_of}
 use Rattle.omi_model.proofs.ListLaws.{take_keeps}
-use Rattle.omi_model.proofs.RowLaws.{KeepsPlain, KeepsRows, critical_keeps, last_keeps, main_keeps, member_keeps, row_keeps, shown_keeps}
+use Rattle.omi_model.proofs.RowLaws.{KeepsPlain, KeepsRows, critical_keeps, group_keeps, last_keeps, main_keeps, member_keeps, row_keeps, shown_keeps}
 use Rattle.omi_model.proofs.Slots.{false_true}
 
 abbrev pub HasBehind : (ℕ → ℕ) → Item → List Item → Type 0
@@ -56,6 +56,7 @@ module _ (b : ℕ → ℕ) where
       barrier = λ state xs other h. (omega arith, (tt, (tt, (tt, h.1))));
       first_barrier = λ state xs first h. (omega arith, (tt, (tt, (tt, (tt, h.1)))));
       critical = λ k f xs h. let inner = critical_keeps (Covered b) plain_covered p at f (item.Unlock k ∷ xs) (omega (arith, h.0), (tt, h.1)) in (omega (arith, inner.0), (tt, inner.1));
+      taskgroup = λ f xs h. let inner = group_keeps (Covered b) plain_covered p at f xs (λ ys q. (omega (arith, q.0), (tt, (tt, q.1)))) h in (omega (arith, inner.0), (tt, inner.1));
     }
 
     pub take_covers : (at : Encounter) (e : Event) (xs : List Item) (y : Item) (ys : List Item)

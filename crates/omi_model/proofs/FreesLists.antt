@@ -22,7 +22,7 @@ use Rattle.omi_model.specs.State.{State}
 use Rattle.omi_model.proofs.EachObject.{EachTask, IsTaskLaw, over_events, task_step}
 use Rattle.omi_model.proofs.ListLaws.{by_taken, may_pass, passes_front, take_fits, take_keeps, takes_joined}
 use Rattle.omi_model.proofs.OpeningObjects.{each_first_task}
-use Rattle.omi_model.proofs.RowLaws.{KeepsPlain, KeepsRows, barrier_keeps, critical_keeps, drop_keeps, last_keeps, main_keeps, member_keeps, row_keeps, shown_keeps, start_keeps, task_keeps}
+use Rattle.omi_model.proofs.RowLaws.{KeepsPlain, KeepsRows, barrier_keeps, critical_keeps, drop_keeps, group_keeps, last_keeps, main_keeps, member_keeps, row_keeps, shown_keeps, start_keeps, task_keeps}
 use Rattle.omi_model.proofs.Slots.{false_true, some_same}
 use Rattle.omi_model.proofs.Steps.{IsRelisted}
 
@@ -44,6 +44,7 @@ module _ (p : Program) where
     barrier = λ state xs other h. h;
     first_barrier = λ state xs first h. h;
     critical = λ k f xs h. critical_keeps HasNoFrees plain_frees p at f (item.Unlock k ∷ xs) h;
+    taskgroup = λ f xs h. group_keeps HasNoFrees plain_frees p at f xs (λ ys q. q) h;
   }
 
   take_frees : (at : Encounter) (e : Event) (xs : List Item) (y : Item) (ys : List Item)

@@ -12,7 +12,7 @@ use Rattle.omi_model.specs.Rows.{last_of_member, main_items, member_items, task_
 use Rattle.omi_model.specs.Shapes.{shape_of}
 use Rattle.omi_model.proofs.EachObject.{start_list}
 use Rattle.omi_model.proofs.ListLaws.{take_keeps}
-use Rattle.omi_model.proofs.RowLaws.{KeepsPlain, KeepsRows, barrier_keeps, critical_keeps, drop_keeps, main_keeps, member_keeps, row_keeps, shown_keeps, start_keeps, task_keeps}
+use Rattle.omi_model.proofs.RowLaws.{KeepsPlain, KeepsRows, barrier_keeps, critical_keeps, drop_keeps, group_keeps, main_keeps, member_keeps, row_keeps, shown_keeps, start_keeps, task_keeps}
 use Rattle.omi_model.proofs.Slots.{false_true}
 
 -- nothing stands behind a closing item, and it may be this one
@@ -41,6 +41,7 @@ module _ (May : Item → Type 0) where
       barrier = λ state xs other h. h;
       first_barrier = λ state xs first h. h;
       critical = λ k f xs h. critical_keeps (Closes May) plain_closes p at f (item.Unlock k ∷ xs) h;
+      taskgroup = λ f xs h. group_keeps (Closes May) plain_closes p at f xs (λ ys q. q) h;
     }
 
     pub take_closes : (at : Encounter) (e : Event) (xs : List Item) (y : Item) (ys : List Item)

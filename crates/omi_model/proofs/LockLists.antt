@@ -13,7 +13,7 @@ use Rattle.omi_model.specs.Rows.{call_items, main_items, member_items, task_item
 use Rattle.omi_model.specs.Shapes.{shape_of}
 use Rattle.omi_model.proofs.EachObject.{start_list}
 use Rattle.omi_model.proofs.ListLaws.{take_keeps}
-use Rattle.omi_model.proofs.RowLaws.{KeepsPlain, KeepsRows, barrier_keeps, critical_keeps, drop_keeps, last_keeps, main_keeps, member_keeps, row_keeps, shown_keeps, start_keeps, task_keeps}
+use Rattle.omi_model.proofs.RowLaws.{KeepsPlain, KeepsRows, barrier_keeps, critical_keeps, drop_keeps, group_keeps, last_keeps, main_keeps, member_keeps, row_keeps, shown_keeps, start_keeps, task_keeps}
 use Rattle.omi_model.proofs.Slots.{false_true}
 
 -- a list gives back lock k so many times more
@@ -53,6 +53,7 @@ module _ (k w : ℕ) (p : Program) where
     barrier = λ state xs other h. h;
     first_barrier = λ state xs first h. h;
     critical = critical_back at;
+    taskgroup = λ f xs h. group_keeps (Gives k w) (plain_back k w) p at f xs (λ ys q. q) h;
   }
 
   pub take_back : (at : Encounter) (e : Event) (xs : List Item) (y : Item) (ys : List Item)

@@ -1,6 +1,6 @@
 -- Rows keep a law of lists: where the law holds of a list, it holds with a row, a body or a call in front of it, and of the lists with which tasks begin.
 use Rattle.std.proofs.Common.{◌≡◌, ◌==◌, ℕ, zero, suc, ◌+◌, ◌||◌, Bool, true, false, List, [], ◌∷◌, Option, if◌then◌else◌, refl}
-use Rattle.omi_numbers.specs.declared.states.TheConstants.{OVERHEAD, WAIT_BARRIER_EXPLICIT, WAIT_CRITICAL, WAIT_TASKWAIT}
+use Rattle.omi_numbers.specs.declared.states.TheConstants.{OVERHEAD, WAIT_BARRIER_EXPLICIT, WAIT_CRITICAL, WAIT_TASKGROUP, WAIT_TASKWAIT}
 use Rattle.omi_script.specs.Bodies.{body_of}
 use Rattle.omi_script.specs.declared.program.Program.{Program}
 use Rattle.omi_script.specs.declared.statement.Stmt.{Stmt}
@@ -11,7 +11,7 @@ use Rattle.omi_model.specs.declared.item.Item.TheVariants as item
 use Rattle.omi_model.specs.declared.shape.Shape.{Shape}
 use Rattle.omi_model.specs.declared.shape.Shape.TheVariants as shape
 use Rattle.omi_model.specs.Lists.{may_drop}
-use Rattle.omi_model.specs.Rows.{barrier_items, body_items, call_items, end_of_member, first_item, items_behind, last_of_member, main_items, member_items, task_items, shown, work_state, working}
+use Rattle.omi_model.specs.Rows.{barrier_items, body_items, call_items, end_of_group, end_of_member, first_item, items_behind, last_of_member, main_items, member_items, task_items, shown, work_state, working}
 use Rattle.omi_model.proofs.EachObject.{start_list}
 use Rattle.omi_model.proofs.Slots.{false_true}
 use Rattle.omi_model.specs.declared.freeable.Freeable.{Freeable}
@@ -73,6 +73,16 @@ module _ (P : List Item → Type 0) (plain : KeepsPlain P) where
         → P (working at (item.Leave ∷ item.Call f ∷ call_items p f xs))
     critical_keeps at f xs h = leaving_keeps at (item.Call f ∷ call_items p f xs) (call_keeps f xs h)
 
+    -- and those of `taskgroup`, behind the beginning of the group
+    pub group_keeps : (at : Encounter) (f : ℕ) (xs : List Item)
+        → ((ys : List Item) → P ys → P (item.Tasks WAIT_TASKGROUP ∷ item.GroupEnd ∷ ys)) → P xs
+        → P (item.Call f ∷ call_items p f (end_of_group at xs))
+    group_keeps at f xs ends h =
+        call_keeps f (end_of_group at xs)
+        (plain item.Enter (shown at WAIT_TASKGROUP 0 (item.Tasks WAIT_TASKGROUP ∷ item.GroupEnd ∷ working at (item.Leave ∷ xs))) refl
+        (shown_keeps at WAIT_TASKGROUP 0 (item.Tasks WAIT_TASKGROUP ∷ item.GroupEnd ∷ working at (item.Leave ∷ xs))
+        (ends (working at (item.Leave ∷ xs)) (leaving_keeps at xs h))))
+
     pub task_keeps : (f : ℕ) → P (item.Finish ∷ []) → P (task_items p f)
     task_keeps f h = body_keeps (body_of p.funcs f) (item.Finish ∷ []) h
 
@@ -96,6 +106,8 @@ pub record KeepsRows (p : Program) (at : Encounter) (P : List Item → Type 0) :
       → P (item.Arrive ∷ item.Tasks state ∷ item.Release ∷ item.Pass ∷ xs)
   pub critical : (k f : ℕ) (xs : List Item) → P xs
       → P (item.Lock k ∷ working at (item.Leave ∷ item.Call f ∷ call_items p f (item.Unlock k ∷ xs)))
+  pub taskgroup : (f : ℕ) (xs : List Item) → P xs
+      → P (item.GroupBegin ∷ item.Call f ∷ call_items p f (end_of_group at xs))
 
 module _ (p : Program) (at : Encounter) (P : List Item → Type 0) (keeps : KeepsRows p at P) where
   pub barrier_keeps : (state : ℕ) (xs : List Item) → P xs → P (barrier_items at state xs)
@@ -146,6 +158,7 @@ module _ (p : Program) (at : Encounter) (P : List Item → Type 0) (keeps : Keep
       waiting WAIT_CRITICAL (k + 1)
       (item.Lock k ∷ working at (item.Leave ∷ item.Call f ∷ call_items p f (item.Unlock k ∷ xs)))
       (keeps.critical k f xs h)
+  row_keeps (shape.Taskgroup f) xs h = keeps.taskgroup f xs h
   row_keeps (shape.Call f) xs h = call_keeps P keeps.plain p f xs h
   row_keeps (shape.Only m f) xs h = go (at.number == m)
     where

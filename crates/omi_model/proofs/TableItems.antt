@@ -16,9 +16,9 @@ use Rattle.omi_model.specs.declared.shape.Shape.{Shape}
 use Rattle.omi_model.specs.declared.shape.Shape.TheVariants as shape
 use Rattle.omi_model.specs.Lists.{stays, take_item}
 use Rattle.omi_numbers.specs.declared.variables.TheConstants.{DYN_VAR, DEFAULT_DEVICE_VAR, MAX_ACTIVE_LEVELS_VAR, NTHREADS_VAR, RUN_SCHED_VAR}
-use Rattle.omi_numbers.specs.declared.states.TheConstants.{IDLE, OVERHEAD, WAIT_BARRIER_EXPLICIT, WAIT_BARRIER_IMPLICIT_PARALLEL, WAIT_CRITICAL, WAIT_TASKWAIT}
+use Rattle.omi_numbers.specs.declared.states.TheConstants.{IDLE, OVERHEAD, WAIT_BARRIER_EXPLICIT, WAIT_BARRIER_IMPLICIT_PARALLEL, WAIT_CRITICAL, WAIT_TASKGROUP, WAIT_TASKWAIT}
 use Rattle.omi_numbers.specs.States.{state_numbers}
-use Rattle.omi_model.specs.Rows.{barrier_items, body_items, call_items, end_of_member, last_of_member, main_items, member_items, task_items, worker_items, shown, work_state, working, first_item, items_behind}
+use Rattle.omi_model.specs.Rows.{barrier_items, body_items, call_items, end_of_group, end_of_member, last_of_member, main_items, member_items, task_items, worker_items, shown, work_state, working, first_item, items_behind}
 use Rattle.omi_model.specs.Shapes.{shape_of}
 use Rattle.omi_model.proofs.ListLaws.{take_keeps}
 
@@ -139,6 +139,11 @@ module _ (p : Program) where
         (in_table WAIT_CRITICAL 6 (omega arith) refl)
         (tt, working_right at (item.Leave ∷ item.Call f ∷ call_items p f (item.Unlock k ∷ rest)) (tt, (tt, call_right f (item.Unlock k ∷ rest) (tt, h)))),
   )
+  row_right at (shape.Taskgroup f) rest (is, h) =
+      let wait = in_table WAIT_TASKGROUP 5 (omega arith) refl in
+      let ends : AreRight (end_of_group at rest) =
+      (tt, shown_right at WAIT_TASKGROUP 0 (item.Tasks WAIT_TASKGROUP ∷ item.GroupEnd ∷ working at (item.Leave ∷ rest)) wait (wait, (tt, working_right at (item.Leave ∷ rest) (tt, h)))) in
+      (tt, (tt, call_right f (end_of_group at rest) ends))
   row_right at (shape.Call f) rest (is, h) = (tt, call_right f rest h)
   row_right at (shape.Only m f) rest (is, h) = go (at.number == m)
     where

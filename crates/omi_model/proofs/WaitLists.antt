@@ -14,7 +14,7 @@ use Rattle.omi_model.specs.Rows.{main_items, member_items, task_items}
 use Rattle.omi_model.specs.Shapes.{shape_of}
 use Rattle.omi_model.proofs.EachObject.{start_list}
 use Rattle.omi_model.proofs.ListLaws.{take_keeps}
-use Rattle.omi_model.proofs.RowLaws.{KeepsPlain, KeepsRows, barrier_keeps, critical_keeps, drop_keeps, last_keeps, main_keeps, member_keeps, row_keeps, shown_keeps, start_keeps, task_keeps}
+use Rattle.omi_model.proofs.RowLaws.{KeepsPlain, KeepsRows, barrier_keeps, critical_keeps, drop_keeps, group_keeps, last_keeps, main_keeps, member_keeps, row_keeps, shown_keeps, start_keeps, task_keeps}
 use Rattle.omi_model.proofs.Slots.{false_true}
 
 -- each wait for tasks is a taskwait or that of a taskgroup, or stands between an arrival and its pass
@@ -37,6 +37,7 @@ module _ (p : Program) where
     barrier = λ state xs other h. (inr (inr refl), h);
     first_barrier = λ state xs first h. (inr (inr refl), h);
     critical = λ k f xs h. critical_keeps Waits plain_waits p at f (item.Unlock k ∷ xs) h;
+    taskgroup = λ f xs h. group_keeps Waits plain_waits p at f xs (λ ys q. (inr (inl refl), q)) h;
   }
 
   pub take_waits : (at : Encounter) (e : Event) (xs : List Item) (y : Item) (ys : List Item)

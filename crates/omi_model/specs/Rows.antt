@@ -8,7 +8,7 @@ use Rattle.omi_script.specs.declared.statement.Stmt.TheVariants as stmt
 use Rattle.omi_model.specs.declared.encounter.Encounter.{Encounter}
 use Rattle.omi_model.specs.declared.item.Item.{Item}
 use Rattle.omi_model.specs.declared.item.Item.TheVariants as item
-use Rattle.omi_numbers.specs.declared.states.TheConstants.{WORK_SERIAL, WORK_PARALLEL, WAIT_BARRIER_IMPLICIT_PARALLEL, WAIT_BARRIER_EXPLICIT, WAIT_TASKWAIT, WAIT_CRITICAL, OVERHEAD}
+use Rattle.omi_numbers.specs.declared.states.TheConstants.{WORK_SERIAL, WORK_PARALLEL, WAIT_BARRIER_IMPLICIT_PARALLEL, WAIT_BARRIER_EXPLICIT, WAIT_TASKWAIT, WAIT_TASKGROUP, WAIT_CRITICAL, OVERHEAD}
 use Rattle.omi_model.specs.declared.shape.Shape.{Shape}
 use Rattle.omi_model.specs.declared.shape.Shape.TheVariants as shape
 use Rattle.omi_model.specs.Shapes.{shape_of}
@@ -50,6 +50,12 @@ end_of_member at rest = barrier_items at WAIT_BARRIER_IMPLICIT_PARALLEL rest
 abbrev pub call_items : Program → ℕ → List Item → List Item
 call_items p f rest = function_items p f (item.Ret ∷ rest)
 
+-- the end of a taskgroup region: the task waits for the members of its group
+abbrev pub end_of_group : Encounter → List Item → List Item
+end_of_group at rest =
+    item.Enter ∷ shown at WAIT_TASKGROUP 0
+    (item.Tasks WAIT_TASKGROUP ∷ item.GroupEnd ∷ working at (item.Leave ∷ rest))
+
 -- ---- rows
 
 -- the first item of a row, by the shape of the statement
@@ -60,6 +66,7 @@ first_item at shape.Taskwait = item.Enter
 first_item at shape.Taskyield = item.Enter
 first_item at shape.Barrier = item.Enter
 first_item at (shape.Critical k f) = item.Enter
+first_item at (shape.Taskgroup f) = item.GroupBegin
 first_item at (shape.Call f) = item.Call f
 first_item at (shape.Only m f) = if at.number == m then item.Call f else item.Skip
 first_item at (shape.Repeat zero f) = item.Skip
@@ -85,6 +92,7 @@ items_behind p at (shape.Critical k f) rest =
     shown at WAIT_CRITICAL (lock_wait k)
     (item.Lock k
     ∷ working at (item.Leave ∷ item.Call f ∷ call_items p f (item.Unlock k ∷ rest)))
+items_behind p at (shape.Taskgroup f) rest = item.Call f ∷ call_items p f (end_of_group at rest)
 items_behind p at (shape.Call f) rest = call_items p f rest
 items_behind p at (shape.Only m f) rest = if at.number == m then call_items p f rest else rest
 items_behind p at (shape.Repeat zero f) rest = rest

@@ -15,6 +15,7 @@ shape_of stmt.Taskwait = shape.Taskwait
 shape_of stmt.Taskyield = shape.Taskyield
 shape_of stmt.Barrier = shape.Barrier
 shape_of (stmt.Critical k f) = shape.Critical k f
+shape_of (stmt.Taskgroup f) = shape.Taskgroup f
 shape_of (stmt.Call f) = shape.Call f
 shape_of (stmt.Only m f) = shape.Only m f
 shape_of (stmt.Repeat n f) = shape.Repeat n f

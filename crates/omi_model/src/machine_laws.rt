@@ -9,7 +9,7 @@ ghost use Rattle.omi_model.specs.LawClaims.{AsksAreInOrder, ClaimsAreKept};
 ghost use Rattle.omi_model.specs.LawEncounters.{RegionsAreEncountered};
 ghost use Rattle.omi_model.specs.LawEnds.{RegionsEndAlone};
 ghost use Rattle.omi_model.specs.LawFreeing.{FinishedMayBeFreed, JoinedMayBeFreed, RegionsAreFreed};
-ghost use Rattle.omi_model.specs.LawGroups.{FinishedGroupsStay, GroupsAreRight};
+ghost use Rattle.omi_model.specs.LawGroups.{FinishedGroupsStay, GroupsAreRight, GroupsMayBegin};
 ghost use Rattle.omi_model.specs.LawJoins.{JoinsComeLast};
 ghost use Rattle.omi_model.specs.LawLevels.{LevelsCountRegions};
 ghost use Rattle.omi_model.specs.LawLineage.{TasksHaveLineage};
@@ -172,9 +172,10 @@ pub fn regions_are_encountered()
 
 /// A task has at most four groups open, as many as its list has to end, and none unless it has begun and not finished; the owner
 /// of a task's group is a live task of its region that has begun, and while the task isn't finished its group is open. A group
-/// whose members have all finished gets no other one but by its owner.
+/// whose members have all finished gets no other one but by its owner. Where a list allows a group to begin, there is room for it.
 pub fn groups_are_right()
     ensures right { GroupsAreRight }
+    ensures begin { GroupsMayBegin }
     ensures finished { FinishedGroupsStay }
 {}
 

@@ -27,6 +27,9 @@ pub enum Shape {
         k: u8,
         f: u8,
     },
+    Taskgroup {
+        f: u8,
+    },
     Call {
         f: u8,
     },
@@ -68,6 +71,7 @@ impl Shape {
             Stmt::Taskyield => Shape::Taskyield,
             Stmt::Barrier => Shape::Barrier,
             Stmt::Critical { k, f } => Shape::Critical { k, f },
+            Stmt::Taskgroup { f } => Shape::Taskgroup { f },
             Stmt::Call { f } => Shape::Call { f },
             Stmt::Only { m, f } => Shape::Only { m, f },
             Stmt::Repeat { n, f } => Shape::Repeat { n, f },

@@ -2,9 +2,10 @@
 
 use crate::read_events::event;
 use crate::worked_rows::{
-    A_CONTESTED_WORKER, A_FREED_REGION, A_FULL_ROW_OF_SLOTS, A_LIST_WITH_A_CHANGED_HEAD,
-    A_REGION_IN_ANOTHER, A_TASK_THAT_IS_LEFT, ALL, AN_ENDED_ANCESTOR, LIMIT_OF_ACTIVE_LEVELS,
-    NESTED_CHAIN, Row, TOO_FEW_THREADS, Version, WAITS_AND_A_LOCK,
+    A_CONTESTED_WORKER, A_FREED_REGION, A_FULL_ROW_OF_SLOTS, A_GROUP_IN_A_GROUP,
+    A_GROUPS_DESCENDANTS, A_LIST_WITH_A_CHANGED_HEAD, A_REGION_IN_ANOTHER, A_TASK_THAT_IS_LEFT,
+    ALL, AN_ENDED_ANCESTOR, LIMIT_OF_ACTIVE_LEVELS, NESTED_CHAIN, Row, TOO_FEW_THREADS, Version,
+    WAITS_AND_A_LOCK,
 };
 use omi_machine::{State, after, opening};
 use omi_machine_legal::legal;
@@ -151,6 +152,8 @@ fn each_row(rt: HostRuntime) -> Result<(), Fail> {
         &A_FREED_REGION,
         &A_TASK_THAT_IS_LEFT,
         &A_REGION_IN_ANOTHER,
+        &A_GROUPS_DESCENDANTS,
+        &A_GROUP_IN_A_GROUP,
     ] {
         expect(&rt, rt.alloc(), row)?;
     }

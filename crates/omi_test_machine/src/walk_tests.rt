@@ -14,7 +14,7 @@ use std::alloc::Global;
 use std::test::Fail;
 
 /// Programs of every statement. Critical regions contain no waits, so that no walk is stuck.
-const SCRIPTS: [&str; 8] = [
+const SCRIPTS: [&str; 9] = [
     "threads 2\nfunc w\nwork\nend\nfunc a\ntask w\ntask w final 1\ntaskwait\ntaskyield\nend\nfunc main\nparallel a\ntask a\ntaskwait\nend\n",
     "threads 3\nfunc w\nwork\nend\nfunc c\ncritical 0 w\ncritical 3 w\nend\nfunc b\nbarrier\nonly 0 c\nrepeat 3 w\nbarrier\ncall c\nend\nfunc main\nparallel b num 3\nend\n",
     "threads 4\nenv num_threads 3,2\nfunc w\nwork\nend\nfunc m\nparallel w\nset_num_threads 2\nparallel w num 4\nend\nfunc main\nparallel m\nend\n",
@@ -23,6 +23,7 @@ const SCRIPTS: [&str; 8] = [
     "threads 2\nfunc w\nwork\nend\nfunc f\ntask w\ntask w if 0\ntaskyield\nend\nfunc main\ntask f\ntask f final 1\ntask w\ntask w\ntask w\ntask w\ntask w\ntask f if 0\nend\n",
     "threads 3\nfunc w\nwork\nend\nfunc h\nparallel w num 2\nend\nfunc g\ntask h\nonly 1 h\ntaskyield\nend\nfunc main\nparallel g num 2\nend\n",
     "threads 3\nfunc w\nwork\nend\nfunc t\ntask w\nend\nfunc c\ncritical 1 t\nrepeat 2 t\ncritical 7 w\nend\nfunc main\nparallel c\nend\n",
+    "threads 3\nfunc w\nwork\nend\nfunc t\ntask w\ntask w\nend\nfunc g\ntask t\ntaskgroup t\ntask w if 0\nend\nfunc m\ntask w\ntaskgroup g\ntaskwait\nend\nfunc main\nparallel m num 2\ntaskgroup t\nend\n",
 ];
 
 /// Events that are proposed, each of a thread.
@@ -226,6 +227,8 @@ fn event_of(x: Item) -> Option<Event> {
         Item::Release => Some(Event::Release),
         Item::Pass => Some(Event::Pass),
         Item::WaitDone => Some(Event::WaitDone),
+        Item::GroupBegin => Some(Event::GroupBegin),
+        Item::GroupEnd => Some(Event::GroupEnd),
         Item::Yield => Some(Event::Yield),
         Item::Set { icv, value } => Some(Event::Set { icv, value }),
         Item::SetTool { x } => Some(Event::SetTool { x }),
@@ -399,7 +402,7 @@ fn two_thousand_walks(rt: HostRuntime) -> Result<(), Fail> {
     };
     let mut events = 0usize;
     for n in 0..2000 {
-        let p = parse(alloc, SCRIPTS[n % 8].as_bytes())?;
+        let p = parse(alloc, SCRIPTS[n % 9].as_bytes())?;
         match walk(alloc, &p, &contexts, &mut dice, &mut counts)? {
             Some(more) => events = events.saturating_add(more),
             None => assert!(rt; false, "walk {n}"),

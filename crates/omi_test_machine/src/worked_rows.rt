@@ -482,3 +482,55 @@ pub const A_REGION_IN_ANOTHER: Row = Row {
     lawful: &[],
     reported: &[],
 };
+
+/// A group's descendants.
+pub const A_GROUPS_DESCENDANTS: Row = Row {
+    script: "threads 1\nfunc b\nwork\nend\nfunc a\ntask b\nend\nfunc g\ntask a\nend\nfunc main\ntaskgroup g\nend\n",
+    events: "t0 group_begin; t0 call 2; t0 enter; t0 defer k0.1.0; t0 leave; t0 ret; t0 enter; \
+        t0 state wait_taskgroup 0; t0 start k0.1.0; t0 state work_serial 0; t0 enter; t0 defer k0.2.0; t0 leave; \
+        t0 finish k0.1.0; t0 state wait_taskgroup 0; t0 start k0.2.0; t0 state work_serial 0; t0 work; \
+        t0 finish k0.2.0; t0 free k0.2.0; t0 free k0.1.0; t0 state wait_taskgroup 0; t0 group_end; \
+        t0 state work_serial 0; t0 leave; t0 state wait_barrier_implicit_parallel 0; t0 arrive; t0 release; t0 pass; \
+        t0 done",
+    forbidden: &[
+        // a call before the group, a group that ends at once, and one that begins twice
+        (0, "t0 call 2"),
+        (0, "t0 group_end"),
+        (1, "t0 group_begin"),
+        // a group that ends before its task, and before the task of its task
+        (8, "t0 group_end"),
+        (15, "t0 group_end"),
+        // no taskwait is at its end
+        (22, "t0 wait_done"),
+        // a group that ends twice
+        (23, "t0 group_end"),
+    ],
+    lawful: &[],
+    reported: &[],
+};
+
+/// A group in a group, and a task that is generated before both.
+pub const A_GROUP_IN_A_GROUP: Row = Row {
+    script: "threads 1\nfunc b\nwork\nend\nfunc h\ntask b\nend\nfunc g\ntask b\ntaskgroup h\nend\nfunc main\ntask b\n\
+        taskgroup g\nend\n",
+    events: "t0 enter; t0 defer k0.1.0; t0 leave; t0 group_begin; t0 call 2; t0 enter; t0 seen 0; t0 defer k0.2.0; \
+        t0 leave; t0 group_begin; t0 call 1; t0 enter; t0 seen 0; t0 seen 1; t0 defer k0.3.0; t0 leave; t0 ret; \
+        t0 enter; t0 state wait_taskgroup 0; t0 start k0.3.0; t0 state work_serial 0; t0 work; t0 finish k0.3.0; \
+        t0 free k0.3.0; t0 state wait_taskgroup 0; t0 group_end; t0 state work_serial 0; t0 leave; t0 ret; t0 enter; \
+        t0 state wait_taskgroup 0; t0 start k0.2.0; t0 state work_serial 0; t0 work; t0 finish k0.2.0; \
+        t0 free k0.2.0; t0 state wait_taskgroup 0; t0 group_end; t0 state work_serial 0; t0 leave; \
+        t0 state wait_barrier_implicit_parallel 0; t0 arrive; t0 start k0.1.0; t0 state work_serial 0; t0 work; \
+        t0 finish k0.1.0; t0 free k0.1.0; t0 state wait_barrier_implicit_parallel 0; t0 release; t0 pass; t0 done",
+    forbidden: &[
+        // at the inner end a child that is a member of the outer group, and one of none
+        (19, "t0 start k0.2.0"),
+        (19, "t0 start k0.1.0"),
+        (19, "t0 group_end"),
+        // at the outer end the child that is a member of none
+        (31, "t0 start k0.1.0"),
+        (31, "t0 group_end"),
+        (37, "t0 start k0.1.0"),
+    ],
+    lawful: &[],
+    reported: &[],
+};

@@ -15,7 +15,7 @@ use Rattle.omi_model.specs.Rows.{first_of, main_items, member_items, task_items}
 use Rattle.omi_model.specs.Shapes.{shape_of}
 use Rattle.omi_model.proofs.EachObject.{start_list}
 use Rattle.omi_model.proofs.ListLaws.{take_keeps}
-use Rattle.omi_model.proofs.RowLaws.{KeepsPlain, KeepsRows, barrier_keeps, critical_keeps, last_keeps, main_keeps, member_keeps, row_keeps, shown_keeps, start_keeps, task_keeps}
+use Rattle.omi_model.proofs.RowLaws.{KeepsPlain, KeepsRows, barrier_keeps, critical_keeps, group_keeps, last_keeps, main_keeps, member_keeps, row_keeps, shown_keeps, start_keeps, task_keeps}
 use Rattle.omi_model.proofs.Slots.{false_true, none_some, some_same}
 
 abbrev pub fork_next : List Item → Bool
@@ -54,6 +54,7 @@ module _ (p : Program) where
     barrier = λ state xs other h. ((refl, refl), ((refl, refl), ((refl, refl), h)));
     first_barrier = λ state xs first h. ((refl, refl), ((refl, refl), ((refl, refl), ((refl, refl), h))));
     critical = λ k f xs h. ((refl, refl), critical_keeps Plainly plain_asks p at f (item.Unlock k ∷ xs) ((refl, refl), h));
+    taskgroup = λ f xs h. ((refl, refl), group_keeps Plainly plain_asks p at f xs (λ ys q. ((refl, refl), ((refl, refl), q))) h);
   }
 
   pub take_placed : (at : Encounter) (e : Event) (xs : List Item) (y : Item) (ys : List Item)

@@ -25,7 +25,7 @@ use Rattle.omi_model.proofs.BarrierOrder.{Outside as Clear, left, order, wrong}
 use Rattle.omi_model.proofs.EachObject.{EachTask, IsTaskLaw, over_events, task_step}
 use Rattle.omi_model.proofs.ListLaws.{take_keeps, by_taken}
 use Rattle.omi_model.proofs.OpeningObjects.{each_first_task}
-use Rattle.omi_model.proofs.RowLaws.{KeepsPlain, KeepsRows, barrier_keeps, critical_keeps, last_keeps, main_keeps, member_keeps, row_keeps, shown_keeps}
+use Rattle.omi_model.proofs.RowLaws.{KeepsPlain, KeepsRows, barrier_keeps, critical_keeps, group_keeps, last_keeps, main_keeps, member_keeps, row_keeps, shown_keeps}
 use Rattle.omi_model.proofs.Slots.{false_true}
 use Rattle.omi_model.proofs.Steps.{IsRelisted}
 
@@ -57,6 +57,7 @@ module _ (n : ℕ) where
       barrier = λ state xs other h. ((λ first. false_true (sym other ∙ eq-eqb at.number 0 (own ∙ first))), h);
       first_barrier = λ state xs first h. (sym own ∙ eqb-true at.number 0 first, h);
       critical = λ k f xs h. critical_keeps (IsInOrder n Outside) plain_order p at f (item.Unlock k ∷ xs) h;
+      taskgroup = λ f xs h. group_keeps (IsInOrder n Outside) plain_order p at f xs (λ ys q. q) h;
     }
 
     rows_ordered : (at : Encounter) → at.number ≡ n → (s : Stmt) (rest : List Item)
