@@ -1,4 +1,4 @@
--- Task groups: a taskgroup region is begun and ended by one task, the owner of its group. Each task that the owner generates in it is a member of the group, and so is each descendant of such a task; the region ends once no member is unfinished.
+-- Task groups: a taskgroup region is begun and ended by one task, the owner of its group. A task is a member of the innermost group that its generating task has open, or else of that task's own group. So the tasks that are generated in the region and their descendants are members, but for those in a group that a member begins, which the member ends before it finishes. The region ends once no member is unfinished.
 use Rattle.std.specs.Prelude.{◌≡◌, ◌<◌, ◌-◌, ℕ, zero, suc, false, Option, Some, None}
 use Rattle.omi_numbers.specs.declared.limits.TheConstants.{OPEN_GROUPS}
 use Rattle.omi_model.specs.declared.group.Group.{Group}
