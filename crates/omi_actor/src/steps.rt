@@ -5,7 +5,7 @@ ghost use Rattle.omi_layout.specs.Table.{thread_count};
 ghost use Rattle.omi_pc.specs.Fits.{Fits};
 ghost use Rattle.omi_actor.specs.Steps.{next_of, resumed};
 ghost use Rattle.omi_step_words.specs.Outcomes.{outcome_of};
-ghost use Rattle.omi_step_words.specs.Placed.{IsPlaced};
+ghost use Rattle.omi_step_words.specs.Placed.{HasGroupWords, IsPlaced};
 
 use omi_fork::{fork_move, fork_next, fork_outcome};
 use omi_layout::Layout;
@@ -22,6 +22,7 @@ pub fn next(p: &Program, l: &Layout, a: &Actor) -> Op
     requires fits { Fits p.now a.now }
     requires threads { p.now.threads ≡ thread_count l.now.table }
     requires placed { IsPlaced l.now.table a.now }
+    requires groups { HasGroupWords l.now.table }
     ensures { result ≡ next_of p.now l.now.table a.now }
 {
     match a.counter {
@@ -39,6 +40,7 @@ pub fn outcome(p: &Program, l: &Layout, a: &Actor, r: Res) -> CompactOutcome
     requires fits { Fits p.now a.now }
     requires threads { p.now.threads ≡ thread_count l.now.table }
     requires placed { IsPlaced l.now.table a.now }
+    requires groups { HasGroupWords l.now.table }
     ensures { outcome_of a.now result ≡ (resumed p.now l.now.table a.now r).1 }
 {
     match a.counter {
@@ -71,6 +73,7 @@ pub fn resume(p: &Program, l: &Layout, a: &mut Actor, r: Res) -> Outcome
     requires fits { Fits p.now a.old }
     requires threads { p.now.threads ≡ thread_count l.now.table }
     requires placed { IsPlaced l.now.table a.old }
+    requires groups { HasGroupWords l.now.table }
     ensures moved { a.new ≡ (resumed p.now l.now.table a.old r).0 }
     ensures outcome { result ≡ (resumed p.now l.now.table a.old r).1 }
 {

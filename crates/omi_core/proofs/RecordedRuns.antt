@@ -20,7 +20,7 @@ use Rattle.omi_run_lists.specs.Events.{Events}
 use Rattle.omi_run_lists.specs.Steps.{Steps}
 use Rattle.omi_step_words.specs.declared.outcomes.CompactOutcome.{CompactOutcome}
 use Rattle.omi_step_words.specs.Outcomes.{outcome_with}
-use Rattle.omi_step_words.specs.Placed.{IsPlaced}
+use Rattle.omi_step_words.specs.Placed.{HasGroupWords, IsPlaced}
 use Rattle.omi_actor.specs.Steps.{next_of, resumed_at}
 use Rattle.omi_rule.specs.Rule.{KeepsThread}
 use Rattle.omi_core.specs.declared.entry.Entry.{Entry}
@@ -161,6 +161,9 @@ module _ (m : Machine) (steps : ℕ) (a : Run) (at : IsAt m steps a) (i : ℕ) (
 
   pub placed_now : IsPlaced m.layout.table b
   placed_now = subst (λ (x : Actor). IsPlaced m.layout.table x) (sym b_is) owned.placed
+
+  pub groups_now : HasGroupWords m.layout.table
+  groups_now = keeps.suits.groups
 
   module _ (op : Op) (op_is : op ≡ next_of m.program m.layout.table b) where
     next_is : op ≡ next_of m.program m.layout.table (actors_in m.actors.items i)

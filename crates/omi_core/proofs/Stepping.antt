@@ -121,7 +121,7 @@ shows_state a k = λ s reached.
     let same : k.state ≡ s =
     reached_one a.program (events_in a.events.items) k.state s k.rule.reached reached in
     subst (λ (z : State). Shows a.table (words_of a.words) z) same
-    (kept_words_show a.table a.words k.state (all_owed (actors_in a.actors)) k.valid k.count k.tables k.rule.within k.rule.words)
+    (kept_words_show a.table a.words k.state (all_owed (actors_in a.actors)) k.valid k.suits.groups k.count k.tables k.rule.within k.rule.words)
 
 -- a team finds its seats where a step has room
 pub seats_there : (a : Run) → 0 < a.program.threads → 1 ≤ spare_in a → a.program.threads ≤ a.events.seats
@@ -234,6 +234,8 @@ module _ (a : Run) (k : KeepsRun a) (i : ℕ) (thread : i < a.program.threads) w
             by (event.Start task) step = omega arith
             by (event.Finish task) step = omega arith
             by event.WaitDone step = omega arith
+            by event.GroupBegin step = omega arith
+            by event.GroupEnd step = omega arith
             by event.Yield step = omega arith
             by (event.Set icv value) step = omega arith
             by (event.SetTool y) step = omega arith

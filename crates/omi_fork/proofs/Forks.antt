@@ -43,6 +43,7 @@ module _ (p : Program) (w : List â„•) (a : Actor) (r : Rid) (same : p.threads â‰
         size = (got.0.1, got.0.2);
         number = got.0.1;
         arrivals = omega arith;
+        groups = omega arith;
         task = omega (arith, same, task.made_by);
         region = omega (arith, got.1, fits.thread);
         row = omega (arith, same, task.made_by);

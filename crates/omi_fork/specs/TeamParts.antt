@@ -82,6 +82,7 @@ new_member p a r number =
       exit = exit_frame thread (member_depth a number);
       is_final = false;
       references = 0;
+      group = 0;
       variables = inherited_words a.gathered.variables;
     }
 
@@ -96,6 +97,7 @@ master_context a r =
       number = 0;
       size = team_size a;
       arrivals = 0;
+      open_groups = 0;
       implicit = true;
       is_final = false;
       depth = a.context.depth + 1;

@@ -53,6 +53,7 @@ member_context t r size number =
       number = number;
       size = size;
       arrivals = 0;
+      open_groups = 0;
       implicit = true;
       is_final = false;
       depth = 1;

@@ -4,7 +4,7 @@ ghost use Rattle.std.specs.Prelude.{◌≡◌};
 ghost use Rattle.omi_layout.specs.Table.{thread_count};
 ghost use Rattle.omi_pc.specs.Fits.{Fits};
 ghost use Rattle.omi_step_words.specs.Outcomes.{outcome_of};
-ghost use Rattle.omi_step_words.specs.Placed.{IsPlaced};
+ghost use Rattle.omi_step_words.specs.Placed.{HasGroupWords, IsPlaced};
 ghost use Rattle.omi_fork.specs.Steps.{IsForkCounter, IsForkMoved, IsForkNext, IsForkOutcome};
 
 use crate::{
@@ -22,6 +22,7 @@ pub fn fork_next(p: &Program, l: &Layout, a: &Actor) -> Op
     requires fits { Fits p.now a.now }
     requires threads { p.now.threads ≡ thread_count l.now.table }
     requires placed { IsPlaced l.now.table a.now }
+    requires groups { HasGroupWords l.now.table }
     requires counter { IsForkCounter a.now.counter }
     ensures { IsForkNext p.now l.now.table a.now a.now.counter result }
 {

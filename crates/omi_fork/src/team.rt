@@ -44,6 +44,7 @@ pub fn team_next(p: &Program, l: &Layout, a: &Actor, c: TeamCounter) -> Op
     requires fits { Fits p.now a.now }
     requires threads { p.now.threads ≡ thread_count l.now.table }
     requires placed { IsPlaced l.now.table a.now }
+    requires groups { HasGroupWords l.now.table }
     requires at { a.now.counter ≡ counter.Team c }
     ensures { result ≡ team_next p.now l.now.table a.now c }
 {

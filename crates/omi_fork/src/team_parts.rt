@@ -94,6 +94,7 @@ pub fn new_member(p: &Program, a: &Actor, region: Rid, number: u8) -> NewTask
         exit: exit_frame(thread, depth),
         is_final: false,
         references: 0,
+        group: 0,
         variables: inherited_words(&a.gathered.variables),
     }
 }
@@ -112,6 +113,7 @@ pub fn master_context(a: &Actor, region: Rid) -> Context
         number: 0,
         size: a.gathered.team.len() as u64,
         arrivals: 0,
+        open_groups: 0,
         implicit: true,
         is_final: false,
         depth: a.context.depth + 1,

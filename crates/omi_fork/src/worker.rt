@@ -31,6 +31,7 @@ fn member_context(task: Tid, region: Rid, size: u64, number: u64) -> Context
         number,
         size,
         arrivals: 0,
+        open_groups: 0,
         implicit: true,
         is_final: false,
         depth: 1,

@@ -1,6 +1,7 @@
 //! The limits of a layout. Each stands here alone: definitions, code and the crates above name it.
 
 use crate::field::Field;
+use omi_numbers::{OPEN_GROUPS, OWN_SLOTS};
 use omi_script::limits::MAX_THREADS;
 use omi_word::MEMORY_END;
 
@@ -16,11 +17,17 @@ pub const FIRST_VERSION: u64 = 1;
 /// The version of the layout table in which a task has words for groups.
 pub const GROUP_VERSION: u64 = 2;
 
-/// The groups of tasks that a task may have open at a time.
-pub const OPEN_GROUPS: u8 = 4;
-
 /// The words of a task for groups, behind its slots: its group, how many groups it has open, and a count for each of these.
 pub const GROUP_WORDS: u8 = 2 + OPEN_GROUPS;
+
+/// The place of the word for a task's group, among the words of the last field of its record.
+pub const GROUP_PLACE: u8 = OWN_SLOTS;
+
+/// The place of the word for the number of groups that a task has open.
+pub const OPEN_PLACE: u8 = OWN_SLOTS + 1;
+
+/// The place of the count of the outermost of these; those of the others follow.
+pub const COUNT_PLACE: u8 = OWN_SLOTS + 2;
 
 /// The most words of a record.
 pub const MOST_RECORD_WORDS: u64 = 4096;

@@ -1,5 +1,5 @@
 -- The chain of generating tasks of each task, in which the owner of its group stands.
-use Rattle.std.proofs.Common.{◌≡◌, ◌≤◌, ◌<◌, ◌⊎◌, inl, inr, ℕ, zero, suc, Bool, true, false, List, [], ◌∷◌, length, get_or, Option, Some, None, refl, sym, ap, ◌∙◌, subst, arith}
+use Rattle.std.proofs.Common.{◌≡◌, ◌≤◌, ◌⊎◌, inl, inr, ℕ, zero, suc, Bool, false, List, [], ◌∷◌, Option, Some, refl, sym, ap, ◌∙◌, subst, arith}
 use Rattle.std.specs.List.{Contains}
 use Rattle.omi_script.specs.declared.program.Program.{Program}
 use Rattle.omi_model.specs.declared.event.Event.{Event}
@@ -24,7 +24,7 @@ use Rattle.omi_model.proofs.EachObject.{EachTask, IsTaskLaw, task_step}
 use Rattle.omi_model.proofs.Innermost.{innermost_cases}
 use Rattle.omi_model.proofs.OpeningObjects.{each_first_task}
 use Rattle.omi_model.proofs.ReachedStates.{over_reached}
-use Rattle.omi_model.proofs.Slots.{none_some, some_same}
+use Rattle.omi_model.proofs.Slots.{none_some}
 use Rattle.omi_model.proofs.StaysKept.{needed_begun, needed_generating, stays_step}
 use Rattle.omi_model.proofs.Steps.{IsRelisted, relisted_to}
 

@@ -12,7 +12,7 @@ use Rattle.omi_pc.specs.OpenBodies.{AreOpen, IsContext, IsFirstTask, IsMasterOf,
 
 module _ (p : Program) (c : Context) (n : ℕ) (implicit : c.implicit ≡ true) (few : n < MOST_EVENTS) where
   context_stays : IsContext p c → IsContext p (arrived n c)
-  context_stays is = record { size = is.size; number = is.number; arrivals = few; task = is.task; region = is.region; row = is.row; implicit = is.implicit }
+  context_stays is = record { size = is.size; number = is.number; arrivals = few; groups = is.groups; task = is.task; region = is.region; row = is.row; implicit = is.implicit }
 
   first_stays : IsFirstTask c → IsFirstTask (arrived n c)
   first_stays is = record { implicit = is.implicit; depth = is.depth }
@@ -29,6 +29,7 @@ module _ (p : Program) (c : Context) (n : ℕ) (implicit : c.implicit ≡ true) 
   stands_stays f fs opened.Call stands = stands
   stands_stays f fs (opened.Repeat left) stands = stands
   stands_stays f fs (opened.Critical k) stands = stands
+  stands_stays f fs opened.Taskgroup stands = stands
 
   under_stays : (f : ℕ) (fs : List Frame) (o : Opened) → StandsOn p c f fs o
       → AreOpen p (context_under c o) fs → (AreOpen p c fs → AreOpen p (arrived n c) fs)
@@ -40,6 +41,7 @@ module _ (p : Program) (c : Context) (n : ℕ) (implicit : c.implicit ≡ true) 
   under_stays f fs opened.Call stands bodies more = more bodies
   under_stays f fs (opened.Repeat left) stands bodies more = more bodies
   under_stays f fs (opened.Critical k) stands bodies more = more bodies
+  under_stays f fs opened.Taskgroup stands bodies more = more bodies
 
   pub arrived_open : (fs : List Frame) → AreOpen p c fs → AreOpen p (arrived n c) fs
   arrived_open [] bodies = tt

@@ -18,6 +18,7 @@ waits_nowhere p c (wait.Barrier Explicit) waits = let at = waits.0 in absurd (cc
 waits_nowhere p c (wait.Barrier Implicit) waits = absurd waits.0
 waits_nowhere p c wait.Taskwait waits = absurd (cc)
 waits_nowhere p c wait.Taskyield waits = absurd (cc)
+waits_nowhere p c wait.Taskgroup waits = let at = waits.1 in absurd (cc)
 
 starts_nowhere : {A : Type 0} (p : Program) (c : Context) (f : ℕ) (w : Option Wait) → StartsAt p c f [] w → A
 starts_nowhere p c f None starts = let at = starts.2 in absurd (cc)
@@ -33,6 +34,7 @@ alone p c f (opened.Task w saved) stands = starts_nowhere p saved f w stands.0
 alone p c f opened.Call stands = ⊎_elim (λ at. absurd (cc)) (λ at. absurd (cc)) stands
 alone p c f (opened.Repeat left) stands = let at = stands.1 in absurd (cc)
 alone p c f (opened.Critical k) stands = absurd (cc)
+alone p c f opened.Taskgroup stands = absurd (cc)
 
 -- the depth in a body inside others
 above : (p : Program) (c : Context) (f n : ℕ) (g : Frame) (gs : List Frame) (o : Opened)
@@ -44,6 +46,7 @@ above p c f n g gs (opened.Task w saved) stands below = let more = stands.1.dept
 above p c f n g gs opened.Call stands below = below
 above p c f n g gs (opened.Repeat left) stands below = below
 above p c f n g gs (opened.Critical k) stands below = below
+above p c f n g gs opened.Taskgroup stands below = below
 
 depth_counts : (p : Program) (c : Context) (fs : List Frame) → AreOpen p c fs → 0 < length fs
     → c.depth ≡ tasks_in fs

@@ -30,6 +30,8 @@ called_below p c f g gs (opened.Repeat left) called stands =
     named_below p g gs (stmt.Repeat stands.0 f) f stands.1 refl
 called_below p c f g gs (opened.Critical k) called stands =
     named_below p g gs (stmt.Critical k f) f stands refl
+called_below p c f g gs opened.Taskgroup called stands =
+    named_below p g gs (stmt.Taskgroup f) f stands refl
 
 -- a task's body that stands on nothing, if a called one stood there
 called_somewhere : (p : Program) (c : Context) (f : ℕ) (o : Opened) → StandsOn p c f [] o
@@ -41,6 +43,7 @@ called_somewhere p c f (opened.Task w saved) stands = refl
 called_somewhere p c f opened.Call stands = ⊎_elim (λ is. absurd (cc)) (λ is. absurd (cc)) stands
 called_somewhere p c f (opened.Repeat left) stands = let is = stands.1 in absurd (cc)
 called_somewhere p c f (opened.Critical k) stands = absurd (cc)
+called_somewhere p c f opened.Taskgroup stands = absurd (cc)
 
 -- a task's function is that of its body, and at least those of the bodies inside it
 task_within : (f outer task : ℕ) (b : Bool) → (b ≡ false → f < outer) → outer ≤ task → f ≤ cond b f task
@@ -82,6 +85,7 @@ goes_down p c f g gs (opened.Repeat left) within stands =
     called_below p c f g gs (opened.Repeat left) refl stands
 goes_down p c f g gs (opened.Critical k) within stands =
     called_below p c f g gs (opened.Critical k) refl stands
+goes_down p c f g gs opened.Taskgroup within stands = called_below p c f g gs opened.Taskgroup refl stands
 
 pub bodies_go_down : (p : Program) (c : Context) (fs : List Frame) → AreOpen p c fs → GoDown fs
 bodies_go_down p c [] bodies = tt

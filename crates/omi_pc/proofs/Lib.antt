@@ -8,4 +8,5 @@ pub mod NextCounters
 pub mod Settled
 pub mod Moved
 pub mod Arrived
+pub mod Grouped
 pub mod OpeningActors

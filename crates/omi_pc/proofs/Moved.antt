@@ -91,6 +91,8 @@ module _ (p : Program) (a : Actor) (f : Frame) (fs : List Frame) where
       round_fits left thread variables how bodies stands
   returns_by (opened.Critical k) called thread variables how bodies stands =
       record { thread = thread; variables = variables; bodies = under (opened.Critical k) how refl bodies; counter = (stmt.Critical k f.function, stands, tt) }
+  returns_by opened.Taskgroup called thread variables how bodies stands =
+      record { thread = thread; variables = variables; bodies = under opened.Taskgroup how refl bodies; counter = (stmt.Taskgroup f.function, stands, tt) }
 
   return_opens : (o : Opened) → a.stack ≡ f ∷ fs → f.opened ≡ o → AreOpen p a.context (f ∷ fs)
       → StandsOn p a.context f.function fs o
@@ -107,6 +109,7 @@ module _ (p : Program) (a : Actor) (f : Frame) (fs : List Frame) where
       settled_open p (record a { stack = fs }) (under opened.Call how refl bodies)
   return_opens (opened.Repeat left) is how bodies stands = round_open left how bodies stands
   return_opens (opened.Critical k) is how bodies stands = under (opened.Critical k) how refl bodies
+  return_opens opened.Taskgroup is how bodies stands = under opened.Taskgroup how refl bodies
 
 return_opens_in : (p : Program) (a : Actor) (fs : List Frame) → a.stack ≡ fs → AreOpen p a.context fs
     → AreOpen p (returned_in p fs a).context (returned_in p fs a).stack
@@ -135,6 +138,7 @@ enters (stmt.Parallel f num) is = tt
 enters stmt.Taskwait is = tt
 enters stmt.Barrier is = tt
 enters (stmt.Critical k f) is = tt
+enters (stmt.Taskgroup f) is = tt
 enters s is = absurd is
 
 module _ (p : Program) (a : Actor) (task : HasTask p a) where

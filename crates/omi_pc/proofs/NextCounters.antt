@@ -36,6 +36,7 @@ module _ (P : Counter → Type 0) (at_plain : (c : PlainCounter) → IsBefore c 
       go false = at_plain plain.Skip tt
   begun_by_next (shape.Repeat zero f) a = at_plain plain.Skip tt
   begun_by_next (shape.Repeat (suc n) f) a = at_plain plain.Call tt
+  begun_by_next (shape.Taskgroup f) a = at_plain plain.GroupBegin tt
   begun_by_next (shape.Sets variable word) a = at_plain plain.Set tt
   begun_by_next (shape.Tool x) a = at_plain plain.Tool tt
   begun_by_next shape.Work a = at_plain plain.Work tt
@@ -108,6 +109,7 @@ module _ (P : Counter → Type 0) (next : HoldsNext P) where
         by f fs opened.Call = settled_next (record a { stack = fs }) (λ none. now)
         by f fs (opened.Repeat left) = rounds f fs left
         by f fs (opened.Critical k) = next.plain plain.Unlock tt
+        by f fs opened.Taskgroup = next.plain plain.Enter tt
         by f fs o = now
 
         go : (fs : List Frame) → P (returned_in p fs a).counter

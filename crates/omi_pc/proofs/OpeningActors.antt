@@ -19,6 +19,7 @@ main_open p =
           size = (omega arith, rules.threads.0);
           number = omega arith;
           arrivals = omega arith;
+          groups = omega arith;
           task = rules.threads.0;
           region = rules.threads.0;
           row = rules.threads.0;

@@ -147,6 +147,7 @@ module _ (p : Program) (a : Actor) (f : Frame) (fs : List Frame) (bodies : AreOp
   ended_fits debug opened.Call how stands = record { bodies = all; counter = at_end IsCalled opened.Call how refl }
   ended_fits debug (opened.Repeat left) how stands = record { bodies = all; counter = at_end IsCalled (opened.Repeat left) how refl }
   ended_fits debug (opened.Critical k) how stands = record { bodies = all; counter = at_end IsCalled (opened.Critical k) how refl }
+  ended_fits debug opened.Taskgroup how stands = record { bodies = all; counter = at_end IsCalled opened.Taskgroup how refl }
 
 -- ---- the move
 

@@ -43,6 +43,7 @@ ended_differs a debug (opened.Task w saved) = same a _ _
 ended_differs a debug opened.Call = same a _ _
 ended_differs a debug (opened.Repeat left) = same a _ _
 ended_differs a debug (opened.Critical k) = same a _ _
+ended_differs a debug opened.Taskgroup = same a _ _
 
 settles_by : (p : Program) (a : Actor) (f : Frame) (fs : List Frame) (o : Option Stmt)
     → DifferInBodies a (settled_by p a f fs o)
@@ -74,6 +75,7 @@ returns_by : (p : Program) (a : Actor) (o : Opened) (f : Frame) (fs : List Frame
 returns_by p a opened.Call f fs = settled_elsewhere p a fs
 returns_by p a (opened.Repeat left) f fs = round_differs a left f fs
 returns_by p a (opened.Critical k) f fs = same a _ _
+returns_by p a opened.Taskgroup f fs = same a _ _
 returns_by p a opened.Main f fs = same a _ _
 returns_by p a opened.Worker f fs = same a _ _
 returns_by p a (opened.Master saved) f fs = same a _ _

@@ -1,6 +1,7 @@
 -- Which actors fit: those with which a program starts, and those that have made a move between statements.
-use Rattle.std.specs.Prelude.{◌≡◌, ℕ, ◌<◌, true, List, ◌∷◌, length}
+use Rattle.std.specs.Prelude.{◌≡◌, ℕ, ◌<◌, ◌≤◌, true, List, ◌∷◌, length}
 use Rattle.omi_model.specs.declared.limits.TheConstants.{MOST_EVENTS}
+use Rattle.omi_numbers.specs.declared.limits.TheConstants.{OPEN_GROUPS}
 use Rattle.omi_script.specs.declared.program.Program.{Program}
 use Rattle.omi_pc.specs.declared.actor.Actor.{Actor}
 use Rattle.omi_pc.specs.declared.counter.PlainCounter.TheVariants as plain
@@ -68,6 +69,16 @@ OpenedBodyStands =
 -- a context after so many arrivals
 abbrev pub arrived : ℕ → Context → Context
 arrived n c = record c { arrivals = n }
+
+-- a context with so many open groups
+abbrev pub grouped : ℕ → Context → Context
+grouped n c = record c { open_groups = n }
+
+-- the bodies of a task that begins or ends a group
+abbrev pub GroupingKeepsBodies : Type 0
+GroupingKeepsBodies =
+    (p : Program) (c : Context) (n : ℕ) (fs : List Frame) → n ≤ OPEN_GROUPS
+    → AreOpen p c fs → AreOpen p (grouped n c) fs
 
 -- the bodies of a member that arrives at a barrier
 abbrev pub ArrivingKeepsBodies : Type 0

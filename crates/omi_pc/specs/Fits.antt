@@ -46,6 +46,7 @@ ShapeEnters shape.Taskwait = Unit {0}
 ShapeEnters shape.Taskyield = Unit {0}
 ShapeEnters shape.Barrier = Unit {0}
 ShapeEnters (shape.Critical k f) = Unit {0}
+ShapeEnters (shape.Taskgroup f) = Unit {0}
 ShapeEnters (shape.Call f) = ⊥
 ShapeEnters (shape.Only m f) = ⊥
 ShapeEnters (shape.Repeat n f) = ⊥
@@ -84,6 +85,7 @@ ShapeSkips number (shape.Critical k f) = ⊥
 ShapeSkips number (shape.Call f) = ⊥
 ShapeSkips number (shape.Only m f) = number ≢ m
 ShapeSkips number (shape.Repeat n f) = Unit {0}
+ShapeSkips number (shape.Taskgroup f) = ⊥
 ShapeSkips number (shape.Sets variable word) = ⊥
 ShapeSkips number (shape.Tool x) = ⊥
 ShapeSkips number shape.Work = ⊥
@@ -95,7 +97,7 @@ Skips number s = ShapeSkips number (shape_of s)
 abbrev pub IsAtSome : Program → Actor → (Stmt → Type 0) → Type 0
 IsAtSome p a P = (s : Stmt) × IsAt p a.stack s × P s
 
--- `parallel`, `task` and `critical`
+-- `parallel`, `task`, `critical` and `taskgroup`
 abbrev pub IsParallel : Stmt → Type 0
 IsParallel (stmt.Parallel f num) = Unit {0}
 IsParallel _ = ⊥
@@ -107,6 +109,10 @@ IsTask _ = ⊥
 abbrev pub IsCritical : Stmt → Type 0
 IsCritical (stmt.Critical k f) = Unit {0}
 IsCritical _ = ⊥
+
+abbrev pub IsTaskgroup : Stmt → Type 0
+IsTaskgroup (stmt.Taskgroup f) = Unit {0}
+IsTaskgroup _ = ⊥
 
 -- ---- workers
 
@@ -247,12 +253,14 @@ abbrev pub FitsTask : Program → Actor → TaskCounter → Type 0
 FitsTask p a (task.LoadSlot place) = IsAtTask p a (Some place)
 FitsTask p a (task.LoadVariable place word) =
     IsAtTask p a place × (word < VARIABLE_WORDS)
+FitsTask p a (task.LoadGroup place) = IsAtTask p a place
 FitsTask p a (task.LoadLife place slot) = IsAtTask p a place
 FitsTask p a (task.Take place t) = IsTaskGot p a place t
 FitsTask p a (task.Fill place t word) = IsTaskGot p a place t × (word < TASK_WORDS)
 FitsTask p a (task.AddPending place t) = IsTaskGot p a place t
 FitsTask p a (task.AddChildren place t) = IsTaskGot p a place t
 FitsTask p a (task.AddReferences place t) = IsTaskGot p a place t
+FitsTask p a (task.AddCount place t) = IsTaskGot p a place t
 FitsTask p a (task.Defer place t) = IsTaskGot p a (Some place) t
 FitsTask p a (task.StartNow t) = IsTaskGot p a None t
 
@@ -281,12 +289,14 @@ abbrev pub StoresWait : Wait → Type 0
 StoresWait (wait.Barrier b) = Unit {0}
 StoresWait wait.Taskwait = Unit {0}
 StoresWait wait.Taskyield = ⊥
+StoresWait wait.Taskgroup = Unit {0}
 
 -- only children of the current task start in these waits
 abbrev pub TestsChildren : Wait → Type 0
 TestsChildren (wait.Barrier b) = ⊥
 TestsChildren wait.Taskwait = Unit {0}
 TestsChildren wait.Taskyield = Unit {0}
+TestsChildren wait.Taskgroup = ⊥
 
 abbrev pub FitsLook : Program → Actor → LookCounter → Type 0
 FitsLook p a (look.State w) = Waits p a w × StoresWait w
@@ -294,12 +304,15 @@ FitsLook p a (look.LoadRow w n) = Looks p a w n × (n % OWN_SLOTS ≡ 0)
 FitsLook p a (look.LoadSlot w n row) = LooksAt p a w n row
 FitsLook p a (look.LoadGenerating w n row code) =
     LooksAt p a w n row × (code ≢ 0) × TestsChildren w
+FitsLook p a (look.LoadGroup n row code) = LooksAt p a wait.Taskgroup n row × (code ≢ 0)
 FitsLook p a (look.Take w n row code) = LooksAt p a w n row × (code ≢ 0)
 FitsLook p a (look.LoadFunction w n code t) = HasInHand p a w n t
 FitsLook p a (look.LoadFinal w n code t f) = HasLoaded p a w n t f
 FitsLook p a (look.Fill w n code t f final word) = HasLoaded p a w n t f × (word < START_WORDS)
 FitsLook p a (look.Start w n code t f final) = HasLoaded p a w n t f
 FitsLook p a look.LoadChildren = Waits p a wait.Taskwait
+FitsLook p a look.LoadCount = Waits p a wait.Taskgroup
+FitsLook p a look.GroupEnd = Waits p a wait.Taskgroup
 FitsLook p a (look.Yield n) = Waits p a wait.Taskyield × ((n ≡ 0) ⊎ (n ≡ slots_of a))
 
 -- the current task is where an explicit task has finished: in a wait, or at the construct of a task that started at once
@@ -319,6 +332,8 @@ abbrev pub FitsFinish : Program → Actor → FinishCounter → Type 0
 FitsFinish p a finish.Finish = IsAtEnd p IsExplicit a.stack
 FitsFinish p a (finish.LoadGenerating w t) = IsBack p a w × (t.0.creator < p.threads)
 FitsFinish p a (finish.SubtractChildren w t generating) = HasFinished p a w t generating
+FitsFinish p a (finish.LoadGroup w t generating) = HasFinished p a w t generating
+FitsFinish p a (finish.SubtractCount w t generating group) = HasFinished p a w t generating
 FitsFinish p a (finish.SubtractReferences w t generating) = HasFinished p a w t generating
 FitsFinish p a (finish.Free w t generating) = HasFinished p a w t generating
 FitsFinish p a (finish.LoadImplicit w generating) = Lowers p a w generating
@@ -342,6 +357,7 @@ FitsPlain p a plain.WorkState = IsAtStart StartsWorking a.stack ⊎ IsAtSome p a
 FitsPlain p a plain.LockState = IsAtSome p a IsCritical
 FitsPlain p a plain.Lock = IsAtSome p a IsCritical
 FitsPlain p a plain.Unlock = IsAtSome p a IsCritical
+FitsPlain p a plain.GroupBegin = IsAtSome p a IsTaskgroup
 FitsPlain p a plain.Done = IsAtEnd p IsMain a.stack
 FitsPlain p a plain.Ended = IsAtEnd p IsMain a.stack
 

@@ -38,6 +38,7 @@ context_under c (opened.Task wait saved) = saved
 context_under c opened.Call = c
 context_under c (opened.Repeat left) = c
 context_under c (opened.Critical k) = c
+context_under c opened.Taskgroup = c
 
 abbrev pub closed_in : Actor → List Frame → Actor
 closed_in a [] = a
@@ -56,11 +57,12 @@ next_round (suc zero) f fs a = goes_to plain.Skip (record a { stack = fs })
 next_round (suc (suc left)) f fs a =
     goes_to plain.Call (record a { stack = started_again f (opened.Repeat (suc left)) ∷ fs })
 
--- `call` and `only`: the next statement is in work. `critical`: the lock is given back
+-- `call` and `only`: the next statement is in work. `critical`: the lock is given back. `taskgroup`: the statement goes on, at the end of its region
 abbrev pub returned_by : Program → Opened → Frame → List Frame → Actor → Actor
 returned_by p opened.Call f fs a = settled p (record a { stack = fs })
 returned_by p (opened.Repeat left) f fs a = next_round left f fs a
 returned_by p (opened.Critical k) f fs a = goes_to plain.Unlock (record a { stack = fs })
+returned_by p opened.Taskgroup f fs a = goes_to plain.Enter (record a { stack = fs })
 returned_by p opened.Main f fs a = a
 returned_by p opened.Worker f fs a = a
 returned_by p (opened.Master saved) f fs a = a

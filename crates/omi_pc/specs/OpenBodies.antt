@@ -1,6 +1,7 @@
 -- How the open bodies of a thread stand on one another, and what their contexts say. It speaks of no state.
 use Rattle.std.specs.Prelude.{◌≡◌, ◌≢◌, ◌⊎◌, ℕ, ◌+◌, ◌<◌, ◌≤◌, Bool, true, false, List, [], ◌∷◌, length, Option, Some, None}
 use Rattle.omi_model.specs.declared.limits.TheConstants.{MOST_EVENTS}
+use Rattle.omi_numbers.specs.declared.limits.TheConstants.{OPEN_GROUPS}
 use Rattle.omi_script.specs.declared.program.Program.{Program}
 use Rattle.omi_script.specs.declared.statement.Stmt.{Stmt}
 use Rattle.omi_script.specs.declared.statement.Stmt.TheVariants as stmt
@@ -23,6 +24,7 @@ pub record IsContext (p : Program) (c : Context) : Type 0 where
   pub size : (1 ≤ c.size) × (c.size ≤ p.threads)
   pub number : c.number < c.size
   pub arrivals : c.arrivals < MOST_EVENTS
+  pub groups : c.open_groups ≤ OPEN_GROUPS
   pub task : c.task.0.creator < p.threads
   pub region : c.region.0.creator < p.threads
   pub row : c.row.0.creator < p.threads
@@ -110,6 +112,7 @@ abbrev pub IsWaiting : Program → Context → List Frame → Wait → Type 0
 IsWaiting p c fs (wait.Barrier b) = IsAtBarrier p fs b × (c.implicit ≡ true)
 IsWaiting p c fs wait.Taskwait = IsAt p fs stmt.Taskwait
 IsWaiting p c fs wait.Taskyield = IsAt p fs stmt.Taskyield
+IsWaiting p c fs wait.Taskgroup = (f : ℕ) × IsAt p fs (stmt.Taskgroup f)
 
 -- a task over this function starts there: at its own statement, or taken from a slot in a wait. Any such task was made by a
 -- body inside the waiting one or by another member's, so its function is smaller than that of the task below
@@ -129,6 +132,7 @@ StandsOn p c f fs opened.Call = IsAt p fs (stmt.Call f) ⊎ IsAt p fs (stmt.Only
 StandsOn p c f fs (opened.Repeat left) =
     (n : ℕ) × IsAt p fs (stmt.Repeat n f) × (1 ≤ left) × (left ≤ n)
 StandsOn p c f fs (opened.Critical k) = IsAt p fs (stmt.Critical k f)
+StandsOn p c f fs opened.Taskgroup = IsAt p fs (stmt.Taskgroup f)
 
 -- a frame of a program: its function is there, and its position within the body
 pub record IsFrame (p : Program) (f : Frame) : Type 0 where

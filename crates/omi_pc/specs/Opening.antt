@@ -22,6 +22,7 @@ initial_context =
       number = 0;
       size = 1;
       arrivals = 0;
+      open_groups = 0;
       implicit = true;
       is_final = false;
       depth = 1;
@@ -37,6 +38,7 @@ nothing_gathered =
       wanted = 0;
       asked = 0;
       team = [];
+      group = 0;
     }
 
 -- a thread before `begin`. It has no task, so its context says nothing

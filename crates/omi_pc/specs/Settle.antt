@@ -55,6 +55,7 @@ begun_by (shape.Critical k f) a = entering a
 begun_by (shape.Call f) a = calling f opened.Call a
 begun_by (shape.Only m f) a = calling_only m f a
 begun_by (shape.Repeat n f) a = repeating n f a
+begun_by (shape.Taskgroup f) a = goes_to plain.GroupBegin a
 begun_by (shape.Sets variable word) a = goes_to plain.Set a
 begun_by (shape.Tool x) a = goes_to plain.Tool a
 begun_by shape.Work a = goes_to plain.Work a
@@ -84,6 +85,7 @@ ended debug (opened.Task wait saved) a = finishing a
 ended debug opened.Call a = goes_to plain.Return a
 ended debug (opened.Repeat left) a = goes_to plain.Return a
 ended debug (opened.Critical k) a = goes_to plain.Return a
+ended debug opened.Taskgroup a = goes_to plain.Return a
 
 -- ---- the move
 

@@ -13,6 +13,7 @@ opens_task (opened.Task wait saved) = true
 opens_task opened.Call = false
 opens_task (opened.Repeat left) = false
 opens_task (opened.Critical k) = false
+opens_task opened.Taskgroup = false
 
 -- the tasks whose bodies are open
 abbrev pub tasks_in : List Frame → ℕ

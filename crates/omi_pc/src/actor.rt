@@ -40,6 +40,7 @@ fn initial_context() -> Context
         number: 0,
         size: 1,
         arrivals: 0,
+        open_groups: 0,
         implicit: true,
         is_final: false,
         depth: 1,
@@ -57,6 +58,7 @@ fn nothing_gathered() -> Gathered
         wanted: 0,
         asked: 0,
         team: Team::new(),
+        group: 0,
     }
 }
 

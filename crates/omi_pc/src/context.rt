@@ -15,6 +15,8 @@ pub struct Context {
     pub size: u64,
     /// The barriers of the region at which this member has arrived.
     pub arrivals: u64,
+    /// The task groups that the task has begun and not ended, 0 to 4.
+    pub open_groups: u8,
     pub implicit: bool,
     pub is_final: bool,
     /// The length of the chain of scheduling tasks, this task included.

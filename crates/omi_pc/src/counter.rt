@@ -26,6 +26,8 @@ pub enum PlainCounter {
     LockState,
     Lock,
     Unlock,
+    /// The store of the number of open groups, one more.
+    GroupBegin,
     Done,
     /// After `done`.
     Ended,

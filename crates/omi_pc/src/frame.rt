@@ -15,6 +15,8 @@ pub enum Wait {
     Barrier { barrier: Barrier },
     Taskwait,
     Taskyield,
+    /// The end of a taskgroup region.
+    Taskgroup,
 }
 
 /// How a body was opened.
@@ -35,6 +37,8 @@ pub enum Opened {
     Repeat { left: u16 },
     /// By `critical`, under this lock.
     Critical { lock: u8 },
+    /// By `taskgroup`.
+    Taskgroup,
 }
 
 /// The open body of a function. `next` is the position of the next statement; the one before it is in work.

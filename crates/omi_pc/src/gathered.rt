@@ -18,4 +18,6 @@ pub struct Gathered {
     pub asked: u8,
     /// This thread and those that joined it, with the tasks that were made for them so far.
     pub team: Team,
+    /// The group of the current task, loaded where it has no group open: the word that stands for it, 0 for none.
+    pub group: u64,
 }

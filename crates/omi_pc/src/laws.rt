@@ -1,6 +1,6 @@
 //! Laws of stacks and actors. Each is a function that does nothing, and says its law in `specs/`.
 
-ghost use Rattle.omi_pc.specs.FitLaws.{ArrivingKeepsBodies, ClosingKeepsBodies, GoingOnFits, MovesChangeBodies, OpeningFits, OpenedBodyStands, ReturningFits, SettlingFits, WorkingFits};
+ghost use Rattle.omi_pc.specs.FitLaws.{ArrivingKeepsBodies, ClosingKeepsBodies, GoingOnFits, GroupingKeepsBodies, MovesChangeBodies, OpeningFits, OpenedBodyStands, ReturningFits, SettlingFits, WorkingFits};
 ghost use Rattle.omi_pc.specs.Room.{BodiesGoDown, DepthsCountTasks, FewGoDown, NamedAreSmaller, StacksHaveRoom};
 
 /// The bodies that a thread of a program has open never lack room: there are at most `MOST_BODIES`, and a stack has room
@@ -32,10 +32,11 @@ pub fn moves_fit()
     ensures going_on { GoingOnFits }
 {}
 
-/// Bodies stand on one another when one more is opened, when the innermost one is closed, and when a member arrives at a
-/// barrier.
+/// Bodies stand on one another when one more is opened, when the innermost one is closed, when a member arrives at a
+/// barrier, and when a task begins or ends a group.
 pub fn bodies_stand()
     ensures opened { OpenedBodyStands }
     ensures closed { ClosingKeepsBodies }
     ensures arrived { ArrivingKeepsBodies }
+    ensures grouped { GroupingKeepsBodies }
 {}

@@ -110,6 +110,10 @@ impl Actor {
                 self.stack.pop();
                 self.go_to(PlainCounter::Unlock);
             }
+            Opened::Taskgroup => {
+                self.stack.pop();
+                self.go_to(PlainCounter::Enter);
+            }
             _ => {}
         }
     }

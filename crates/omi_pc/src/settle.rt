@@ -77,6 +77,7 @@ impl Actor {
             Shape::Call { f } => self.call(f, Opened::Call),
             Shape::Only { m, f } => self.call_only(m, f),
             Shape::Repeat { n, f } => self.repeat(n, f),
+            Shape::Taskgroup { .. } => self.go_to(PlainCounter::GroupBegin),
             Shape::Sets { .. } => self.go_to(PlainCounter::Set),
             Shape::Tool(_) => self.go_to(PlainCounter::Tool),
             Shape::Work => self.go_to(PlainCounter::Work),
@@ -97,7 +98,7 @@ impl Actor {
                 });
             }
             Opened::Task { .. } => self.counter = Counter::Finish(FinishCounter::Finish),
-            Opened::Call | Opened::Repeat { .. } | Opened::Critical { .. } => {
+            Opened::Call | Opened::Repeat { .. } | Opened::Critical { .. } | Opened::Taskgroup => {
                 self.go_to(PlainCounter::Return)
             }
         }

@@ -15,6 +15,10 @@ pub enum TaskCounter {
         place: Option<u8>,
         word: u8,
     },
+    /// The load of the current task's own group, where it has none open.
+    LoadGroup {
+        place: Option<u8>,
+    },
     /// The search for a record.
     LoadLife {
         place: Option<u8>,
@@ -42,6 +46,11 @@ pub enum TaskCounter {
         place: Option<u8>,
         task: Tid,
     },
+    /// The addition to the count of the new task's group.
+    AddCount {
+        place: Option<u8>,
+        task: Tid,
+    },
     Defer {
         place: u8,
         task: Tid,
@@ -52,7 +61,7 @@ pub enum TaskCounter {
 }
 
 /// A counter of a wait: the look at all slots of the team, the start of a task that was found, and the ends of
-/// `taskwait` and `taskyield`. `look` is the number of the slot, four for each member.
+/// `taskwait`, `taskyield` and `taskgroup`. `look` is the number of the slot, four for each member.
 #[derive(Clone, Copy)]
 pub enum LookCounter {
     /// The store of the state of a thread that waits.
@@ -72,6 +81,12 @@ pub enum LookCounter {
     /// The load of the generating task of the task that a slot named.
     LoadGenerating {
         wait: Wait,
+        look: u16,
+        row: Place,
+        code: u64,
+    },
+    /// The load of the group of the task that a slot named, at the end of a taskgroup region.
+    LoadGroup {
         look: u16,
         row: Place,
         code: u64,
@@ -114,6 +129,10 @@ pub enum LookCounter {
         is_final: bool,
     },
     LoadChildren,
+    /// The load of the count of the innermost open group.
+    LoadCount,
+    /// The store of the number of open groups, one less.
+    GroupEnd,
     Yield {
         look: u16,
     },
@@ -139,6 +158,19 @@ pub enum FinishCounter {
         wait: Option<Wait>,
         task: Tid,
         generating: Place,
+    },
+    /// The load of the finished task's group.
+    LoadGroup {
+        wait: Option<Wait>,
+        task: Tid,
+        generating: Place,
+    },
+    /// The subtraction from the count of its group, for which this word stands.
+    SubtractCount {
+        wait: Option<Wait>,
+        task: Tid,
+        generating: Place,
+        group: u64,
     },
     SubtractReferences {
         wait: Option<Wait>,

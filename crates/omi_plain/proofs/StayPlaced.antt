@@ -1,5 +1,5 @@
 -- An actor that is placed in a layout is placed behind a plain step.
-use Rattle.std.proofs.Common.{◌≡◌, ◌==◌, ◌||◌, ℕ, zero, suc, Bool, true, false, cond, List, [], ◌∷◌, Option, Some, None, refl, sym, ap, subst, ◌∙◌}
+use Rattle.std.proofs.Common.{◌≡◌, ◌==◌, ◌||◌, ℕ, zero, suc, Bool, true, false, cond, List, [], ◌∷◌, Option, Some, None, refl, sym, ap, subst, ◌∙◌, ◌+◌}
 use Rattle.omi_script.specs.declared.program.Program.{Program}
 use Rattle.omi_script.specs.declared.statement.Stmt.{Stmt}
 use Rattle.omi_script.specs.declared.statement.Stmt.TheVariants as stmt
@@ -15,9 +15,11 @@ use Rattle.omi_pc.specs.declared.frame.Opened.TheVariants as opened
 use Rattle.omi_pc.specs.Frames.{advanced, at_start, next_statement, statement_of}
 use Rattle.omi_pc.specs.Moves.{context_under, next_round, returned_by, returned_in, worked, worked_at, worked_in, back_to_work}
 use Rattle.omi_pc.specs.Settle.{statement_begun, calling, ended, ending_member, goes_to, repeating, settled, settled_by, settled_in, skipping}
-use Rattle.omi_plain.specs.PlainSteps.{behind_enter, left_behind, plain_moved, task_counter}
+use Rattle.omi_pc.specs.FitLaws.{grouped}
+use Rattle.omi_plain.specs.PlainSteps.{behind_enter, left_behind, plain_moved, task_counter, group_begun}
 use Rattle.omi_plain.specs.StepLaws.{PlainStepsStayPlaced}
 use Rattle.omi_step_words.specs.Placed.{AreContextsPlaced, IsPlaced, IsPlacedCounter}
+use Rattle.omi_step_words.proofs.Grouped.{contexts_grouped}
 
 module _ (p : Program) (w : List ℕ) where
   -- ---- a statement begins
@@ -55,6 +57,7 @@ module _ (p : Program) (w : List ℕ) where
     ended_placed debug opened.Call = record { bodies = all; counter = tt }
     ended_placed debug (opened.Repeat left) = record { bodies = all; counter = tt }
     ended_placed debug (opened.Critical k) = record { bodies = all; counter = tt }
+    ended_placed debug opened.Taskgroup = record { bodies = all; counter = tt }
 
   settles_by : (a : Actor) (f : Frame) (fs : List Frame) (o : Option Stmt) → a.stack ≡ f ∷ fs
       → AreContextsPlaced w a.context (f ∷ fs)
@@ -101,6 +104,7 @@ module _ (p : Program) (w : List ℕ) where
           (plainly (record a { stack = fs }) c is (under opened.Call how refl))
       returns_by (opened.Repeat left) how = round_placed left (under (opened.Repeat left) how refl)
       returns_by (opened.Critical k) how = record { bodies = under (opened.Critical k) how refl; counter = tt }
+      returns_by opened.Taskgroup how = record { bodies = under opened.Taskgroup how refl; counter = tt }
 
     returns_in : (fs : List Frame) → AreContextsPlaced w a.context fs → IsPlaced w (returned_in p fs a)
     returns_in [] all = at
@@ -141,6 +145,8 @@ module _ (p : Program) (w : List ℕ) where
     enters_by false final (Some stmt.Barrier) = record { bodies = at.bodies; counter = tt }
     enters_by true final (Some (stmt.Critical k f)) = record { bodies = at.bodies; counter = tt }
     enters_by false final (Some (stmt.Critical k f)) = record { bodies = at.bodies; counter = tt }
+    enters_by true final (Some (stmt.Taskgroup f)) = record { bodies = at.bodies; counter = tt }
+    enters_by false final (Some (stmt.Taskgroup f)) = record { bodies = at.bodies; counter = tt }
     enters_by debug final o = record { bodies = at.bodies; counter = tt }
 
     -- a body under a lock, which begins where a statement is in work
@@ -153,6 +159,19 @@ module _ (p : Program) (w : List ℕ) where
     leaves_by : (o : Option Stmt) → statement_of p a.stack ≡ o → IsPlaced w (left_behind p o a)
     leaves_by (Some (stmt.Critical k f)) is = record { bodies = calls_in a.stack k f is at.bodies; counter = tt }
     leaves_by o is = settled_placed a at
+
+    -- ---- a group begins
+
+    groups_in : (fs : List Frame) (n f : ℕ) → statement_of p fs ≡ Some (stmt.Taskgroup f)
+        → AreContextsPlaced w a.context fs
+        → AreContextsPlaced w (grouped n a.context) (at_start f opened.Taskgroup ∷ fs)
+    groups_in [] n f is all = absurd (cc)
+    groups_in (g ∷ gs) n f is all = let there = contexts_grouped w n a.context (g ∷ gs) all in (there.0, there)
+
+    groups_by : (o : Option Stmt) → statement_of p a.stack ≡ o → IsPlaced w (group_begun o a)
+    groups_by (Some (stmt.Taskgroup f)) is =
+        record { bodies = groups_in a.stack (a.context.open_groups + 1) f is at.bodies; counter = tt }
+    groups_by o is = at
 
     -- ---- all counters
 
@@ -169,6 +188,7 @@ module _ (p : Program) (w : List ℕ) where
     placed_behind plain.LockState old = record { bodies = at.bodies; counter = tt }
     placed_behind plain.Lock old = locks_by (old == 0)
     placed_behind plain.Unlock old = settled_placed a at
+    placed_behind plain.GroupBegin old = groups_by (statement_of p a.stack) refl
     placed_behind plain.Done old = record { bodies = at.bodies; counter = tt }
     placed_behind plain.Ended old = at
 

@@ -1,6 +1,6 @@
--- The steps of work, calls, internal control variables, the tool word, critical regions and the end of the program, and those by
--- which a task enters and leaves the runtime.
-use Rattle.std.specs.Prelude.{ℕ, ◌==◌, ◌&&◌, ◌||◌, Bool, List, Option, Some, None, if◌then◌else◌}
+-- The steps of work, calls, internal control variables, the tool word, critical regions, the begin of a taskgroup region and the end of the
+-- program, and those by which a task enters and leaves the runtime.
+use Rattle.std.specs.Prelude.{ℕ, ◌+◌, ◌==◌, ◌&&◌, ◌||◌, Bool, List, Option, Some, None, if◌then◌else◌}
 use Rattle.omi_numbers.specs.Holders.{holder_word, lock_wait}
 use Rattle.omi_word.specs.declared.op.Op.{Op}
 use Rattle.omi_word.specs.declared.op.Op.TheVariants as op
@@ -13,6 +13,7 @@ use Rattle.omi_numbers.specs.declared.states.TheConstants.{WORK_SERIAL, WORK_PAR
 use Rattle.omi_numbers.specs.Addresses.{exit_frame, enter_frame}
 use Rattle.omi_numbers.specs.Words.{state_word}
 use Rattle.omi_layout.specs.declared.field.Field.TheVariants.{RuntimeLocks, ThreadNative, ThreadState, TaskEnter, TaskTool}
+use Rattle.omi_layout.specs.declared.limits.TheConstants.{OPEN_PLACE}
 use Rattle.omi_layout.specs.Memory.{word_address}
 use Rattle.omi_layout.specs.Named.{number}
 use Rattle.omi_rep.specs.declared.outcome.Outcome.{Outcome}
@@ -24,16 +25,18 @@ use Rattle.omi_pc.specs.declared.counter.PlainCounter.{PlainCounter}
 use Rattle.omi_pc.specs.declared.counter.PlainCounter.TheVariants as plain
 use Rattle.omi_pc.specs.declared.frame.Barrier.TheVariants.{Explicit}
 use Rattle.omi_pc.specs.declared.frame.Opened.TheVariants as opened
+use Rattle.omi_pc.specs.declared.frame.Wait.{Wait}
 use Rattle.omi_pc.specs.declared.frame.Wait.TheVariants as wait
 use Rattle.omi_pc.specs.declared.task_counter.LookCounter.TheVariants as look
 use Rattle.omi_pc.specs.declared.task_counter.TaskCounter.TheVariants as task
 use Rattle.omi_pc.specs.declared.team_counter.BarrierCounter.TheVariants as barrier
 use Rattle.omi_pc.specs.declared.team_counter.TeamCounter.TheVariants as team
+use Rattle.omi_pc.specs.FitLaws.{grouped}
 use Rattle.omi_pc.specs.Moves.{returned, worked, back_to_work}
 use Rattle.omi_pc.specs.Settle.{calling, goes_to, settled}
 use Rattle.omi_pc.specs.Stacks.{function_of}
 use Rattle.omi_plain.specs.Statements.{in_work, lock_in, set_address, set_number, set_word, tool_in}
-use Rattle.omi_step_words.specs.Words.{of_task, of_thread}
+use Rattle.omi_step_words.specs.Words.{of_groups, of_task, of_thread}
 
 -- ---- operations
 
@@ -73,6 +76,8 @@ plain_next p w a plain.LockState =
     (state_word WAIT_CRITICAL (lock_wait (lock_in (in_work p a))))
 plain_next p w a plain.Lock = op.Cas (of_lock w (lock_in (in_work p a))) 0 (holder_word a.thread)
 plain_next p w a plain.Unlock = op.Store (of_lock w (lock_in (in_work p a))) 0
+plain_next p w a plain.GroupBegin =
+    op.Store (of_groups w a.context.task OPEN_PLACE) (a.context.open_groups + 1)
 plain_next p w a plain.Done = loading_native w a
 plain_next p w a plain.Ended = loading_native w a
 
@@ -82,19 +87,23 @@ plain_next p w a plain.Ended = loading_native w a
 abbrev pub task_counter : Bool → Counter
 task_counter at_once = counter.Task (if at_once then task.LoadVariable None 0 else task.LoadSlot 0)
 
+-- a wait in which the slots are looked at
+abbrev pub waiting_counter : Bool → Wait → Counter
+waiting_counter debug v = counter.Look (if debug then look.State v else look.LoadRow v 0)
+
 -- behind the store of the enter frame the statement in work goes on, in a task that is final or not. The thread's state is stored
 -- first where states are kept
 abbrev pub behind_enter : Bool → Bool → Option Stmt → Counter
 behind_enter debug final (Some (stmt.Parallel f num)) =
     counter.Team (if debug then team.OverheadState else team.LoadLevels)
 behind_enter debug final (Some (stmt.Task f undeferred given)) = task_counter (undeferred || final)
-behind_enter debug final (Some stmt.Taskwait) =
-    counter.Look (if debug then look.State wait.Taskwait else look.LoadRow wait.Taskwait 0)
+behind_enter debug final (Some stmt.Taskwait) = waiting_counter debug wait.Taskwait
 behind_enter debug final (Some stmt.Taskyield) = counter.Look (look.LoadRow wait.Taskyield 0)
 behind_enter debug final (Some stmt.Barrier) =
     counter.Barrier (if debug then barrier.State Explicit else barrier.Arrive Explicit)
 behind_enter debug final (Some (stmt.Critical k f)) =
     counter.Plain (if debug then plain.LockState else plain.Lock)
+behind_enter debug final (Some (stmt.Taskgroup f)) = waiting_counter debug wait.Taskgroup
 behind_enter debug final _ = counter.Plain plain.Enter
 
 abbrev pub past_enter : Program → Actor → Actor
@@ -107,6 +116,16 @@ left_behind p _ a = settled p a
 
 abbrev pub past_leave : Program → Actor → Actor
 past_leave p a = left_behind p (in_work p a) a
+
+-- the current task has begun a group, in which the function of its construct is called
+abbrev pub group_begun : Option Stmt → Actor → Actor
+group_begun (Some (stmt.Taskgroup f)) a =
+    calling f opened.Taskgroup
+    (record a { context = grouped (a.context.open_groups + 1) a.context })
+group_begun _ a = a
+
+abbrev pub past_group_begin : Program → Actor → Actor
+past_group_begin p a = group_begun (in_work p a) a
 
 -- the word of a lock was compared: the thread holds the lock now where no thread held it
 abbrev pub locked : Program → ℕ → Actor → Actor
@@ -126,6 +145,7 @@ plain_moved p a plain.WorkState old = worked p a
 plain_moved p a plain.LockState old = goes_to plain.Lock a
 plain_moved p a plain.Lock old = locked p old a
 plain_moved p a plain.Unlock old = settled p a
+plain_moved p a plain.GroupBegin old = past_group_begin p a
 plain_moved p a plain.Done old = goes_to plain.Ended a
 plain_moved p a plain.Ended old = a
 
@@ -152,5 +172,6 @@ plain_outcome p w a plain.LockState old =
     outcome.Event (event.State WAIT_CRITICAL (lock_wait (lock_in (in_work p a))))
 plain_outcome p w a plain.Lock old = lock_outcome w (lock_in (in_work p a)) old
 plain_outcome p w a plain.Unlock old = outcome.Event (event.Unlock (lock_in (in_work p a)))
+plain_outcome p w a plain.GroupBegin old = outcome.Event event.GroupBegin
 plain_outcome p w a plain.Done old = outcome.Event event.Done
 plain_outcome p w a plain.Ended old = outcome.Ended

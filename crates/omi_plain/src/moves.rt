@@ -1,11 +1,12 @@
 //! How the steps of this crate move a thread on.
 
-ghost use Rattle.std.specs.Prelude.{◌≡◌};
+ghost use Rattle.std.specs.Prelude.{◌≡◌, ◌≤◌};
+ghost use Rattle.omi_numbers.specs.declared.limits.TheConstants.{OPEN_GROUPS};
 ghost use Rattle.omi_pc.specs.Fits.{Fits};
 ghost use Rattle.omi_pc.specs.OpenBodies.{AreOpen};
 ghost use Rattle.omi_pc.specs.declared.counter.Counter.TheVariants as counter;
 ghost use Rattle.omi_plain.specs.PlainSteps;
-ghost use Rattle.omi_plain.specs.PlainSteps.{past_enter, past_leave, locked, plain_moved};
+ghost use Rattle.omi_plain.specs.PlainSteps.{past_enter, past_group_begin, past_leave, locked, plain_moved};
 
 use omi_pc::{
     Actor, Barrier, BarrierCounter, Counter, LookCounter, Opened, PlainCounter, TaskCounter,
@@ -27,12 +28,22 @@ fn task_counter(at_once: bool) -> Counter
     })
 }
 
+/// The first counter of a wait in which the slots are looked at.
+fn waiting_counter(debug: bool, wait: Wait) -> Counter
+    ensures { result ≡ PlainSteps.waiting_counter debug wait }
+{
+    Counter::Look(if debug {
+        LookCounter::State { wait }
+    } else {
+        LookCounter::LoadRow { wait, look: 0 }
+    })
+}
+
 /// The counter behind the store of the enter frame, in a task that is final or not.
 fn behind_enter(debug: bool, is_final: bool, s: Option<Stmt>) -> Counter
     ensures { result ≡ PlainSteps.behind_enter debug is_final s }
 {
     let barrier = Barrier::Explicit;
-    let wait = Wait::Taskwait;
     match s {
         Some(Stmt::Parallel { .. }) => Counter::Team(if debug {
             TeamCounter::OverheadState
@@ -40,11 +51,7 @@ fn behind_enter(debug: bool, is_final: bool, s: Option<Stmt>) -> Counter
             TeamCounter::LoadLevels
         }),
         Some(Stmt::Task { undeferred, .. }) => task_counter(undeferred || is_final),
-        Some(Stmt::Taskwait) => Counter::Look(if debug {
-            LookCounter::State { wait }
-        } else {
-            LookCounter::LoadRow { wait, look: 0 }
-        }),
+        Some(Stmt::Taskwait) => waiting_counter(debug, Wait::Taskwait),
         Some(Stmt::Taskyield) => Counter::Look(LookCounter::LoadRow {
             wait: Wait::Taskyield,
             look: 0,
@@ -59,6 +66,7 @@ fn behind_enter(debug: bool, is_final: bool, s: Option<Stmt>) -> Counter
         } else {
             PlainCounter::Lock
         }),
+        Some(Stmt::Taskgroup { .. }) => waiting_counter(debug, Wait::Taskgroup),
         _ => Counter::Plain(PlainCounter::Enter),
     }
 }
@@ -79,6 +87,19 @@ fn leave(p: &Program, a: &mut Actor)
     match a.statement(p) {
         Some(Stmt::Critical { k, f }) => a.call(f, Opened::Critical { lock: k }),
         _ => a.settle(p),
+    }
+}
+
+/// The current task has begun a group.
+fn begin_group(p: &Program, a: &mut Actor)
+    requires bodies { AreOpen p.now a.old.context a.old.stack }
+    requires few { a.old.context.open_groups ≤ OPEN_GROUPS }
+    ensures { a.new ≡ past_group_begin p.now a.old }
+{
+    stacks_have_room();
+    if let Some(Stmt::Taskgroup { f }) = a.statement(p) {
+        a.context.open_groups += 1;
+        a.call(f, Opened::Taskgroup);
     }
 }
 
@@ -111,6 +132,7 @@ pub fn move_on(p: &Program, a: &mut Actor, c: PlainCounter, old: u64)
         PlainCounter::WorkState => a.go_on(p),
         PlainCounter::LockState => a.go_to(PlainCounter::Lock),
         PlainCounter::Lock => lock(p, a, old),
+        PlainCounter::GroupBegin => begin_group(p, a),
         PlainCounter::Done => a.go_to(PlainCounter::Ended),
         PlainCounter::Ended => {}
     }

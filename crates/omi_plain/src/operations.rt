@@ -8,10 +8,10 @@ ghost use Rattle.omi_pc.specs.declared.counter.Counter.TheVariants as counter;
 ghost use Rattle.omi_plain.specs.PlainSteps;
 ghost use Rattle.omi_plain.specs.PlainSteps.{enter_word, loading_native, of_lock, plain_next};
 ghost use Rattle.omi_script.specs.declared.limits.TheConstants.{MAX_LOCK};
-ghost use Rattle.omi_step_words.specs.Placed.{IsPlaced};
+ghost use Rattle.omi_step_words.specs.Placed.{HasGroupWords, IsPlaced};
 
 use crate::statements::{lock, set_address, set_word, tool_word};
-use omi_layout::{Field, Layout};
+use omi_layout::{Field, Layout, OPEN_PLACE};
 use omi_model::Rid;
 use omi_numbers::{
     WAIT_CRITICAL, WORK_PARALLEL, WORK_SERIAL, enter_frame, exit_frame, holder_word, lock_wait,
@@ -19,7 +19,7 @@ use omi_numbers::{
 };
 use omi_pc::{Actor, PlainCounter};
 use omi_script::Program;
-use omi_step_words::{load, of_task, of_thread, store};
+use omi_step_words::{load, of_groups, of_task, of_thread, store};
 use omi_word::Op;
 
 /// The load of a thread's native id.
@@ -69,6 +69,7 @@ pub fn next_at(p: &Program, l: &Layout, a: &Actor, c: PlainCounter) -> Op
     requires fits { Fits p.now a.now }
     requires threads { p.now.threads ≡ thread_count l.now.table }
     requires placed { IsPlaced l.now.table a.now }
+    requires groups { HasGroupWords l.now.table }
     requires at { a.now.counter ≡ counter.Plain c }
     ensures { result ≡ plain_next p.now l.now.table a.now c }
 {
@@ -99,5 +100,9 @@ pub fn next_at(p: &Program, l: &Layout, a: &Actor, c: PlainCounter) -> Op
             new: holder_word(a.thread),
         },
         PlainCounter::Unlock => store(of_lock(l, lock(p, a)), 0),
+        PlainCounter::GroupBegin => store(
+            of_groups(l, task, OPEN_PLACE),
+            u64::from(a.context.open_groups) + 1,
+        ),
     }
 }

@@ -79,6 +79,7 @@ pub fn outcome_at(p: &Program, l: &Layout, a: &Actor, c: PlainCounter, old: u64)
         }),
         PlainCounter::Lock => lock_outcome(l, lock(p, a), old),
         PlainCounter::Unlock => CompactOutcome::Event(CompactEvent::Unlock { k: lock(p, a) }),
+        PlainCounter::GroupBegin => CompactOutcome::Event(CompactEvent::GroupBegin),
         PlainCounter::Done => CompactOutcome::Event(CompactEvent::Done),
         PlainCounter::Ended => CompactOutcome::Ended,
     }

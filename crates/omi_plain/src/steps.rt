@@ -5,7 +5,7 @@ ghost use Rattle.omi_layout.specs.Table.{thread_count};
 ghost use Rattle.omi_pc.specs.Fits.{Fits};
 ghost use Rattle.omi_plain.specs.Steps.{IsPlainCounter, IsPlainMoved, IsPlainNext, IsPlainOutcome};
 ghost use Rattle.omi_step_words.specs.Outcomes.{outcome_of};
-ghost use Rattle.omi_step_words.specs.Placed.{IsPlaced};
+ghost use Rattle.omi_step_words.specs.Placed.{HasGroupWords, IsPlaced};
 
 use crate::moves::move_on;
 use crate::operations::next_at;
@@ -21,6 +21,7 @@ pub fn plain_next(p: &Program, l: &Layout, a: &Actor) -> Op
     requires fits { Fits p.now a.now }
     requires threads { p.now.threads ≡ thread_count l.now.table }
     requires placed { IsPlaced l.now.table a.now }
+    requires groups { HasGroupWords l.now.table }
     requires counter { IsPlainCounter a.now.counter }
     ensures { IsPlainNext p.now l.now.table a.now a.now.counter result }
 {

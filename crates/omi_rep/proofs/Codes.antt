@@ -5,7 +5,7 @@ use Rattle.std.proofs.lemmas.Bool.Decides.{nat_tests}
 use Rattle.std.proofs.lemmas.Option.{slice_get_within}
 use Rattle.omi_model.specs.declared.id.Tid.{Tid}
 use Rattle.omi_layout.specs.declared.field.Field.{Field}
-use Rattle.omi_layout.specs.declared.field.Field.TheVariants.{RuntimeLocks, ThreadLife, RegionTeam, TaskNthreads}
+use Rattle.omi_layout.specs.declared.field.Field.TheVariants.{RuntimeLocks, ThreadLife, RegionTeam, TaskNthreads, TaskSlots}
 use Rattle.omi_layout.specs.Field.{kind_of, runtime, threads, regions, tasks}
 use Rattle.omi_layout.specs.Memory.{memory_of, word_address, IsRecordWord}
 use Rattle.omi_layout.specs.Named.{number}
@@ -16,7 +16,7 @@ use Rattle.omi_layout.proofs.Arenas.{some_threads}
 use Rattle.omi_layout.proofs.Numbers.{numbered_field}
 use Rattle.omi_layout.proofs.Stored.{mapped}
 use Rattle.omi_word.specs.Words.{words_of}
-use Rattle.omi_rep.specs.Codes.{Codes, HasCodes, RuntimeWords, ThreadWords, RegionWords, TaskWords, lock_word, runtime_code, thread_code, region_code, task_code}
+use Rattle.omi_rep.specs.Codes.{Codes, HasCodes, RuntimeWords, ThreadWords, RegionWords, TaskWords, group_code, lock_word, runtime_code, thread_code, region_code, task_code}
 use Rattle.omi_rep.specs.Records.{records_of, task_address}
 use Rattle.omi_rep.specs.Shows.{CodesStand, Stands}
 
@@ -93,6 +93,12 @@ pub task_coded : (w : List ℕ) → IsValid w → (t : TaskWords) → length t.v
 task_coded w v t few TaskNthreads at word is =
     let inside = slice_get_within t.variables.nthreads at word is in
     record { kind_is = refl; within = omega (arith, inside, few) }
+task_coded w v t few TaskSlots at word is = go (nat_lt at (width w (number TaskSlots))) refl is
+  where
+    go : (b : Bool) → nat_lt at (width w (number TaskSlots)) ≡ b
+        → (if b then group_code w t at else None) ≡ Some word → IsPlaceOf w tasks TaskSlots at
+    go true e some = record { kind_is = refl; within = grind (arith, nat_tests) }
+    go false e none = absurd (cc)
 task_coded w v t few f zero word is = record { kind_is = cc; within = wide w v (number f) }
 task_coded w v t few f (suc at) word is = absurd (cc)
 

@@ -32,7 +32,7 @@ use Rattle.omi_word.specs.Words.{Words, words_of}
 use Rattle.omi_rep.specs.Codes.{region_code, region_told, runtime_told, shown, shown_unbegun, task_code, task_told, thread_code, thread_told}
 use Rattle.omi_rep.specs.Opened.{OpeningIsShown}
 use Rattle.omi_rep.specs.Records.{records_of}
-use Rattle.omi_rep.specs.Shows.{CodesStand, IsWithin, LiveAreNamed, RecordsShow, Shows, ShowsSlot, Stands}
+use Rattle.omi_rep.specs.Shows.{AreGroupsWithin, CodesStand, IsWithin, LiveAreNamed, RecordsShow, Shows, ShowsSlot, Stands}
 use Rattle.omi_rep.proofs.Codes.{codes_stand, region_coded, runtime_coded, task_coded, thread_coded, wide}
 use Rattle.omi_rep.proofs.OpenedCodes.{region_opened, runtime_opened, task_opened, thread_opened}
 
@@ -116,6 +116,7 @@ module _ (p : Program) (w words : List ℕ) (v : IsValid w) (suits : p.threads �
     region = region_seen;
     generating = λ k is. absurd (cc);
     scheduling = λ k is. absurd (cc);
+    owner = λ g none. absurd (cc);
     begun = begun;
     ends = (0, refl);
     variables = record { some = (Rules-from_accepted p).count.0; few = (Rules-from_accepted p).count.1; kind_from = (Rules-from_accepted p).schedule.0; kind_to = (Rules-from_accepted p).schedule.1 };
@@ -230,8 +231,14 @@ module _ (p : Program) (w words : List ℕ) (v : IsValid w) (suits : p.threads �
           (subst (λ (j : ℕ). CodesStand shown (task_code w (task_told t)) (records_of w g 0 tasks j)) (sym at.place)
           (subst (λ (q : Task). CodesStand shown (task_code w (task_told q)) (records_of w g 0 tasks 0)) at.same task_shown))
 
+  -- the initial task is in no group and has none open
+  ungrouped : AreGroupsWithin w s
+  ungrouped old k t live =
+      let same = (alone_found (opening_task p) t k.0.creator k.0.slot k.0.generation live).same in
+      record { member = ap (λ (u : Task). u.group) (sym same); open_groups = ap (λ (u : Task). u.open_groups) (sym same) }
+
   opened : Shows w g s
-  opened = record { layout = tables_give w words v opens.tables; within = within; records = records_shown }
+  opened = record { layout = tables_give w words v opens.tables; within = within; groups = ungrouped; records = records_shown }
 
 pub opening_shown : OpeningIsShown
 opening_shown = λ p w words v suits opens. opened p w words v suits opens

@@ -4,14 +4,15 @@ use Rattle.std.proofs.lemmas.Option.{get_or_from_slice_get}
 use Rattle.omi_script.specs.declared.program.Program.{Program}
 use Rattle.omi_numbers.specs.declared.states.TheConstants.{WORK_SERIAL, IDLE}
 use Rattle.omi_model.specs.Opening.{initial_thread, opening, opening_region, opening_task, waiting_worker}
-use Rattle.omi_layout.specs.declared.field.Field.TheVariants.{RuntimeLocks, ThreadLife, ThreadCurrent, ThreadState, RegionLife, TaskNthreads}
+use Rattle.omi_layout.specs.declared.field.Field.TheVariants.{RuntimeLocks, ThreadLife, ThreadCurrent, ThreadState, RegionLife, TaskNthreads, TaskSlots}
+use Rattle.omi_layout.specs.declared.limits.TheConstants.{GROUP_PLACE, OPEN_PLACE}
 use Rattle.omi_layout.specs.Field.{tasks}
 use Rattle.omi_layout.specs.Memory.{Rec}
 use Rattle.omi_layout.specs.Named.{number}
 use Rattle.omi_layout.specs.OpeningWords.{OpensRuntime, OpensThread, OpensRegion, OpensTask, region_opening, runtime_opening, task_opening, thread_opening}
 use Rattle.omi_layout.specs.Place.{slot_address}
 use Rattle.omi_layout.specs.Table.{width}
-use Rattle.omi_rep.specs.Codes.{HasCodes, region_code, region_told, runtime_code, runtime_told, task_code, task_told, thread_code, thread_told}
+use Rattle.omi_rep.specs.Codes.{HasCodes, group_code, region_code, region_told, runtime_code, runtime_told, task_code, task_told, thread_code, thread_told}
 use Rattle.omi_rep.proofs.Codes.{same_word}
 
 -- an opening word agrees with the code that its field has, if it has one
@@ -71,6 +72,16 @@ pub task_opened : (p : Program) (w : List ℕ) (r : Rec) → OpensTask p w r
     → HasCodes (task_code w (task_told (opening_task p))) r
 task_opened p w r o TaskNthreads j word is =
     o.words TaskNthreads j ∙ get_or_from_slice_get p.env.nthreads j word 0 is
+task_opened p w r o TaskSlots at word is = o.words TaskSlots at ∙ go (nat_lt at (width w (number TaskSlots))) is
+  where
+    places : (b c : Bool) → (if b then Some 0 else (if c then Some 0 else None)) ≡ Some word → 0 ≡ word
+    places true c some = same_word 0 word some
+    places false true some = same_word 0 word some
+    places false false none = absurd (cc)
+
+    go : (b : Bool) → (if b then group_code w (task_told (opening_task p)) at else None) ≡ Some word → 0 ≡ word
+    go true some = places (at == GROUP_PLACE) (at == OPEN_PLACE) some
+    go false none = absurd (cc)
 task_opened p w r o f zero word is =
     o.words f 0 ∙ opened_word (task_code w (task_told (opening_task p)) f 0) (task_opening p w f 0) word refl is
 task_opened p w r o f (suc at) word is = absurd (cc)

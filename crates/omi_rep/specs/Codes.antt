@@ -11,6 +11,7 @@ use Rattle.omi_numbers.specs.Words.{flag, state_word, native_id}
 use Rattle.omi_script.specs.Schedules.{schedule_word}
 use Rattle.omi_model.specs.declared.claim.Claim.{Claim}
 use Rattle.omi_model.specs.declared.claim.Claim.TheVariants as claim
+use Rattle.omi_model.specs.declared.group.Group.{Group}
 use Rattle.omi_model.specs.declared.id.Rid.{Rid}
 use Rattle.omi_model.specs.declared.id.Tid.{Tid}
 use Rattle.omi_model.specs.declared.region.Region.{Region}
@@ -19,11 +20,12 @@ use Rattle.omi_model.specs.declared.task.Variables.{Variables}
 use Rattle.omi_model.specs.declared.thread.Thread.{Thread}
 use Rattle.omi_model.specs.State.{State}
 use Rattle.omi_layout.specs.declared.field.Field.{Field}
-use Rattle.omi_layout.specs.declared.field.Field.TheVariants.{RuntimeVersion, RuntimeThreads, RuntimeProcs, RuntimeDebug, RuntimeMaxActive, RuntimeLocks, ThreadLife, ThreadNative, ThreadCurrent, ThreadState, ThreadClaim, RegionFunction, RegionEnclosing, RegionEncountering, RegionSize, RegionLevels, RegionActive, RegionReleased, RegionArrived, RegionTeam, TaskImplicit, TaskRegion, TaskThread, TaskNumber, TaskGenerating, TaskScheduling, TaskFunction, TaskExit, TaskEnter, TaskDynamic, TaskNthreadsLength, TaskSchedule, TaskDevice, TaskFinal, TaskTool, TaskNthreads}
+use Rattle.omi_layout.specs.declared.field.Field.TheVariants.{RuntimeVersion, RuntimeThreads, RuntimeProcs, RuntimeDebug, RuntimeMaxActive, RuntimeLocks, ThreadLife, ThreadNative, ThreadCurrent, ThreadState, ThreadClaim, RegionFunction, RegionEnclosing, RegionEncountering, RegionSize, RegionLevels, RegionActive, RegionReleased, RegionArrived, RegionTeam, TaskImplicit, TaskRegion, TaskThread, TaskNumber, TaskGenerating, TaskScheduling, TaskFunction, TaskExit, TaskEnter, TaskDynamic, TaskNthreadsLength, TaskSchedule, TaskDevice, TaskFinal, TaskTool, TaskNthreads, TaskSlots}
 use Rattle.omi_layout.specs.Memory.{Rec}
 use Rattle.omi_layout.specs.Named.{number}
 use Rattle.omi_layout.specs.Table.{width}
-use Rattle.omi_rep.specs.Records.{thread_address, region_address, task_address, region_word, task_word}
+use Rattle.omi_layout.specs.declared.limits.TheConstants.{GROUP_PLACE, OPEN_PLACE}
+use Rattle.omi_rep.specs.Records.{thread_address, region_address, task_address, region_word, task_word, group_word}
 
 -- ---- codes
 
@@ -161,6 +163,8 @@ pub record TaskWords : Type 0 where
   pub variables : Variables
   pub is_final : Bool
   pub tool : ℕ
+  pub group : Option Group
+  pub open_groups : ℕ
 
 abbrev pub task_told : Task → TaskWords
 task_told t =
@@ -177,7 +181,15 @@ task_told t =
       variables = t.variables;
       is_final = t.is_final;
       tool = t.tool;
+      group = t.group;
+      open_groups = t.open_groups;
     }
+
+-- the words for groups behind the slots, where the layout has them: the task's group, and how many groups it has open
+abbrev pub group_code : List ℕ → TaskWords → ℕ → Option ℕ
+group_code w t at =
+    if at == GROUP_PLACE then Some (group_word w t.group)
+    else (if at == OPEN_PLACE then Some t.open_groups else None)
 
 abbrev pub task_code : List ℕ → TaskWords → Codes
 task_code w t TaskImplicit = single (flag t.implicit)
@@ -196,6 +208,7 @@ task_code w t TaskDevice = single t.variables.device
 task_code w t TaskFinal = single (flag t.is_final)
 task_code w t TaskTool = single t.tool
 task_code w t TaskNthreads = slice_get t.variables.nthreads
+task_code w t TaskSlots = λ at. if nat_lt at (width w (number TaskSlots)) then group_code w t at else None
 task_code w t _ = untold
 
 -- ---- groups of fields
@@ -218,7 +231,7 @@ shown =
     ∷ RegionActive ∷ RegionTeam
     ∷ TaskImplicit ∷ TaskRegion ∷ TaskThread ∷ TaskNumber ∷ TaskGenerating ∷ TaskScheduling
     ∷ TaskFunction ∷ TaskExit ∷ TaskEnter ∷ TaskDynamic ∷ TaskNthreadsLength ∷ TaskSchedule
-    ∷ TaskDevice ∷ TaskFinal ∷ TaskTool ∷ TaskNthreads ∷ [])
+    ∷ TaskDevice ∷ TaskFinal ∷ TaskTool ∷ TaskNthreads ∷ TaskSlots ∷ [])
 
 abbrev pub shown_unbegun : Field → Bool
 shown_unbegun = is_among (ThreadLife ∷ ThreadNative ∷ [])

@@ -3,6 +3,7 @@ use Rattle.std.specs.Prelude.{ℕ, ◌+◌, ◌*◌, List, Option, Some}
 use Rattle.std.specs.Option.{option_map_or}
 use Rattle.omi_numbers.specs.declared.lives.TheConstants.{CODED_RECORDS}
 use Rattle.omi_numbers.specs.Lives.{life_word}
+use Rattle.omi_model.specs.declared.group.Group.{Group}
 use Rattle.omi_model.specs.declared.id.Rid.{Rid}
 use Rattle.omi_model.specs.declared.id.Tid.{Tid}
 use Rattle.omi_layout.specs.Field.{runtime, threads, regions, tasks}
@@ -50,6 +51,10 @@ region_word w n = option_map_or (region_address w) n 0
 
 abbrev pub task_word : List ℕ → Option Tid → ℕ
 task_word w k = option_map_or (task_address w) k 0
+
+-- a task group or none: the record of its owner, and its index among those that the owner has open
+abbrev pub group_word : List ℕ → Option Group → ℕ
+group_word w g = option_map_or (λ x. task_address w x.owner + x.index) g 0
 
 -- the code of a deferred task, by the life word and the number of its record. A slot without a task has 0
 abbrev pub slot_word : List ℕ → Tid → ℕ

@@ -4,14 +4,16 @@ use Rattle.omi_model.specs.declared.id.Rid.{Rid}
 use Rattle.omi_model.specs.declared.id.Tid.{Tid}
 use Rattle.omi_model.specs.Put.{Slots, found}
 use Rattle.omi_model.specs.declared.slot.Slot.{Slot}
-use Rattle.omi_model.specs.State.{State}
+use Rattle.omi_model.specs.declared.task.Task.{Task}
+use Rattle.omi_model.specs.State.{State, task_of}
 use Rattle.omi_model.specs.Visible.{IsVisibleRegion, IsVisibleTask}
 use Rattle.omi_model.specs.WellFormed.{IsWellFormed}
 use Rattle.omi_layout.specs.declared.field.Field.{Field}
 use Rattle.omi_layout.specs.declared.field.Field.TheVariants.{RegionLife, TaskLife}
 use Rattle.omi_layout.specs.Field.{runtime, threads, regions, tasks}
 use Rattle.omi_layout.specs.Named.{number}
-use Rattle.omi_layout.specs.Table.{thread_count, per_thread}
+use Rattle.omi_layout.specs.declared.limits.TheConstants.{FIRST_VERSION}
+use Rattle.omi_layout.specs.Table.{thread_count, per_thread, version}
 use Rattle.omi_word.specs.Words.{Words}
 use Rattle.omi_layout.specs.Given.{GivesLayout}
 use Rattle.omi_rep.specs.Codes.{Codes, runtime_code, runtime_told, thread_code, thread_told, region_code, region_told, task_code, task_told, shown, shown_unbegun}
@@ -69,8 +71,14 @@ pub record IsWithin (w : List ℕ) (s : State) : Type 0 where
   pub regions_named : LiveAreNamed s.regions
   pub tasks_named : LiveAreNamed s.tasks
 
+-- in a layout whose tasks have no words for groups, no task is a member of a group, and none has a group open
+abbrev pub AreGroupsWithin : List ℕ → State → Type 0
+AreGroupsWithin w s = version w ≡ FIRST_VERSION → (k : Tid) (t : Task) → task_of s k ≡ Some t
+    → record { member : t.group ≡ None; open_groups : t.open_groups ≡ 0 }
+
 -- the memory shows the state in this layout
 pub record Shows (w : List ℕ) (words : Words) (s : State) : Type 0 where
   pub layout : GivesLayout words w
   pub within : IsWithin w s
+  pub groups : AreGroupsWithin w s
   pub records : RecordsShow w (records_of w words) s

@@ -10,15 +10,20 @@ use Rattle.omi_word.specs.Memory.{address_of}
 use Rattle.omi_script.specs.declared.program.Program.{Program}
 use Rattle.omi_model.specs.declared.event.Event.{Event}
 use Rattle.omi_model.specs.declared.event.Event.TheVariants as event
+use Rattle.omi_model.specs.declared.group.Group.{Group}
 use Rattle.omi_model.specs.declared.id.Rid.{Rid}
 use Rattle.omi_model.specs.declared.id.Tid.{Tid}
 use Rattle.omi_model.specs.declared.progress.Progress.TheVariants.{Begun, Deferred}
 use Rattle.omi_model.specs.declared.region.Region.{Region}
 use Rattle.omi_model.specs.declared.slot.Slot.{Slot}
 use Rattle.omi_model.specs.declared.task.Task.{Task}
+use Rattle.omi_model.specs.Groups.{AreMembersFinished}
+use Rattle.omi_model.specs.LawChains.{IsChain}
 use Rattle.omi_model.specs.Opening.{opening}
 use Rattle.omi_model.specs.Reached.{Reached, Step}
 use Rattle.omi_model.specs.State.{State, region_of, task_of}
+use Rattle.omi_model.proofs.ChainsKept.{have_chains}
+use Rattle.omi_model.proofs.groups.GroupMembers.{finished_groups_stay}
 use Rattle.omi_model.proofs.ReachedWellFormed.{reached_well_formed}
 use Rattle.omi_model.proofs.ReachedStates.{leads_on}
 use Rattle.omi_model.proofs.Slots.{found_live, id_same, none_some, put_other, some_same}
@@ -58,6 +63,7 @@ use Rattle.omi_rule.proofs.Runs.{stack_runs}
 use Rattle.omi_rule.proofs.Named.{all_named}
 use Rattle.omi_rule.proofs.NothingNew.{Makes, nothing_new, within_stays}
 use Rattle.omi_rule.proofs.RowsStay.{Spares, row_stays}
+use Rattle.omi_numbers.specs.declared.limits.TheConstants.{OWN_SLOTS}
 
 -- ---- premises
 
@@ -76,7 +82,7 @@ pub record Before (p : Program) (w : List ℕ) (m : Memory) (events : List (ℕ 
 -- ---- what a store spares
 
 pub spares_none : (m : Memory) (s : State) (j : ℕ) (a : Actor) → Spares m m s j a
-spares_none m s j a = record { regions_same = λ slot e. refl; tasks_same = λ slot e. refl; assign_same = λ t e. refl; left_kept = λ slot. omega arith; slots_kept = λ row t place live im is empty. empty; hand_same = λ k t f at known is live deferred of. refl }
+spares_none m s j a = record { regions_same = λ slot e. refl; tasks_same = λ slot e. refl; assign_same = λ t e. refl; left_kept = λ slot. omega arith; slots_kept = λ row t place live im is within empty. empty; hand_same = λ k t f at known is live deferred of. refl }
 
 -- a word of a record that stays does not fall
 pub not_less : (x y : Rec) (f at : ℕ) → y ≡ x → x f at ≤ y f at
@@ -115,7 +121,7 @@ spares_own m s i kind slot f at v j a other free = record {
   tasks_same = λ k e. record_stays m i kind slot f at v j tasks k (λ c _ _. other c);
   assign_same = λ t e. word_stays m i kind slot f at v j threads 0 (number ThreadAssign) 0 (λ c _ _ _ _. other c);
   left_kept = λ k. not_less (m j regions k) (with_word m i kind slot f at v j regions k) (number RegionLeft) 0 (record_stays m i kind slot f at v j regions k (λ c _ _. other c));
-  slots_kept = λ row t place live im is empty. word_stays m i kind slot f at v row.0.creator tasks row.0.slot (number TaskSlots) place (λ c q h _ _. apart row t live c q h) ∙ empty;
+  slots_kept = λ row t place live im is within empty. word_stays m i kind slot f at v row.0.creator tasks row.0.slot (number TaskSlots) place (λ c q h _ _. apart row t live c q h) ∙ empty;
   hand_same = λ k t g h known is live deferred of. word_stays m i kind slot f at v k.0.creator tasks k.0.slot (number g) h (λ c q x _ _. apart k t live c q x);
 }
   where
@@ -132,7 +138,7 @@ spares_threads m s i f v j a apart = record {
   tasks_same = λ k e. record_stays m i threads 0 (number f) 0 v j tasks k (λ _ kind _. absurd (omega (arith, kind)));
   assign_same = λ t e. word_stays m i threads 0 (number f) 0 v j threads 0 (number ThreadAssign) 0 (λ _ _ _ field _. apart (sym field));
   left_kept = λ k. not_less (m j regions k) (with_word m i threads 0 (number f) 0 v j regions k) (number RegionLeft) 0 (record_stays m i threads 0 (number f) 0 v j regions k (λ _ kind _. absurd (omega (arith, kind))));
-  slots_kept = λ row t place live im is empty. word_stays m i threads 0 (number f) 0 v row.0.creator tasks row.0.slot (number TaskSlots) place (λ _ kind _ _ _. absurd (omega (arith, kind))) ∙ empty;
+  slots_kept = λ row t place live im is within empty. word_stays m i threads 0 (number f) 0 v row.0.creator tasks row.0.slot (number TaskSlots) place (λ _ kind _ _ _. absurd (omega (arith, kind))) ∙ empty;
   hand_same = λ k t g h known is live deferred of. word_stays m i threads 0 (number f) 0 v k.0.creator tasks k.0.slot (number g) h (λ _ kind _ _ _. absurd (omega (arith, kind)));
 }
 
@@ -143,7 +149,7 @@ spares_runtime m s f at v j a = record {
   tasks_same = λ k e. record_stays m 0 runtime 0 (number f) at v j tasks k (λ _ kind _. absurd (omega (arith, kind)));
   assign_same = λ t e. word_stays m 0 runtime 0 (number f) at v j threads 0 (number ThreadAssign) 0 (λ _ kind _ _ _. absurd (omega (arith, kind)));
   left_kept = λ k. not_less (m j regions k) (with_word m 0 runtime 0 (number f) at v j regions k) (number RegionLeft) 0 (record_stays m 0 runtime 0 (number f) at v j regions k (λ _ kind _. absurd (omega (arith, kind))));
-  slots_kept = λ row t place live im is empty. word_stays m 0 runtime 0 (number f) at v row.0.creator tasks row.0.slot (number TaskSlots) place (λ _ kind _ _ _. absurd (omega (arith, kind))) ∙ empty;
+  slots_kept = λ row t place live im is within empty. word_stays m 0 runtime 0 (number f) at v row.0.creator tasks row.0.slot (number TaskSlots) place (λ _ kind _ _ _. absurd (omega (arith, kind))) ∙ empty;
   hand_same = λ k t g h known is live deferred of. word_stays m 0 runtime 0 (number f) at v k.0.creator tasks k.0.slot (number g) h (λ _ kind _ _ _. absurd (omega (arith, kind)));
 }
 
@@ -158,7 +164,7 @@ spares_region m s n r f at v j a live rises = record {
   tasks_same = λ k e. record_stays m n.0.creator regions n.0.slot (number f) at v j tasks k (λ _ kind _. absurd (omega (arith, kind)));
   assign_same = λ t e. word_stays m n.0.creator regions n.0.slot (number f) at v j threads 0 (number ThreadAssign) 0 (λ _ kind _ _ _. absurd (omega (arith, kind)));
   left_kept = λ k. kept k rises;
-  slots_kept = λ row t place here im is empty. word_stays m n.0.creator regions n.0.slot (number f) at v row.0.creator tasks row.0.slot (number TaskSlots) place (λ _ kind _ _ _. absurd (omega (arith, kind))) ∙ empty;
+  slots_kept = λ row t place here im is within empty. word_stays m n.0.creator regions n.0.slot (number f) at v row.0.creator tasks row.0.slot (number TaskSlots) place (λ _ kind _ _ _. absurd (omega (arith, kind))) ∙ empty;
   hand_same = λ k t g h known is here deferred of. word_stays m n.0.creator regions n.0.slot (number f) at v k.0.creator tasks k.0.slot (number g) h (λ _ kind _ _ _. absurd (omega (arith, kind)));
 }
   where
@@ -183,8 +189,8 @@ same_name s k h t x live there c q =
     )
 
 -- a store into a live task's record spares the slots of thread j: it is in no slot, or in a task of another thread, or empties one
-abbrev pub SparesSlots : Task → Field → ℕ → ℕ → Type 0
-SparesSlots t f v j = (number f ≢ number TaskSlots) ⊎ ((t.thread ≢ j) ⊎ (v ≡ 0))
+abbrev pub SparesSlots : Task → Field → ℕ → ℕ → ℕ → Type 0
+SparesSlots t f at v j = ((number f ≡ number TaskSlots → OWN_SLOTS ≤ at)) ⊎ ((t.thread ≢ j) ⊎ (v ≡ 0))
 
 -- and the hand of thread j: it is in no word of a place, or in no deferred task, or the task is not in that hand
 abbrev pub SparesHand : State → Tid → Task → Field → ℕ → Actor → Type 0
@@ -192,7 +198,7 @@ SparesHand s k t f j a =
     (g : Field) → is_place g ≡ true → number g ≡ number f → t.progress ≡ Deferred → j < s.count → (owed a).hand ≡ Some k → ⊥
 
 pub spares_task : (m : Memory) (s : State) (k : Tid) (t : Task) (f : Field) (at v j : ℕ) (a : Actor)
-    → task_of s k ≡ Some t → SparesSlots t f v j → SparesHand s k t f j a
+    → task_of s k ≡ Some t → SparesSlots t f at v j → SparesHand s k t f j a
     → Spares m (with_word m k.0.creator tasks k.0.slot (number f) at v) s j a
 spares_task m s k t f at v j a live slots hand = record {
   regions_same = λ h e. record_stays m k.0.creator tasks k.0.slot (number f) at v j regions h (λ _ kind _. absurd (omega (arith, kind)));
@@ -200,7 +206,7 @@ spares_task m s k t f at v j a live slots hand = record {
       (λ c _ slot. none_some (subst (λ x. (s.tasks x k.0.slot).live ≡ None) c (subst (λ x. (s.tasks j x).live ≡ None) slot e)) (found_live k.0.generation (s.tasks k.0.creator k.0.slot) t live));
   assign_same = λ x e. word_stays m k.0.creator tasks k.0.slot (number f) at v j threads 0 (number ThreadAssign) 0 (λ _ kind _ _ _. absurd (omega (arith, kind)));
   left_kept = λ h. not_less (m j regions h) (with_word m k.0.creator tasks k.0.slot (number f) at v j regions h) (number RegionLeft) 0 (record_stays m k.0.creator tasks k.0.slot (number f) at v j regions h (λ _ kind _. absurd (omega (arith, kind))));
-  slots_kept = λ row x place there im is empty. kept row x place there is empty slots;
+  slots_kept = λ row x place there im is within empty. kept row x place there is within empty slots;
   hand_same =
       λ h x g place known is there deferred of. word_stays m k.0.creator tasks k.0.slot (number f) at v h.0.creator tasks h.0.slot (number g) place
       (λ c _ slot field _.
@@ -208,19 +214,19 @@ spares_task m s k t f at v j a live slots hand = record {
       hand g of field (ap (λ (y : Task). y.progress) (sym same) ∙ deferred) known (is ∙ ap Some name));
 }
   where
-    kept : (row : Tid) (x : Task) (place : ℕ) → task_of s row ≡ Some x → x.thread ≡ j
-        → slot_of m row place ≡ 0 → SparesSlots t f v j
+    kept : (row : Tid) (x : Task) (place : ℕ) → task_of s row ≡ Some x → x.thread ≡ j → place < OWN_SLOTS
+        → slot_of m row place ≡ 0 → SparesSlots t f at v j
         → slot_of (with_word m k.0.creator tasks k.0.slot (number f) at v) row place ≡ 0
-    kept row x place there is empty (inl apart) =
+    kept row x place there is within empty (inl behind) =
         word_stays m k.0.creator tasks k.0.slot (number f) at v row.0.creator tasks row.0.slot
-        (number TaskSlots) place (λ _ _ _ field _. apart (sym field))
+        (number TaskSlots) place (λ _ _ _ field same. let least = behind (sym field) in omega (arith, least, same, within))
         ∙ empty
-    kept row x place there is empty (inr (inl other)) =
+    kept row x place there is within empty (inr (inl other)) =
         word_stays m k.0.creator tasks k.0.slot (number f) at v row.0.creator tasks row.0.slot
         (number TaskSlots) place
         (λ c _ slot _ _. let (name, same) = same_name s k row t x live there c slot in other (ap (λ (y : Task). y.thread) (sym same) ∙ is))
         ∙ empty
-    kept row x place there is empty (inr (inr zero)) =
+    kept row x place there is within empty (inr (inr zero)) =
         word_clears m k.0.creator tasks k.0.slot (number f) at v row.0.creator tasks row.0.slot
         (number TaskSlots) place zero empty
 
@@ -233,6 +239,16 @@ spares_begun m s k t f at v i j a live begun runs other =
     (λ g of field deferred known is. begun_undeferred t begun deferred)
 
 -- ---- other threads
+
+-- the current task of a thread runs there
+current_runs : (p : Program) (events : List (ℕ × Event)) (s : State) → Reached p events s → (i : ℕ) (k : Tid) (t : Task)
+    → (s.threads i).current ≡ Some k → task_of s k ≡ Some t → t.thread ≡ i
+current_runs p events s reached i k t is live = let (ks, chain) = have_chains p events s reached i in go ks chain
+  where
+    go : (ks : List Tid) → IsChain s i (s.threads i).current ks → t.thread ≡ i
+    go [] none = absurd (none_some none is)
+    go (n ∷ ns) (u, top, apart, found, thread, begun, chain) =
+        ap (λ (x : Task). x.thread) (some_same live (subst (λ (x : Tid). task_of s x ≡ Some u) (some_same top is) found)) ∙ thread
 
 module _ (p : Program) (w : List ℕ) (m n : Memory) (events later : List (ℕ × Event)) (s u : State)
     (actors : ℕ → Actor) (i : ℕ) (rule : Rule p w m events s actors) (leaves : LeavesOthers s u i)
@@ -252,6 +268,7 @@ module _ (p : Program) (w : List ℕ) (m n : Memory) (events later : List (ℕ �
   ended_stays j (counter.Plain plain.LockState) more o = tt
   ended_stays j (counter.Plain plain.Lock) more o = tt
   ended_stays j (counter.Plain plain.Unlock) more o = tt
+  ended_stays j (counter.Plain plain.GroupBegin) more o = tt
   ended_stays j (counter.Plain plain.Done) more o = tt
   ended_stays j (counter.Worker c) more o = tt
   ended_stays j (counter.Team c) more o = tt
@@ -266,10 +283,11 @@ module _ (p : Program) (w : List ℕ) (m n : Memory) (events later : List (ℕ �
       →
       ((k : Tid) → (owed (actors j)).hand ≡ Some k → (t : Task) × (task_of u k ≡ Some t) × (t.progress ≡ Deferred))
       → OwesOnLive u (owed (actors j))
+      → ((g : Group) → ((s.threads i).current ≡ Some g.owner → ⊥) → AreMembersFinished s g → AreMembersFinished u g)
       →
       ((c : BarrierCounter) → (actors j).counter ≡ counter.Barrier c → KeepsBarrierRow s (actors j) c → KeepsBarrierRow u (actors j) c)
       → KeepsThread p w n later u j (actors j)
-  other_thread more j known other spares hands owes barriers =
+  other_thread more j known other spares hands owes groups barriers =
       let o = rule.threads j known in
       record {
         thread = o.thread;
@@ -277,7 +295,9 @@ module _ (p : Program) (w : List ℕ) (m n : Memory) (events later : List (ℕ �
         placed = o.placed;
         stands = others_stand p s u i leaves j other (actors j) o.stands;
         runs = stack_runs p s u j names.stays (actors j) o.stands o.runs;
-        row = row_stays p w m n s u i leaves names j other (actors j) spares o.fits o.thread o.stands (own_row p events s rule.reached j (actors j).context) known hands owes (rule.words.made j known).making barriers o.row;
+        row = row_stays p w m n s u i leaves names j other (actors j) spares
+            (λ top g owner. groups g (λ here. other (sym top.thread ∙ current_runs p events s rule.reached i (actors j).context.task top.task (here ∙ ap Some owner) top.live)))
+            o.fits o.thread o.stands (own_row p events s rule.reached j (actors j).context) known hands owes (rule.words.made j known).making barriers o.row;
         ended = ended_stays j (actors j).counter more o.ended;
       }
 
@@ -285,10 +305,11 @@ module _ (p : Program) (w : List ℕ) (m n : Memory) (events later : List (ℕ �
   pub all_threads : (a : Actor) → KeepsWords w n u (all_owed (replace_at actors i a))
       → ((x : ℕ × Event) → Contains events x → Contains later x)
       → ((j : ℕ) → j ≢ i → Spares m n s j (actors j))
+      → ((g : Group) → ((s.threads i).current ≡ Some g.owner → ⊥) → AreMembersFinished s g → AreMembersFinished u g)
       →
       ((j : ℕ) → j < s.count → j ≢ i → (c : BarrierCounter) → (actors j).counter ≡ counter.Barrier c → KeepsBarrierRow s (actors j) c → KeepsBarrierRow u (actors j) c)
       → KeepsThread p w n later u i a → (j : ℕ) → j < u.count → KeepsThread p w n later u j (replace_at actors i a j)
-  all_threads a words more spares barriers own j known = go (j == i) refl
+  all_threads a words more spares groups barriers own j known = go (j == i) refl
     where
       go : (b : Bool) → j == i ≡ b → KeepsThread p w n later u j (if b then a else actors j)
       go true e = subst (λ (x : ℕ). KeepsThread p w n later u x a) (sym (eqb-true j i e)) own
@@ -297,6 +318,7 @@ module _ (p : Program) (w : List ℕ) (m n : Memory) (events later : List (ℕ �
           other_thread more j (subst (λ c. j < c) leaves.count known) other (spares j other)
           (λ k is. words.deferred.hands j k known (ap (λ (x : Actor). (owed x).hand) (put_other actors i j a other) ∙ is))
           (subst (λ (x : Actor). OwesOnLive u (owed x)) (put_other actors i j a other) (words.made j known).objects)
+          groups
           (barriers j (subst (λ c. j < c) leaves.count known) other)
 
 -- ---- steps
@@ -322,7 +344,7 @@ module _ (p : Program) (w : List ℕ) (m : Memory) (events : List (ℕ × Event)
         within = rule.within;
         words = words;
         waiting = rule.waiting;
-        threads = all_threads p w m n events events s s actors i rule (same_state s i) (names_same s) a words (λ x there. there) spares (λ j known other c at o. o) own;
+        threads = all_threads p w m n events events s s actors i rule (same_state s i) (names_same s) a words (λ x there. there) spares (λ g other o. o) (λ j known other c at o. o) own;
       })
 
   pub quiet_keeps : (o : Op) (x : RecordWord) (after : Actor × Outcome) → after.1 ≡ outcome.Quiet
@@ -369,7 +391,7 @@ module _ (p : Program) (w : List ℕ) (m : Memory) (events : List (ℕ × Event)
           };
           words = words;
           waiting = waiting;
-          threads = all_threads p w m (left_in m o x) events (events ++ (i, e) ∷ []) s u actors i rule leaves (names_step p s i e u step) a words (λ y there. Contains-append_left events ((i, e) ∷ []) y there) spares (before.barriers e u step) own;
+          threads = all_threads p w m (left_in m o x) events (events ++ (i, e) ∷ []) s u actors i rule leaves (names_step p s i e u step) a words (λ y there. Contains-append_left events ((i, e) ∷ []) y there) spares (λ g other. finished_groups_stay p events s i e u rule.reached step g other) (before.barriers e u step) own;
         };
       })
 
@@ -417,6 +439,16 @@ module _ (p : Program) (w : List ℕ) (m : Memory) (events : List (ℕ × Event)
       → KeepsThread p w m events s i b
       → KeepsRule p w m events s actors i (op.Load address) x (b, outcome.Quiet)
   load_stays address x b same own = quiet_stays (op.Load address) x b (of_load address x) same own
+
+  -- a load behind which its thread owes otherwise
+  pub load_settles : (address : ℕ) (x : RecordWord) (b : Actor) → KeepsWords w m s (all_owed (replace_at actors i b))
+      → KeepsThread p w m events s i b → KeepsRule p w m events s actors i (op.Load address) x (b, outcome.Quiet)
+  load_settles address x b words own =
+      let stays = sym (of_load address x) in
+      quiet_keeps (op.Load address) x (b, outcome.Quiet) refl
+      (subst (λ (n : Memory). KeepsWords w n s (all_owed (replace_at actors i b))) stays words)
+      (λ j other. subst (λ (n : Memory). Spares m n s j (actors j)) stays (spares_none m s j (actors j)))
+      (subst (λ (n : Memory). KeepsThread p w n events s i b) stays own)
 
   pub load_waits : (address : ℕ) (x : RecordWord) (b : Actor) → Waits w s i address (found_in m x)
       → owed b ≡ owed (actors i) → KeepsThread p w m events s i b

@@ -52,6 +52,7 @@ module _ (P : Context → List Frame → Type 0) (laws : IsOfBodies P) (p : Prog
   ends debug opened.Call a x = x
   ends debug (opened.Repeat left) a x = x
   ends debug (opened.Critical k) a x = x
+  ends debug opened.Taskgroup a x = x
 
   pub settled_of : (a : Actor) → Of a → Of (settled p a)
   settled_of a o = go a.stack refl o
@@ -107,3 +108,4 @@ module _ (P : Context → List Frame → Type 0) (laws : IsOfBodies P) (p : Prog
       go opened.Call = settled_of (record a { stack = fs }) under
       go (opened.Repeat left) = rounds left
       go (opened.Critical k) = under
+      go opened.Taskgroup = under

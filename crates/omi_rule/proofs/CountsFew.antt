@@ -5,12 +5,14 @@ use Rattle.omi_model.specs.declared.id.Rid.{Rid}
 use Rattle.omi_model.specs.declared.id.Tid.{Tid}
 use Rattle.omi_model.specs.declared.task.Task.{Task}
 use Rattle.omi_model.specs.State.{State}
+use Rattle.omi_model.specs.declared.group.Group.{Group}
 use Rattle.omi_layout.specs.Field.{tasks}
 use Rattle.omi_layout.specs.Table.{per_thread, thread_count}
 use Rattle.omi_layout.specs.Valid.{IsValid}
 use Rattle.omi_layout.proofs.Arenas.{tasks_of_valid, threads_of_valid}
 use Rattle.omi_rule_words.specs.Counts.{children_owed, is_explicit, live_children, own_reference, references_owed, generating_of, is_at_some, is_region, is_some_region, is_some_task, is_unfinished, of_live, one, pending_owed, sum_below, sum_of_owed, sum_of_slots, unfinished_children, unfinished_in}
 use Rattle.omi_rule_words.specs.Owes.{Owed}
+use Rattle.omi_rule_words.specs.Groups.{count_owed, group_of, group_of_new, is_some_group, unfinished_members}
 
 one_few : (b : Bool) → one b ≤ 1
 one_few true = omega arith
@@ -73,4 +75,13 @@ module _ (w : List ℕ) (s : State) (valid : IsValid w) (same : s.count ≡ thre
       let owed =
       owed_few owes (pending_owed n)
       (λ o. let first = one_few (is_some_region n o.pending) in omega (arith, first)) in
+      omega (arith, live, owed)
+
+  pub members_few : (owes : ℕ → Owed) (g : Group)
+      → unfinished_members w s g + sum_of_owed s owes (count_owed s g) ≤ 4096 * 64 + 3 * 64
+  members_few owes g =
+      let live = slots_few (λ t. is_unfinished t && is_some_group g t.group) in
+      let owed =
+      owed_few owes (count_owed s g)
+      (λ o. let first = one_few (is_some_group g (option_and_then (group_of_new s) o.counted)) in let second = one_few (is_some_group g (option_and_then (group_of s) o.uncounted)) in omega (arith, first, second)) in
       omega (arith, live, owed)

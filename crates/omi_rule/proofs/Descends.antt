@@ -1,6 +1,7 @@
 -- Functions go down: a to-do list makes only tasks over smaller functions than its task's own, so each explicit task runs a smaller
 -- function than the task that made it.
-use Rattle.std.proofs.Common.{◌≡◌, ◌==◌, ◌<◌, ◌≤◌, ◌+◌, ◌⊎◌, inl, inr, ℕ, suc, ◌||◌, Bool, true, false, List, [], ◌∷◌, slice_get, Some, if◌then◌else◌, refl, sym, ap, ◌∙◌, subst, arith}
+use Rattle.std.proofs.Common.{◌≡◌, ◌==◌, ◌<◌, ◌≤◌, ◌+◌, ◌⊎◌, inl, inr, ℕ, zero, suc, ◌||◌, Bool, true, false, List, [], ◌∷◌, slice_get, Some, if◌then◌else◌, refl, sym, ap, ◌∙◌, subst, arith}
+use Rattle.std.specs.List.{Contains}
 use Rattle.omi_script.specs.Bodies.{body_of, named_by}
 use Rattle.omi_script.specs.declared.program.Program.{Program}
 use Rattle.omi_script.specs.declared.statement.Stmt.{Stmt}
@@ -9,6 +10,7 @@ use Rattle.omi_script.proofs.RuleLemmas.{Rules-from_accepted}
 use Rattle.omi_model.specs.declared.encounter.Encounter.{Encounter}
 use Rattle.omi_model.specs.declared.event.Event.{Event}
 use Rattle.omi_model.specs.declared.event.Event.TheVariants as event
+use Rattle.omi_model.specs.declared.group.Group.{Group}
 use Rattle.omi_model.specs.declared.id.Tid.{Tid}
 use Rattle.omi_model.specs.declared.item.Item.{Item}
 use Rattle.omi_model.specs.declared.item.Item.TheVariants as item
@@ -17,10 +19,10 @@ use Rattle.omi_model.specs.declared.task.Task.{Task}
 use Rattle.omi_model.specs.Changes.{IsCurrent, encounter}
 use Rattle.omi_model.specs.LawLineage.{HasLineage, IsLineage}
 use Rattle.omi_model.specs.Lists.{may_drop, stays, take_item}
-use Rattle.omi_numbers.specs.declared.states.TheConstants.{WAIT_TASKWAIT}
+use Rattle.omi_numbers.specs.declared.states.TheConstants.{WAIT_TASKGROUP, WAIT_TASKWAIT}
 use Rattle.omi_model.specs.Opening.{opening}
 use Rattle.omi_model.specs.Reached.{Reached, Step}
-use Rattle.omi_model.specs.Rows.{barrier_items, behind, body_items, call_items, first_of, function_items, last_of_member, main_items, member_items, task_items, shown, working}
+use Rattle.omi_model.specs.Rows.{barrier_items, behind, body_items, call_items, end_of_group, first_of, function_items, last_of_member, main_items, member_items, task_items, shown, working}
 use Rattle.omi_model.specs.State.{State, region_of, task_of}
 use Rattle.omi_model.specs.Tasking.{deferred_task, scheduled}
 use Rattle.omi_model.proofs.ChainsKept.{current_begun}
@@ -100,6 +102,10 @@ module _ (p : Program) where
   row_below f at stmt.Taskwait rest h =
       shown_below f at _ 0 (item.Tasks WAIT_TASKWAIT ∷ item.WaitDone ∷ working at (item.Leave ∷ rest))
       (working_below f at (item.Leave ∷ rest) h.1)
+  row_below f at (stmt.Taskgroup g) rest h =
+      call_below f g (end_of_group at rest) (h.0 g refl)
+      (shown_below f at _ 0 (item.Tasks WAIT_TASKGROUP ∷ item.GroupEnd ∷ working at (item.Leave ∷ rest))
+      (working_below f at (item.Leave ∷ rest) h.1))
   row_below f at stmt.Barrier rest h =
       barrier_below f at _ (working at (item.Leave ∷ rest)) (working_below f at (item.Leave ∷ rest) h.1)
   row_below f at (stmt.Critical k g) rest h =
@@ -228,6 +234,7 @@ module _ (p : Program) (events : List (ℕ × Event)) (s : State) (reached : Rea
     frees = λ k t free how h. h;
     shows = λ k t enter h. h;
     tools = λ k t x h. h;
+    groups = λ k t n is how h. h;
     sets = λ k t icv value v is of h. h;
     begins = λ k t waiting mine of h. h;
     finishes = λ k t is over h. h;
@@ -293,6 +300,25 @@ module _ (p : Program) (events : List (ℕ × Event)) (s : State) (reached : Rea
           let small : u.function ≤ r.function =
           chain_below gs g u r maker (ap (region_of s) region ∙ found) rest in
           omega (arith, less, small)
+
+  -- and each explicit task runs a smaller one than any task of its chain, such as the owner of its group
+  below_line : (ks : List Tid) (k : Tid) (t : Task) → task_of s k ≡ Some t
+      → IsLineage s t.implicit t.region t.generating ks → (n : Tid) → Contains ks n → (u : Task) → task_of s n ≡ Some u
+      → t.function < u.function
+  below_line [] k t live line n (j, below, at) u there = absurd (omega (arith, below))
+  below_line (g ∷ gs) k t live (ex, v, by, maker, region, started, rest) n (zero, below, at) u there =
+      tasks_descend p events s reached k t live ex g u by (ap (task_of s) at ∙ there)
+  below_line (g ∷ gs) k t live (ex, v, by, maker, region, started, rest) n (suc j, below, at) u there =
+      let less : t.function < v.function = tasks_descend p events s reached k t live ex g v by maker in
+      let under : v.function < u.function =
+      below_line gs g v maker rest n (j, omega (arith, below), at) u there in
+      omega (arith, less, under)
+
+  pub below_owner : (k : Tid) (t : Task) → task_of s k ≡ Some t → (g : Group) → t.group ≡ Some g → (u : Task)
+      → task_of s g.owner ≡ Some u → t.function < u.function
+  below_owner k t live g of u there =
+      let lineage : HasLineage s t = have_lineage p events s reached k t live in
+      below_line lineage.tasks k t live lineage.chain g.owner (lineage.owner g of) u there
 
 -- and stands in its region
 pub descends_in_region : (p : Program) (events : List (ℕ × Event)) (s : State) → Reached p events s → DescendsInRegion s

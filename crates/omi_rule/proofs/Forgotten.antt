@@ -37,6 +37,7 @@ ended_forgets debug (opened.Task w saved) a x = refl
 ended_forgets debug opened.Call a x = refl
 ended_forgets debug (opened.Repeat left) a x = refl
 ended_forgets debug (opened.Critical k) a x = refl
+ended_forgets debug opened.Taskgroup a x = refl
 
 pub settled_forgets : (p : Program) (a : Actor) (f : Frame) (fs : List Frame) (x : Counter) → a.stack ≡ f ∷ fs
     → settled p (at_counter x a) ≡ settled p a

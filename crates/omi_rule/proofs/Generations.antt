@@ -32,6 +32,7 @@ below_step p s i e next step all = record {
         frees = λ k t free how h. h;
         shows = λ k t enter h. h;
         tools = λ k t x h. h;
+        groups = λ k t n is how h. h;
         sets = λ k t icv value v is of h. h;
         begins = λ k t waiting mine of h. h;
         finishes = λ k t is over h. h;

@@ -14,11 +14,14 @@ pub mod RowsStay
 pub mod Assembly
 pub mod OwnWords
 pub mod OwnTask
+pub mod Regrouped
 pub mod SameBodies
 pub mod Runs
 pub mod Owing
 pub mod GivesBack
+pub mod Groups
 pub mod OwedInside
+pub mod GroupChanges
 pub mod worker
 pub mod Generations
 pub mod SlotGenerations

@@ -25,6 +25,7 @@ runs_step p s i e next step all = task_step p (RunsFunction next) s i e next ste
       frees = λ k t free how h. h;
       shows = λ k t enter h. h;
       tools = λ k t x h. h;
+      groups = λ k t n is how h. h;
       sets = λ k t icv value v is of h. h;
       begins = λ k t waiting mine of h. h;
       finishes = λ k t is over h. h;

@@ -42,6 +42,7 @@ module _ (p : Program) (z : State) (i : ℕ) (e : Event) (y : Item) (next : Stat
     frees = λ k t free how is waits. let o = is waits in record { function = o.function; exit = o.exit; final = o.final };
     shows = λ k t enter is waits. let o = is waits in record { function = o.function; exit = o.exit; final = o.final };
     tools = λ k t x is waits. let o = is waits in record { function = o.function; exit = o.exit; final = o.final };
+    groups = λ k t n current how is waits. let o = is waits in record { function = o.function; exit = o.exit; final = o.final };
     sets = λ k t icv value v with_v here is waits. let o = is waits in record { function = o.function; exit = o.exit; final = o.final };
     begins = λ k t waits mine here is begun. absurd (cc begun);
     finishes = λ k t current end is over. absurd (cc over);

@@ -93,6 +93,7 @@ module _ (p : Program) (w words : List ℕ) (valid : IsValid w) (suits : Suits p
     size = refl;
     row = refl;
     arrivals = refl;
+    groups = refl;
   }
 
   thread_0 : 0 < p.threads → KeepsThread p w (memory_of w words) [] (opening p) 0 (opening_actor p 0)

@@ -45,6 +45,7 @@ use Rattle.omi_model.proofs.StaysKept.{AreNew, fresh_empty, new_team}
 use Rattle.omi_model.proofs.Steps.{from_some, is_relisted, list_moves, move_of, moved_on, of_current, of_current_region, of_region, of_set, on_fresh, relisted, relisted_to}
 use Rattle.omi_model.specs.LawStays.{is_free}
 use Rattle.omi_model.proofs.Chains.{top_of}
+use Rattle.omi_model.specs.Groups.{MayBeginGroup, MayEndGroup, group_begun, group_ended}
 
 same_thread : (h : Thread) → IsSameThread h h
 same_thread h = record { begun = refl; current = refl; wanted = refl; asks = refl; list = refl }
@@ -556,6 +557,12 @@ module _ (z : State) (i : ℕ) (knows : KnowsOwn z i) where
       of_current z i (started_alone z i task) of_leaves (MayStart z task item.OneTask) rule
       (λ k t is may. by_task_and_thread task _ _ (λ u live. let same : may.new ≡ u = some_same may.live live in inr (ap (λ (x : Task). x.progress) (sym same) ∙ may.deferred)))
   effect_all p (event.Start task) y held rule = tt
+  effect_all p event.GroupBegin y held rule =
+      of_current z i (group_begun z) of_leaves (λ k t. MayBeginGroup t) rule
+      (λ k t is h. by_task k _ (own_task z i k t is knows))
+  effect_all p event.GroupEnd y held rule =
+      of_current z i (group_ended z) of_leaves (MayEndGroup z) rule
+      (λ k t is h. by_task k _ (own_task z i k t is knows))
   effect_all p (event.Finish task) y held rule =
       of_current z i (finished z i) of_leaves (MayFinish task) rule
       (λ k t is h. by_finish k t is)

@@ -71,6 +71,7 @@ module _ (p : Program) (s u : State) (i : ℕ) (leaves : LeavesOthers s u i) (j 
         size = ap length same.team ∙ o.size;
         row = ap (λ (t : List (Tid × ℕ)). slice_get t c.number) same.team ∙ o.row;
         arrivals = same.arrivals c.number (c.row, j) o.row other ∙ o.arrivals;
+        groups = o.groups;
       }
 
   -- what the rows of statements see of a task
@@ -122,6 +123,7 @@ module _ (p : Program) (s u : State) (i : ℕ) (leaves : LeavesOthers s u i) (j 
   body_stays c opened.Call fs k l keeps = tt
   body_stays c (opened.Repeat left) fs k l keeps = tt
   body_stays c (opened.Critical lock) fs k l keeps = tt
+  body_stays c opened.Taskgroup fs k l keeps = tt
 
   bodies_stay : (c : Context) (fs : List Frame) → KeepsBodies p s j c fs → KeepsBodies p u j c fs
   bodies_stay c [] o = context_stays c o

@@ -87,23 +87,28 @@ of_look (look.State x) = record { pending = refl; raised = refl; referred = refl
 of_look (look.LoadRow x y) = record { pending = refl; raised = refl; referred = refl }
 of_look (look.LoadSlot x y z) = record { pending = refl; raised = refl; referred = refl }
 of_look (look.LoadGenerating x y z u) = record { pending = refl; raised = refl; referred = refl }
+of_look (look.LoadGroup x y z) = record { pending = refl; raised = refl; referred = refl }
 of_look (look.Take x y z u) = record { pending = refl; raised = refl; referred = refl }
 of_look (look.LoadFunction x y z u) = record { pending = refl; raised = refl; referred = refl }
 of_look (look.LoadFinal x y z u v) = record { pending = refl; raised = refl; referred = refl }
 of_look (look.Fill x y z u v o q) = record { pending = refl; raised = refl; referred = refl }
 of_look (look.Start x y z u v o) = record { pending = refl; raised = refl; referred = refl }
 of_look look.LoadChildren = record { pending = refl; raised = refl; referred = refl }
+of_look look.LoadCount = record { pending = refl; raised = refl; referred = refl }
+of_look look.GroupEnd = record { pending = refl; raised = refl; referred = refl }
 of_look (look.Yield x) = record { pending = refl; raised = refl; referred = refl }
 
 of_task : (c : Context) (x : TaskCounter) → OwesInside c (by_task c x)
 of_task c (task.LoadSlot x) = record { pending = λ n is. absurd (cc is); raised = λ k is. absurd (cc is); referred = λ k is. absurd (cc is) }
 of_task c (task.LoadVariable x y) = record { pending = λ n is. absurd (cc is); raised = λ k is. absurd (cc is); referred = λ k is. absurd (cc is) }
+of_task c (task.LoadGroup x) = record { pending = λ n is. absurd (cc is); raised = λ k is. absurd (cc is); referred = λ k is. absurd (cc is) }
 of_task c (task.LoadLife x y) = record { pending = λ n is. absurd (cc is); raised = λ k is. absurd (cc is); referred = λ k is. absurd (cc is) }
 of_task c (task.Take x y) = record { pending = λ n is. absurd (cc is); raised = λ k is. absurd (cc is); referred = λ k is. absurd (cc is) }
 of_task c (task.Fill x y z) = record { pending = λ n is. absurd (cc is); raised = λ k is. absurd (cc is); referred = λ k is. absurd (cc is) }
 of_task c (task.AddPending x y) = record { pending = λ n is. absurd (cc is); raised = λ k is. absurd (cc is); referred = λ k is. absurd (cc is) }
 of_task c (task.AddChildren x y) = record { pending = λ n is. some_same refl is; raised = λ k is. absurd (cc is); referred = λ k is. absurd (cc is) }
 of_task c (task.AddReferences x y) = record { pending = λ n is. some_same refl is; raised = λ k is. some_same refl is; referred = λ k is. absurd (cc is) }
+of_task c (task.AddCount x y) = record { pending = λ n is. some_same refl is; raised = λ k is. some_same refl is; referred = λ k is. some_same refl is }
 of_task c (task.Defer x y) = record { pending = λ n is. some_same refl is; raised = λ k is. some_same refl is; referred = λ k is. some_same refl is }
 of_task c (task.StartNow x) = record { pending = λ n is. some_same refl is; raised = λ k is. some_same refl is; referred = λ k is. some_same refl is }
 
@@ -111,6 +116,8 @@ of_finish : (c : Context) (x : FinishCounter) → OwesInside c (by_finish c x)
 of_finish c finish.Finish = record { pending = λ n is. absurd (cc is); raised = λ k is. absurd (cc is); referred = λ k is. absurd (cc is) }
 of_finish c (finish.LoadGenerating x y) = record { pending = λ n is. some_same refl is; raised = λ k is. absurd (cc is); referred = λ k is. absurd (cc is) }
 of_finish c (finish.SubtractChildren x y z) = record { pending = λ n is. some_same refl is; raised = λ k is. absurd (cc is); referred = λ k is. absurd (cc is) }
+of_finish c (finish.LoadGroup x y z) = record { pending = λ n is. some_same refl is; raised = λ k is. absurd (cc is); referred = λ k is. absurd (cc is) }
+of_finish c (finish.SubtractCount x y z u) = record { pending = λ n is. some_same refl is; raised = λ k is. absurd (cc is); referred = λ k is. absurd (cc is) }
 of_finish c (finish.SubtractReferences x y z) = record { pending = λ n is. some_same refl is; raised = λ k is. absurd (cc is); referred = λ k is. absurd (cc is) }
 of_finish c (finish.Free x y z) = record { pending = λ n is. some_same refl is; raised = λ k is. absurd (cc is); referred = λ k is. absurd (cc is) }
 of_finish c (finish.LoadImplicit x y) = record { pending = λ n is. some_same refl is; raised = λ k is. absurd (cc is); referred = λ k is. absurd (cc is) }
@@ -159,6 +166,13 @@ module _ (p : Program) (w : List ℕ) (m : Memory) (events : List (ℕ × Event)
       let o = at_work Tid (λ (o : Owed). o.raised) (λ o none. none.raised) k is in
       let same : a.context.task ≡ k = (inside a.context a.gathered.team a.counter).raised k is in
       (o.task, ap (task_of s) (sym same) ∙ o.live, o.begun)
+
+  -- and runs on the thread that owes
+  pub raised_runs : (k : Tid) → (owed a).raised ≡ Some k → (t : Task) × (task_of s k ≡ Some t) × (t.thread ≡ j)
+  raised_runs k is =
+      let o = at_work Tid (λ (o : Owed). o.raised) (λ o none. none.raised) k is in
+      let same : a.context.task ≡ k = (inside a.context a.gathered.team a.counter).raised k is in
+      (o.task, ap (task_of s) (sym same) ∙ o.live, o.thread)
 
   pub referred_begun : (k : Tid) → (owed a).referred ≡ Some k
       → (t : Task) × (task_of s k ≡ Some t) × (t.progress ≡ progress.Begun)

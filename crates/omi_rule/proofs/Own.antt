@@ -81,6 +81,8 @@ module _ (p : Program) (s : State) (i : ℕ) (k : Tid) where
       (tt, inside c ns rest n chain away)
   below_opened f fs c ns n inside o (opened.Critical lock) keeps rest chain away =
       (tt, inside c ns rest n chain away)
+  below_opened f fs c ns n inside o opened.Taskgroup keeps rest chain away =
+      (tt, inside c ns rest n chain away)
 
   below : (fs : List Frame) → Under fs
   below [] c ns o n chain away = tt
@@ -109,6 +111,7 @@ pub record IsAlike (t v : Task) : Type 0 where
   pub exit : v.exit ≡ t.exit
   pub final : v.is_final ≡ t.is_final
   pub progress : v.progress ≡ t.progress
+  pub groups : v.open_groups ≡ t.open_groups
 
 -- a state in which one task changed so
 pub record ChangesTask (s u : State) (i : ℕ) (k : Tid) : Type 0 where
@@ -121,7 +124,7 @@ pub record ChangesTask (s u : State) (i : ℕ) (k : Tid) : Type 0 where
 
 module _ (p : Program) (s u : State) (i : ℕ) (k : Tid) (changes : ChangesTask s u i k) where
   alike : (t : Task) → IsAlike t t
-  alike t = record { implicit = refl; region = refl; thread = refl; number = refl; scheduling = refl; exit = refl; final = refl; progress = refl }
+  alike t = record { implicit = refl; region = refl; thread = refl; number = refl; scheduling = refl; exit = refl; final = refl; progress = refl; groups = refl }
 
   -- any task goes on as one that is alike
   pub goes_on : (n : Tid) (t : Task) → task_of s n ≡ Some t
@@ -153,6 +156,7 @@ module _ (p : Program) (s u : State) (i : ℕ) (k : Tid) (changes : ChangesTask 
         size = ap length team ∙ o.size;
         row = ap (λ (t : List (Tid × ℕ)). slice_get t c.number) team ∙ o.row;
         arrivals = ap (λ (xs : List ℕ). slice_index xs c.number) arrivals ∙ o.arrivals;
+        groups = is.groups ∙ o.groups;
       }
 
   pub encounter_kept : (c : Context) → KeepsContext s i c → encounter_of u c ≡ encounter_of s c
@@ -200,6 +204,7 @@ module _ (p : Program) (s u : State) (i : ℕ) (k : Tid) (changes : ChangesTask 
   body_kept c opened.Call fs apart l keeps = tt
   body_kept c (opened.Repeat left) fs apart l keeps = tt
   body_kept c (opened.Critical lock) fs apart l keeps = tt
+  body_kept c opened.Taskgroup fs apart l keeps = tt
 
   pub bodies_kept : (c : Context) (fs : List Frame) → AreBelow k fs → KeepsBodies p s i c fs
       → KeepsBodies p u i c fs

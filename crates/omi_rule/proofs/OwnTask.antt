@@ -50,6 +50,7 @@ called_says_nothing p s c (opened.Task w saved) fs called = absurd (cc called)
 called_says_nothing p s c opened.Call fs called = tt
 called_says_nothing p s c (opened.Repeat left) fs called = tt
 called_says_nothing p s c (opened.Critical k) fs called = tt
+called_says_nothing p s c opened.Taskgroup fs called = tt
 
 -- and stands in the same task
 pub called_under : (c : Context) (o : Opened) → IsCalled o → context_under c o ≡ c
@@ -60,6 +61,7 @@ called_under c (opened.Task w saved) called = absurd (cc called)
 called_under c opened.Call called = refl
 called_under c (opened.Repeat left) called = refl
 called_under c (opened.Critical k) called = refl
+called_under c opened.Taskgroup called = refl
 
 pub bodies_are_of_bodies : (p : Program) (s : State) (i : ℕ) → IsOfBodies (KeepsBodies p s i)
 bodies_are_of_bodies p s i = record {
@@ -210,4 +212,4 @@ module _ (p : Program) (s : State) (i : ℕ) (a : Actor) (o : StandsInTask p s i
 
 -- a task with another list is alike
 pub relisted_alike : (zs : List Item) (t : Task) → IsAlike t (relisted zs t)
-relisted_alike zs t = record { implicit = refl; region = refl; thread = refl; number = refl; scheduling = refl; exit = refl; final = refl; progress = refl }
+relisted_alike zs t = record { implicit = refl; region = refl; thread = refl; number = refl; scheduling = refl; exit = refl; final = refl; progress = refl; groups = refl }

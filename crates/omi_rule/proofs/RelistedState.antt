@@ -18,6 +18,7 @@ use Rattle.omi_model.proofs.Steps.{relisted, relisted_to}
 use Rattle.omi_layout.specs.Field.{tasks}
 use Rattle.omi_rep.specs.Shows.{IsWithin}
 use Rattle.omi_rule.proofs.NothingNew.{named_stays, none_on, within_stays}
+use Rattle.omi_rule_words.specs.Groups.{AreOwnersLive}
 
 module _ (s : State) (k : Tid) (zs : List Item) where
   abbrev u : State
@@ -118,6 +119,7 @@ module _ (s : State) (k : Tid) (zs : List Item) where
     region = region_later t.region o.region;
     generating = λ n e. task_later n (o.generating n e);
     scheduling = λ n e. task_later n (o.scheduling n e);
+    owner = λ g e. task_later g.owner (o.owner g e);
     begun = record { known = o.begun.known; begun = o.begun.begun };
     ends = subst (λ f. Ends f t.scheduling) (sym same_chain) o.ends;
     variables = o.variables;
@@ -152,11 +154,17 @@ module _ (s : State) (k : Tid) (zs : List Item) where
           region = right.region;
           generating = right.generating;
           scheduling = right.scheduling;
+          owner = right.owner;
           begun = right.begun;
           ends = right.ends;
           variables = right.variables;
         }));
   }
+
+  pub owners_relisted : AreOwnersLive s → AreOwnersLive u
+  owners_relisted owners n v g live is =
+      let (t, xs, was, same) = earlier n v live in
+      some_later g.owner (owners n t g was (sym (ap (λ (x : Task). x.group) same) ∙ is))
 
   pub within_relisted : (w : List ℕ) → IsWithin w s → IsWithin w u
   within_relisted w o = record {

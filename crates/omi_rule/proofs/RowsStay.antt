@@ -1,6 +1,7 @@
 -- The registers of a thread stay right while another thread makes a step: it leaves the records in the making and what the state says.
 use Rattle.std.proofs.Common.{◌≡◌, ◌≢◌, ◌+◌, ◌<◌, ◌≤◌, ℕ, zero, suc, inl, inr, Bool, true, List, [], ◌∷◌, length, map, slice_get, take, Option, Some, None, refl, sym, ap, ◌∙◌, subst, arith, eqb-true, ◌==◌}
 use Rattle.std.specs.List.{All, Contains}
+use Rattle.std.specs.Option.{option_and_then}
 use Rattle.std.proofs.lemmas.List.Elements.{All-head, All-tail}
 use Rattle.omi_script.specs.declared.program.Program.{Program}
 use Rattle.omi_model.specs.declared.id.Rid.{Rid}
@@ -9,10 +10,12 @@ use Rattle.omi_model.specs.declared.progress.Progress.TheVariants as progress
 use Rattle.omi_model.specs.declared.task.Task.{Task}
 use Rattle.omi_model.specs.Columns.{tasks_of}
 use Rattle.omi_model.specs.LawStays.{IsSameTask}
+use Rattle.omi_model.specs.declared.group.Group.{Group}
 use Rattle.omi_model.specs.declared.region.Region.{Region}
+use Rattle.omi_model.specs.Groups.{AreMembersFinished, innermost_or}
 use Rattle.omi_model.specs.State.{State, region_of, task_of}
 use Rattle.omi_model.specs.Teams.{AreAsksOver, got_threads}
-use Rattle.omi_model.proofs.Slots.{found_live, some_same}
+use Rattle.omi_model.proofs.Slots.{found_live, none_some, some_same}
 use Rattle.omi_model.proofs.BarrierOrder.{and_left, and_right}
 use Rattle.omi_layout.specs.declared.field.Field.{Field}
 use Rattle.omi_layout.specs.declared.field.Field.TheVariants.{RegionLeft, RegionTeam, ThreadAssign}
@@ -46,6 +49,7 @@ use Rattle.omi_rep.specs.Codes.{is_place}
 use Rattle.omi_rep.specs.Records.{task_word}
 use Rattle.omi_rule_words.specs.Counts.{is_at}
 use Rattle.omi_rule_words.specs.ExplicitKinds.{IsRow, slot_of}
+use Rattle.omi_rule_words.specs.Groups.{group_of}
 use Rattle.omi_rule_words.specs.Owes.{Owed, by_finish, by_task, by_team, owed, owed_at}
 use Rattle.omi_rule_words.specs.Threads.{WaitsFor}
 use Rattle.omi_rule_words.specs.Words.{HasFinished, IsInTheMaking, KeepsMaking, OwesOnLive}
@@ -56,9 +60,10 @@ use Rattle.omi_task.specs.Slots.{coded_task}
 use Rattle.omi_task.specs.Starts.{start_plan}
 use Rattle.omi_rule.specs.Chains.{IsWorkerAhead, KeepsContext, Stands, StandsWith}
 use Rattle.omi_rule.specs.LeavesOthers.{IsSameForOthers, LeavesOthers}
-use Rattle.omi_rule.specs.Rows.{HasAsked, HasEndedUnder, HasFilled, HasFilledTask, HasLoaded, HasPlace, HasPlaced, HasSize, HasTested, IsInHand, KeepsFinishRow, KeepsTaskRow, MayStartIn, WasMade, HasTeam, IsFilled, IsRowOf, KeepsBarrierRow, KeepsJoinRow, KeepsLookRow, KeepsRow, KeepsTeamRow, KeepsWorkerRow, Knows, KnowsActive, KnowsLevels, KnowsVariables, Meets, OfRegion, place_of, IsAbove, IsAncestor, IsGivenBack}
+use Rattle.omi_rule.specs.Rows.{HasAsked, HasEndedUnder, HasFilled, HasNoMember, HasEnvironment, HasFilledTask, HasLoaded, HasPlace, HasPlaced, HasSize, HasTested, IsInHand, KeepsFinishRow, KeepsTaskRow, MayStartIn, WasMade, HasTeam, IsFilled, IsRowOf, KeepsBarrierRow, KeepsJoinRow, KeepsLookRow, KeepsRow, KeepsTeamRow, KeepsWorkerRow, Knows, KnowsActive, KnowsGroup, KnowsLevels, KnowsVariables, Meets, OfRegion, place_of, IsAbove, IsAncestor, IsGivenBack}
 use Rattle.omi_rule.proofs.NamesStay.{NamesStay, lives_there}
 use Rattle.omi_rule.proofs.OthersStand.{begun_undeferred, begun_unfinished, of_innermost}
+use Rattle.omi_numbers.specs.declared.limits.TheConstants.{OWN_SLOTS}
 
 -- what a step of another thread leaves of a thread's words: its records in the making, its assign word where it is about to clear it,
 -- of its regions' words for the members that have left that they don't fall, the empty slots of its implicit tasks, and the place of
@@ -70,7 +75,7 @@ pub record Spares (m n : Memory) (s : State) (j : ℕ) (a : Actor) : Type 0 wher
       → n j threads 0 (number ThreadAssign) 0 ≡ m j threads 0 (number ThreadAssign) 0
   pub left_kept : (slot : ℕ) → m j regions slot (number RegionLeft) 0 ≤ n j regions slot (number RegionLeft) 0
   pub slots_kept : (row : Tid) (t : Task) (place : ℕ) → task_of s row ≡ Some t → t.implicit ≡ true
-      → t.thread ≡ j → slot_of m row place ≡ 0 → slot_of n row place ≡ 0
+      → t.thread ≡ j → place < OWN_SLOTS → slot_of m row place ≡ 0 → slot_of n row place ≡ 0
   pub hand_same : (k : Tid) (t : Task) (f : Field) (at : ℕ) → j < s.count → (owed a).hand ≡ Some k
       → task_of s k ≡ Some t → t.progress ≡ progress.Deferred → is_place f ≡ true
       → n k.0.creator tasks k.0.slot (number f) at ≡ m k.0.creator tasks k.0.slot (number f) at
@@ -182,6 +187,11 @@ module _ (p : Program) (w : List ℕ) (m n : Memory) (s u : State) (i : ℕ) (le
   variables_stay top k (t, live, are) =
       let same : top.task ≡ t = some_same top.live live in
       (t, leaves.tasks a.context.task t live (λ e. other (sym (ap (λ (x : Task). x.thread) (sym same) ∙ top.thread) ∙ e)) (begun_undeferred t (ap (λ (x : Task). x.progress) (sym same) ∙ top.begun)) (begun_unfinished t (ap (λ (x : Task). x.progress) (sym same) ∙ top.begun)), are)
+
+  group_stays : KeepsContext s j a.context → KnowsGroup w s a → KnowsGroup w u a
+  group_stays top (t, live, knows) =
+      let same : top.task ≡ t = some_same top.live live in
+      (t, leaves.tasks a.context.task t live (λ e. other (sym (ap (λ (x : Task). x.thread) (sym same) ∙ top.thread) ∙ e)) (begun_undeferred t (ap (λ (x : Task). x.progress) (sym same) ∙ top.begun)) (begun_unfinished t (ap (λ (x : Task). x.progress) (sym same) ∙ top.begun)), knows)
 
   knows_stays : KeepsContext s j a.context → Knows s a → Knows u a
   knows_stays top o = record { region = active_stays top o.region; task = variables_stay top VARIABLE_WORDS o.task }
@@ -324,6 +334,7 @@ module _ (p : Program) (w : List ℕ) (m n : Memory) (s u : State) (i : ℕ) (le
   may_stays (wait.Barrier b) t x same may = tt
   may_stays wait.Taskwait t x same may = same.generating ∙ may
   may_stays wait.Taskyield t x same may = same.generating ∙ may
+  may_stays wait.Taskgroup t x same may = same.group ∙ may
 
   may_stay : (v : Wait) (k : Tid) → k.0.generation < (s.tasks k.0.creator k.0.slot).generations
       → ((t : Task) → task_of s k ≡ Some t → MayStartIn v a t) → (t : Task) → task_of u k ≡ Some t
@@ -338,6 +349,8 @@ module _ (p : Program) (w : List ℕ) (m n : Memory) (s u : State) (i : ℕ) (le
       (made_stays code made, may_stay wait.Taskwait (coded_task w code) made may)
   tested_stays wait.Taskyield code (made, may) =
       (made_stays code made, may_stay wait.Taskyield (coded_task w code) made may)
+  tested_stays wait.Taskgroup code (made, may) =
+      (made_stays code made, may_stay wait.Taskgroup (coded_task w code) made may)
 
   abbrev in_the_hand : Counter → Option Tid
   in_the_hand c = (owed_at a.context a.gathered.team c).hand
@@ -366,38 +379,57 @@ module _ (p : Program) (w : List ℕ) (m n : Memory) (s u : State) (i : ℕ) (le
     λ q below. spares.hand_same k o.task (start_plan w a q).field (start_plan w a q).at known hand o.is.live o.is.progress (start_field w a q) ∙ filled q below,
   )
 
-  look_stays : (c : LookCounter) → KeepsContext s j a.context → a.counter ≡ counter.Look c → j < s.count
+  -- a group of the current task without an unfinished member gets none
+  abbrev pub GroupsStay : Type 0
+  GroupsStay = KeepsContext s j a.context → (g : Group) → g.owner ≡ a.context.task → AreMembersFinished s g → AreMembersFinished u g
+
+  no_member_stays : GroupsStay → KeepsContext s j a.context → HasNoMember s a → HasNoMember u a
+  no_member_stays stay top (g, innermost, finished) = (g, innermost, stay top g (owner a.context.open_groups innermost) finished)
+    where
+      owner : (l : ℕ) → innermost_or None a.context.task l ≡ Some g → g.owner ≡ a.context.task
+      owner zero is = absurd (cc is)
+      owner (suc l) is = ap (λ (h : Group). h.owner) (sym (some_same refl is))
+
+  look_stays : (c : LookCounter) → GroupsStay → KeepsContext s j a.context → a.counter ≡ counter.Look c → j < s.count
       → ((k : Tid) → (owed a).hand ≡ Some k → StaysInHand k) → KeepsLookRow w m s a c → KeepsLookRow w n u a c
-  look_stays (look.State v) top at known now o = tt
-  look_stays (look.LoadRow v k) top at known now o = tt
-  look_stays (look.LoadSlot v k row) top at known now o = row_of_stays top row k o
-  look_stays (look.LoadGenerating v k row code) top at known now (o, made) =
+  look_stays (look.State v) groups top at known now o = tt
+  look_stays (look.LoadRow v k) groups top at known now o = tt
+  look_stays (look.LoadSlot v k row) groups top at known now o = row_of_stays top row k o
+  look_stays (look.LoadGenerating v k row code) groups top at known now (o, made) =
       (row_of_stays top row k o, made_stays code made)
-  look_stays (look.Take v k row code) top at known now (o, tested) =
+  look_stays (look.LoadGroup k row code) groups top at known now (o, made) =
+      (row_of_stays top row k o, made_stays code made)
+  look_stays (look.Take v k row code) groups top at known now (o, tested) =
       (row_of_stays top row k o, tested_stays v code tested)
-  look_stays (look.LoadFunction v k code t) top at known now o =
+  look_stays (look.LoadFunction v k code t) groups top at known now o =
       in_hand_stays v t (λ x. Unit {0}) (λ x y same h. tt) (now t (ap in_the_hand at)) o
-  look_stays (look.LoadFinal v k code t f) top at known now o =
+  look_stays (look.LoadFinal v k code t f) groups top at known now o =
       in_hand_stays v t (λ x. x.function ≡ f) (λ x y same h. same.function ∙ h) (now t (ap in_the_hand at)) o
-  look_stays (look.Fill v k code t f final word) top at known now o =
+  look_stays (look.Fill v k code t f final word) groups top at known now o =
       placed_stays v t f final word known (ap in_the_hand at) (now t (ap in_the_hand at)) o
-  look_stays (look.Start v k code t f final) top at known now o =
+  look_stays (look.Start v k code t f final) groups top at known now o =
       placed_stays v t f final START_WORDS known (ap in_the_hand at) (now t (ap in_the_hand at)) o
-  look_stays look.LoadChildren top at known now o = tt
-  look_stays (look.Yield k) top at known now o = tt
+  look_stays look.LoadChildren groups top at known now o = tt
+  look_stays look.LoadCount groups top at known now o = tt
+  look_stays look.GroupEnd groups top at known now o = no_member_stays groups top o
+  look_stays (look.Yield k) groups top at known now o = tt
 
   -- ---- explicit tasks in the making
 
   place_stays : (t : Task) → IsRow s j a.context.row t → (place : Option ℕ) → HasPlace p m a place
       → HasPlace p n a place
   place_stays t row None o = tt
-  place_stays t row (Some place) (defers, empty) =
-      (defers, spares.slots_kept a.context.row row.task place row.live row.implicit row.thread empty)
+  place_stays t row (Some place) (defers, within, empty) =
+      (defers, within, spares.slots_kept a.context.row row.task place row.live row.implicit row.thread within empty)
+
+  environment_stays : (top : KeepsContext s j a.context) → IsRow s j a.context.row top.task → (place : Option ℕ)
+      → HasEnvironment p m s a place → HasEnvironment p n u a place
+  environment_stays top row place (o, variables) =
+      (place_stays top.task row place o, variables_stay top VARIABLE_WORDS variables)
 
   loaded_stays : (top : KeepsContext s j a.context) → IsRow s j a.context.row top.task → (place : Option ℕ)
-      → HasLoaded p m s a place → HasLoaded p n u a place
-  loaded_stays top row place (o, variables) =
-      (place_stays top.task row place o, variables_stay top VARIABLE_WORDS variables)
+      → HasLoaded p w m s a place → HasLoaded p w n u a place
+  loaded_stays top row place (o, group) = (environment_stays top row place o, group_stays top group)
 
   task_filled_stays : (top : KeepsContext s j a.context) → IsRow s j a.context.row top.task
       → (place : Option ℕ) (t : Tid) (l : ℕ) → All (λ k. IsInTheMaking j (s.tasks j) k.0) (t ∷ [])
@@ -410,6 +442,7 @@ module _ (p : Program) (w : List ℕ) (m n : Memory) (s u : State) (i : ℕ) (le
   task_stays (task.LoadSlot place) top row making o = o
   task_stays (task.LoadVariable place word) top row making (o, variables) =
       (place_stays top.task row place o, variables_stay top word variables)
+  task_stays (task.LoadGroup place) top row making o = environment_stays top row place o
   task_stays (task.LoadLife place slot) top row making o = loaded_stays top row place o
   task_stays (task.Take place t) top row making (o, fresh) =
       (loaded_stays top row place o, leaves.tasks_fresh j t.0 other fresh)
@@ -420,6 +453,8 @@ module _ (p : Program) (w : List ℕ) (m n : Memory) (s u : State) (i : ℕ) (le
       task_filled_stays top row place t TASK_WORDS making.tasks o
   task_stays (task.AddReferences place t) top row making o =
       task_filled_stays top row place t TASK_WORDS making.tasks o
+  task_stays (task.AddCount place t) top row making (o, some) =
+      (task_filled_stays top row place t TASK_WORDS making.tasks o, some)
   task_stays (task.Defer place t) top row making o =
       task_filled_stays top row (Some place) t TASK_WORDS making.tasks o
   task_stays (task.StartNow t) top row making o = task_filled_stays top row None t TASK_WORDS making.tasks o
@@ -440,6 +475,15 @@ module _ (p : Program) (w : List ℕ) (m n : Memory) (s u : State) (i : ℕ) (le
         made_by = same.generating ∙ o.made_by;
         knows = o.knows;
       }
+
+  group_of_stays : (k : Tid) (x : Group) → HasFinished u k → group_of s k ≡ Some x → group_of u k ≡ Some x
+  group_of_stays k x now is = go (task_of s k) refl is
+    where
+      go : (o : Option Task) → task_of s k ≡ o → option_and_then (λ (t : Task). t.group) o ≡ Some x → group_of u k ≡ Some x
+      go None live of = absurd (none_some refl of)
+      go (Some t) live of =
+          ap (option_and_then (λ (v : Task). v.group)) now.live
+          ∙ (names.stays.alike k t now.task live now.live).group ∙ of
 
   -- the task that generated one which was given back: a reference of it is owed, so a task lives at its place
   above_stays : (at : Place) (known : Tid → Task → Type 0)
@@ -471,6 +515,9 @@ module _ (p : Program) (w : List ℕ) (m n : Memory) (s u : State) (i : ℕ) (le
   finish_stays finish.Finish top owes o = tt
   finish_stays (finish.LoadGenerating v t) top owes o = ended_stays t _ (owes.own t refl).0 o
   finish_stays (finish.SubtractChildren v t at) top owes o = ended_stays t _ (owes.own t refl).0 o
+  finish_stays (finish.LoadGroup v t at) top owes o = ended_stays t _ (owes.own t refl).0 o
+  finish_stays (finish.SubtractCount v t at group) top owes (o, (x, of, word)) =
+      (ended_stays t _ (owes.own t refl).0 o, (x, group_of_stays t x (owes.own t refl).0 of, word))
   finish_stays (finish.SubtractReferences v t at) top owes o = ended_stays t _ (owes.own t refl).0 o
   finish_stays (finish.Free v t at) top owes o = ended_stays t _ (owes.gives t refl).0 o
   finish_stays (finish.LoadImplicit v at) top owes o =
@@ -493,12 +540,12 @@ module _ (p : Program) (w : List ℕ) (m n : Memory) (s u : State) (i : ℕ) (le
 
   -- ---- the whole
 
-  pub row_stays : Fits p a → a.thread ≡ j → Stands p s j a
+  pub row_stays : GroupsStay → Fits p a → a.thread ≡ j → Stands p s j a
       → ((top : KeepsContext s j a.context) → IsRow s j a.context.row top.task) → j < s.count
       → ((k : Tid) → (owed a).hand ≡ Some k → StaysInHand k) → OwesOnLive u (owed a) → KeepsMaking s j (owed a)
       → ((c : BarrierCounter) → a.counter ≡ counter.Barrier c → KeepsBarrierRow s a c → KeepsBarrierRow u a c)
       → KeepsRow p w m s j a a.counter → KeepsRow p w n u j a a.counter
-  row_stays fits mine stands rows known hands owes making barriers o = go a.counter refl o
+  row_stays groups fits mine stands rows known hands owes making barriers o = go a.counter refl o
     where
       go : (c : Counter) → a.counter ≡ c → KeepsRow p w m s j a c → KeepsRow p w n u j a c
       go (counter.Worker c) e x = worker_stays c e x
@@ -514,7 +561,7 @@ module _ (p : Program) (w : List ℕ) (m n : Memory) (s u : State) (i : ℕ) (le
           task_stays c top (rows top)
           (subst (λ (y : Counter). KeepsMaking s j (owed_at a.context a.gathered.team y)) e making) x
       go (counter.Look c) e x =
-          look_stays c (context_of p s j a (λ d f. absurd (cc (sym e, f))) stands) e known hands x
+          look_stays c groups (context_of p s j a (λ d f. absurd (cc (sym e, f))) stands) e known hands x
       go (counter.Finish c) e x =
           finish_stays c (context_of p s j a (λ d f. absurd (cc (sym e, f))) stands)
           (subst (λ (y : Counter). OwesOnLive u (owed_at a.context a.gathered.team y)) e owes) x

@@ -121,6 +121,7 @@ module _ (p : Program) (at : Encounter) (debug : at.debug ≡ p.env.debug) where
       go opened.Call e = back opened.Call e
       go (opened.Repeat left) e = back (opened.Repeat left) e
       go (opened.Critical k) e = back (opened.Critical k) e
+      go opened.Taskgroup e = back opened.Taskgroup e
 
   -- ---- the move between statements
 
@@ -185,6 +186,7 @@ module _ (p : Program) (at : Encounter) (debug : at.debug ≡ p.env.debug) where
   abbrev pub behind_return : Opened → ℕ → List Frame → List Item
   behind_return (opened.Repeat (suc left)) g fs = item.Do (stmt.Repeat left g) ∷ ahead p at fs
   behind_return (opened.Critical k) g fs = item.Unlock k ∷ ahead p at fs
+  behind_return opened.Taskgroup g fs = Rows.end_of_group at (ahead p at fs)
   behind_return o g fs = ahead p at fs
 
   pub returns : (a : Actor) (f : Frame) (fs : List Frame) → IsCalled f.opened → f.next ≡ length (body_in p f)
@@ -202,6 +204,7 @@ module _ (p : Program) (at : Encounter) (debug : at.debug ≡ p.env.debug) where
       go (opened.Repeat zero) c = refl
       go (opened.Repeat (suc left)) c = refl
       go (opened.Critical k) c = refl
+      go opened.Taskgroup c = refl
 
   -- a statement is in work in some body
   nonempty : (fs : List Frame) (s : Stmt) → statement_of p fs ≡ Some s
@@ -238,3 +241,4 @@ module _ (p : Program) (at : Encounter) (debug : at.debug ≡ p.env.debug) where
           sym (in_work_is p fs (stmt.Repeat n f.function) _ is)
       go (opened.Repeat (suc (suc left))) c (n, is, some, few) = refl
       go (opened.Critical k) c is = sym (in_work_is p fs (stmt.Critical k f.function) _ is)
+      go opened.Taskgroup c is = sym (in_work_is p fs (stmt.Taskgroup f.function) _ is)

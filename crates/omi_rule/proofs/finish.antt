@@ -4,6 +4,8 @@ pub mod FinishLoads
 pub mod GivenTasks
 pub mod Makers
 pub mod ChildrenLowered
+pub mod GroupLoads
+pub mod CountLowered
 pub mod ReferencesLowered
 pub mod Freed
 pub mod AboveLoads

@@ -5,6 +5,7 @@ pub mod SlotLoads
 pub mod WaitStates
 pub mod WaitEnds
 pub mod Tests
+pub mod GroupTests
 pub mod Takes
 pub mod InHand
 pub mod TaskFunctions
@@ -12,4 +13,5 @@ pub mod Hands
 pub mod Fills
 pub mod ApartBodies
 pub mod Starts
+pub mod GroupEnds
 pub mod LookKeeps

@@ -10,4 +10,5 @@ pub mod Locks
 pub mod States
 pub mod Variables
 pub mod Enters
+pub mod GroupBegins
 pub mod PlainKeeps

@@ -3,6 +3,8 @@ pub mod Within
 pub mod Loads
 pub mod Searches
 pub mod Fills
+pub mod Filled
+pub mod Counted
 pub mod Raises
 pub mod Events
 pub mod Slots

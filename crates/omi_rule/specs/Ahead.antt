@@ -8,8 +8,8 @@ use Rattle.omi_script.specs.declared.statement.Stmt.TheVariants as stmt
 use Rattle.omi_model.specs.declared.encounter.Encounter.{Encounter}
 use Rattle.omi_model.specs.declared.item.Item.{Item}
 use Rattle.omi_model.specs.declared.item.Item.TheVariants as item
-use Rattle.omi_numbers.specs.declared.states.TheConstants.{OVERHEAD, WAIT_BARRIER_EXPLICIT, WAIT_BARRIER_IMPLICIT_PARALLEL, WAIT_CRITICAL, WAIT_TASKWAIT}
-use Rattle.omi_model.specs.Rows.{body_items, call_items, end_of_member, shown, work_state, working}
+use Rattle.omi_numbers.specs.declared.states.TheConstants.{OVERHEAD, WAIT_BARRIER_EXPLICIT, WAIT_BARRIER_IMPLICIT_PARALLEL, WAIT_CRITICAL, WAIT_TASKGROUP, WAIT_TASKWAIT}
+use Rattle.omi_model.specs.Rows.{body_items, call_items, end_of_group, end_of_member, shown, work_state, working}
 use Rattle.omi_pc.specs.declared.counter.Counter.{Counter}
 use Rattle.omi_pc.specs.declared.counter.Counter.TheVariants as counter
 use Rattle.omi_pc.specs.declared.counter.PlainCounter.{PlainCounter}
@@ -47,6 +47,7 @@ behind_body at opened.Call f rest = item.Ret ∷ rest
 behind_body at (opened.Repeat zero) f rest = item.Ret ∷ rest
 behind_body at (opened.Repeat (suc left)) f rest = item.Ret ∷ item.Do (stmt.Repeat left f) ∷ rest
 behind_body at (opened.Critical k) f rest = item.Ret ∷ item.Unlock k ∷ rest
+behind_body at opened.Taskgroup f rest = item.Ret ∷ end_of_group at rest
 
 -- ahead in the bodies of a task, the innermost one first
 abbrev pub ahead : Program → Encounter → List Frame → List Item
@@ -85,10 +86,11 @@ abbrev pub worked : Program → Encounter → List Frame → List Item
 worked p at [] = []
 worked p at (f ∷ fs) = working_at p at f.next (f ∷ fs)
 
--- a function that is called: by its statement, by the next round of `repeat`, or in a critical construct
+-- a function that is called: by its statement, by the next round of `repeat`, or in a critical construct or a taskgroup region
 abbrev pub called_by : Program → Encounter → Opened → Frame → List Frame → List Item
 called_by p at (opened.Repeat left) f fs = item.Do (stmt.Repeat left f.function) ∷ ahead p at fs
 called_by p at (opened.Critical k) f fs = item.Call f.function ∷ ahead p at (f ∷ fs)
+called_by p at opened.Taskgroup f fs = item.Call f.function ∷ ahead p at (f ∷ fs)
 called_by p at o f fs = beginning p at fs
 
 abbrev pub called : Program → Encounter → List Frame → List Item
@@ -108,6 +110,11 @@ abbrev pub locking_in : Program → Encounter → List Frame → Stmt → List I
 locking_in p at fs (stmt.Critical k f) = item.Lock k ∷ working at (leaving p at fs)
 locking_in p at fs s = []
 
+-- a statement whose construct is entered: at its begin, but at the end of its region where it is a `taskgroup`
+abbrev pub entering_in : Program → Encounter → List Frame → Stmt → List Item
+entering_in p at fs (stmt.Taskgroup f) = end_of_group at (ahead p at fs)
+entering_in p at fs s = item.Do s ∷ ahead p at fs
+
 abbrev pub lock_of : Stmt → ℕ
 lock_of (stmt.Critical k f) = k
 lock_of s = 0
@@ -119,13 +126,14 @@ plain_ahead p at fs plain.Skip = passing_over p at fs
 plain_ahead p at fs plain.Return = ahead p at fs
 plain_ahead p at fs plain.Set = beginning p at fs
 plain_ahead p at fs plain.Tool = beginning p at fs
-plain_ahead p at fs plain.Enter = beginning p at fs
+plain_ahead p at fs plain.Enter = in_work p fs (entering_in p at fs)
 plain_ahead p at fs plain.Leave = leaving p at fs
 plain_ahead p at fs plain.WorkState = item.State (work_state at.level) 0 ∷ worked p at fs
 plain_ahead p at fs plain.LockState =
     in_work p fs (λ s. item.State WAIT_CRITICAL (lock_wait (lock_of s)) ∷ locking_in p at fs s)
 plain_ahead p at fs plain.Lock = in_work p fs (locking_in p at fs)
 plain_ahead p at fs plain.Unlock = in_work p fs (λ s. item.Unlock (lock_of s) ∷ ahead p at fs)
+plain_ahead p at fs plain.GroupBegin = beginning p at fs
 plain_ahead p at fs plain.Done = item.Done ∷ []
 plain_ahead p at fs plain.Ended = []
 
@@ -228,17 +236,21 @@ waiting p at fs (wait.Barrier b) = arrived p at fs b
 waiting p at fs wait.Taskwait =
     item.Tasks WAIT_TASKWAIT ∷ item.WaitDone ∷ working at (leaving p at fs)
 waiting p at fs wait.Taskyield = item.OneTask ∷ item.Yield ∷ leaving p at fs
+waiting p at fs wait.Taskgroup =
+    item.Tasks WAIT_TASKGROUP ∷ item.GroupEnd ∷ working at (leaving p at fs)
 
 abbrev pub entering_wait : Program → Encounter → List Frame → Wait → List Item
 entering_wait p at fs (wait.Barrier b) = shown at (barrier_state b) 0 (arrived p at fs b)
 entering_wait p at fs wait.Taskwait = shown at WAIT_TASKWAIT 0 (waiting p at fs wait.Taskwait)
 entering_wait p at fs wait.Taskyield = item.Yield ∷ leaving p at fs
+entering_wait p at fs wait.Taskgroup = shown at WAIT_TASKGROUP 0 (waiting p at fs wait.Taskgroup)
 
 -- the store of this state comes next. At `taskyield` there is none
 abbrev pub showing_wait : Program → Encounter → List Frame → Wait → List Item
 showing_wait p at fs (wait.Barrier b) = item.State (barrier_state b) 0 ∷ arrived p at fs b
 showing_wait p at fs wait.Taskwait = item.State WAIT_TASKWAIT 0 ∷ waiting p at fs wait.Taskwait
 showing_wait p at fs wait.Taskyield = waiting p at fs wait.Taskyield
+showing_wait p at fs wait.Taskgroup = item.State WAIT_TASKGROUP 0 ∷ waiting p at fs wait.Taskgroup
 
 -- ---- explicit tasks
 
@@ -255,12 +267,14 @@ making p at fs place = in_work p fs (λ s. task_item at place s (leaving p at fs
 abbrev pub task_ahead : Program → Encounter → List Frame → TaskCounter → List Item
 task_ahead p at fs (task.LoadSlot place) = making p at fs (Some place)
 task_ahead p at fs (task.LoadVariable place word) = making p at fs place
+task_ahead p at fs (task.LoadGroup place) = making p at fs place
 task_ahead p at fs (task.LoadLife place slot) = making p at fs place
 task_ahead p at fs (task.Take place t) = making p at fs place
 task_ahead p at fs (task.Fill place t word) = making p at fs place
 task_ahead p at fs (task.AddPending place t) = making p at fs place
 task_ahead p at fs (task.AddChildren place t) = making p at fs place
 task_ahead p at fs (task.AddReferences place t) = making p at fs place
+task_ahead p at fs (task.AddCount place t) = making p at fs place
 task_ahead p at fs (task.Defer place t) = making p at fs (Some place)
 task_ahead p at fs (task.StartNow t) = making p at fs None
 
@@ -273,6 +287,8 @@ abbrev pub finish_ahead : Program → Encounter → List Frame → FinishCounter
 finish_ahead p at fs finish.Finish = ahead p at fs
 finish_ahead p at fs (finish.LoadGenerating w t) = resuming p at fs w
 finish_ahead p at fs (finish.SubtractChildren w t generating) = resuming p at fs w
+finish_ahead p at fs (finish.LoadGroup w t generating) = resuming p at fs w
+finish_ahead p at fs (finish.SubtractCount w t generating group) = resuming p at fs w
 finish_ahead p at fs (finish.SubtractReferences w t generating) = resuming p at fs w
 finish_ahead p at fs (finish.Free w t generating) = resuming p at fs w
 finish_ahead p at fs (finish.LoadImplicit w generating) = resuming p at fs w
@@ -287,12 +303,15 @@ IsLookAhead p at fs (look.State w) list = list ≡ showing_wait p at fs w
 IsLookAhead p at fs (look.LoadRow w n) list = list ≡ waiting p at fs w
 IsLookAhead p at fs (look.LoadSlot w n row) list = list ≡ waiting p at fs w
 IsLookAhead p at fs (look.LoadGenerating w n row code) list = list ≡ waiting p at fs w
+IsLookAhead p at fs (look.LoadGroup n row code) list = list ≡ waiting p at fs wait.Taskgroup
 IsLookAhead p at fs (look.Take w n row code) list = list ≡ waiting p at fs w
 IsLookAhead p at fs (look.LoadFunction w n code t) list = list ≡ waiting p at fs w
 IsLookAhead p at fs (look.LoadFinal w n code t f) list = list ≡ waiting p at fs w
 IsLookAhead p at fs (look.Fill w n code t f final word) list = list ≡ waiting p at fs w
 IsLookAhead p at fs (look.Start w n code t f final) list = list ≡ waiting p at fs w
 IsLookAhead p at fs look.LoadChildren list = list ≡ waiting p at fs wait.Taskwait
+IsLookAhead p at fs look.LoadCount list = list ≡ waiting p at fs wait.Taskgroup
+IsLookAhead p at fs look.GroupEnd list = list ≡ waiting p at fs wait.Taskgroup
 IsLookAhead p at fs (look.Yield n) list =
     (list ≡ waiting p at fs wait.Taskyield) ⊎ (list ≡ entering_wait p at fs wait.Taskyield)
 

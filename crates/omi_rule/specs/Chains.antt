@@ -51,6 +51,7 @@ pub record KeepsContext (s : State) (i : ℕ) (c : Context) : Type 0 where
   pub size : length region.team ≡ c.size
   pub row : slice_get region.team c.number ≡ Some (c.row, i)
   pub arrivals : slice_index region.arrivals c.number ≡ c.arrivals
+  pub groups : task.open_groups ≡ c.open_groups
 
 -- what the rows of statements see of the task with a context
 abbrev pub encounter_of : State → Context → Encounter
@@ -120,6 +121,8 @@ abbrev pub IsFinishFront : FinishCounter → Option Freeable → Type 0
 IsFinishFront finish.Finish front = IsPassable front
 IsFinishFront (finish.LoadGenerating w t) front = front ≡ Some (freeable.Finished t)
 IsFinishFront (finish.SubtractChildren w t generating) front = front ≡ Some (freeable.Finished t)
+IsFinishFront (finish.LoadGroup w t generating) front = front ≡ Some (freeable.Finished t)
+IsFinishFront (finish.SubtractCount w t generating group) front = front ≡ Some (freeable.Finished t)
 IsFinishFront (finish.SubtractReferences w t generating) front = front ≡ Some (freeable.Finished t)
 IsFinishFront (finish.Free w t generating) front = front ≡ Some (freeable.Finished t)
 IsFinishFront (finish.LoadImplicit w generating) front = IsPassable front

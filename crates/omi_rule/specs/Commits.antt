@@ -15,11 +15,12 @@ use Rattle.omi_numbers.specs.declared.variables.TheConstants.{DEFAULT_DEVICE_VAR
 use Rattle.omi_model.specs.State.{State}
 use Rattle.omi_layout.specs.declared.field.Field.{Field}
 use Rattle.omi_layout.specs.declared.field.Field.TheVariants.{RegionArrived, RegionLife, RegionReleased, RuntimeLocks, RuntimeMaxActive, TaskChildren, TaskDevice, TaskDynamic, TaskEnter, TaskLife, TaskNthreads, TaskSchedule, TaskSlots, TaskTool, ThreadClaim, ThreadCurrent, ThreadLife, ThreadNative, ThreadState}
+use Rattle.omi_layout.specs.declared.limits.TheConstants.{OPEN_PLACE}
 use Rattle.omi_layout.specs.Memory.{word_address}
 use Rattle.omi_layout.specs.Named.{number}
 use Rattle.omi_rep.specs.declared.outcome.Outcome.{Outcome}
 use Rattle.omi_rep.specs.declared.outcome.Outcome.TheVariants as outcome
-use Rattle.omi_step_words.specs.Words.{of_region, of_runtime, of_task, of_thread}
+use Rattle.omi_step_words.specs.Words.{of_groups, of_region, of_runtime, of_task, of_thread}
 
 -- a store at an address
 abbrev pub StoresAt : Op → ℕ → Type 0
@@ -79,6 +80,8 @@ CommitsAt w s i (event.StartNow task) o = StoresAt o (of_thread w i ThreadCurren
 CommitsAt w s i (event.Start task) o = StoresAt o (of_thread w i ThreadCurrent)
 CommitsAt w s i (event.Finish task) o = StoresAt o (of_thread w i ThreadCurrent)
 CommitsAt w s i event.WaitDone o = OfCurrent s i (λ k t. o ≡ op.Load (of_task w k TaskChildren))
+CommitsAt w s i event.GroupBegin o = OfCurrent s i (λ k t. StoresAt o (of_groups w k OPEN_PLACE))
+CommitsAt w s i event.GroupEnd o = OfCurrent s i (λ k t. StoresAt o (of_groups w k OPEN_PLACE))
 CommitsAt w s i event.Yield o = o ≡ op.Load (of_thread w i ThreadNative)
 CommitsAt w s i event.Work o = o ≡ op.Load (of_thread w i ThreadNative)
 CommitsAt w s i (event.Call f) o = o ≡ op.Load (of_thread w i ThreadNative)

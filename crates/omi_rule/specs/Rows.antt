@@ -1,9 +1,10 @@
 -- What the registers of a thread say of the state and of the words of its records in the making, by its counter. A row names the
 -- thread's own registers, its own words and the state, and never another thread.
-use Rattle.std.specs.Prelude.{◌≡◌, ℕ, zero, suc, ◌-◌, ◌^◌, ◌<◌, ◌≤◌, true, false, List, ◌∷◌, length, map, slice_get, slice_index, take, Some, Bool, Option, None}
+use Rattle.std.specs.Prelude.{◌≡◌, ◌≢◌, ℕ, zero, suc, ◌-◌, ◌^◌, ◌<◌, ◌≤◌, true, false, List, ◌∷◌, length, map, slice_get, slice_index, take, Some, Bool, Option, None}
 use Rattle.omi_script.specs.declared.program.Program.{Program}
 use Rattle.omi_script.specs.declared.statement.Stmt.TheVariants as stmt
 use Rattle.omi_model.specs.declared.freeable.Freeable.TheVariants as freeable
+use Rattle.omi_model.specs.declared.group.Group.{Group}
 use Rattle.omi_model.specs.declared.id.Id.{Id}
 use Rattle.omi_model.specs.declared.id.Rid.{Rid}
 use Rattle.omi_model.specs.declared.id.Tid.{Tid}
@@ -14,8 +15,10 @@ use Rattle.omi_model.specs.declared.task.Variables.{Variables}
 use Rattle.omi_model.specs.Barriers.{HasNoExplicit, HaveArrived}
 use Rattle.omi_model.specs.Columns.{tasks_of}
 use Rattle.omi_model.specs.Fresh.{IsFresh}
+use Rattle.omi_model.specs.Groups.{AreMembersFinished, innermost_or}
 use Rattle.omi_model.specs.LawClaims.{others_below}
 use Rattle.omi_numbers.specs.Words.{flag}
+use Rattle.omi_numbers.specs.declared.limits.TheConstants.{OWN_SLOTS}
 use Rattle.omi_script.specs.Schedules.{schedule_word}
 use Rattle.omi_model.specs.State.{State, region_of, task_of}
 use Rattle.omi_model.specs.Teams.{AreAsksOver, got_threads}
@@ -46,8 +49,9 @@ use Rattle.omi_pc.specs.declared.team_counter.TeamCounter.TheVariants as team
 use Rattle.omi_pc.specs.declared.team_counter.WorkerCounter.{WorkerCounter}
 use Rattle.omi_pc.specs.declared.team_counter.WorkerCounter.TheVariants as worker
 use Rattle.omi_pc.specs.OpenBodies.{IsAt}
-use Rattle.omi_rep.specs.Records.{task_address, task_word}
+use Rattle.omi_rep.specs.Records.{group_word, task_address, task_word}
 use Rattle.omi_rule_words.specs.Counts.{has_slot}
+use Rattle.omi_rule_words.specs.Groups.{group_of}
 use Rattle.omi_rule_words.specs.ExplicitKinds.{IsDeferred, slot_of}
 use Rattle.omi_rule_words.specs.Threads.{WaitsFor}
 use Rattle.omi_step_words.specs.declared.plan.Planned.{Planned}
@@ -55,6 +59,7 @@ use Rattle.omi_step_words.specs.Members.{member_of}
 use Rattle.omi_step_words.specs.Placed.{HasTask}
 use Rattle.omi_step_words.specs.Plan.{region_plan, task_plan}
 use Rattle.omi_fork.specs.TeamParts.{new_member, planned_region}
+use Rattle.omi_task.specs.Groups.{new_group}
 use Rattle.omi_task.specs.LookSteps.{member_at}
 use Rattle.omi_task.specs.MakingSteps.{new_task}
 use Rattle.omi_task.specs.Slots.{coded_task}
@@ -245,26 +250,38 @@ Defers p a = (f : ℕ) × (final : Bool) × IsAt p a.stack (stmt.Task f false fi
 -- the own slot into which the task goes is empty, where there is one
 abbrev pub HasPlace : Program → Memory → Actor → Option ℕ → Type 0
 HasPlace p m a None = Unit {0}
-HasPlace p m a (Some place) = Defers p a × (slot_of m a.context.row place ≡ 0)
+HasPlace p m a (Some place) = Defers p a × (place < OWN_SLOTS) × (slot_of m a.context.row place ≡ 0)
 
--- and the data environment of the current task is loaded
-abbrev pub HasLoaded : Program → Memory → State → Actor → Option ℕ → Type 0
-HasLoaded p m s a place = HasPlace p m a place × KnowsVariables s a VARIABLE_WORDS
+-- the group of the current task is loaded, where it has none open. It stands as its word
+abbrev pub KnowsGroup : List ℕ → State → Actor → Type 0
+KnowsGroup w s a = (t : Task) × (task_of s a.context.task ≡ Some t)
+    × (a.context.open_groups ≡ 0 → a.gathered.group ≡ group_word w t.group)
+
+-- the data environment of the current task is loaded
+abbrev pub HasEnvironment : Program → Memory → State → Actor → Option ℕ → Type 0
+HasEnvironment p m s a place = HasPlace p m a place × KnowsVariables s a VARIABLE_WORDS
+
+-- and its group
+abbrev pub HasLoaded : Program → List ℕ → Memory → State → Actor → Option ℕ → Type 0
+HasLoaded p w m s a place = HasEnvironment p m s a place × KnowsGroup w s a
 
 -- and the first words of the record stand
 abbrev pub HasFilledTask : Program → List ℕ → Memory → State → Actor → Option ℕ → Tid → ℕ → Type 0
-HasFilledTask p w m s a place t n = HasLoaded p m s a place × HasGeneration t.0
-    × IsFilled (m t.0.creator tasks t.0.slot) (task_plan w (new_task p a)) n
+HasFilledTask p w m s a place t n = HasLoaded p w m s a place × HasGeneration t.0
+    × IsFilled (m t.0.creator tasks t.0.slot) (task_plan w (new_task p w a)) n
 
 abbrev pub KeepsTaskRow : Program → List ℕ → Memory → State → ℕ → Actor → TaskCounter → Type 0
 KeepsTaskRow p w m s i a (task.LoadSlot place) = Defers p a
 KeepsTaskRow p w m s i a (task.LoadVariable place word) = HasPlace p m a place × KnowsVariables s a word
-KeepsTaskRow p w m s i a (task.LoadLife place slot) = HasLoaded p m s a place
-KeepsTaskRow p w m s i a (task.Take place t) = HasLoaded p m s a place × IsFresh s.tasks i t.0
+KeepsTaskRow p w m s i a (task.LoadGroup place) = HasEnvironment p m s a place
+KeepsTaskRow p w m s i a (task.LoadLife place slot) = HasLoaded p w m s a place
+KeepsTaskRow p w m s i a (task.Take place t) = HasLoaded p w m s a place × IsFresh s.tasks i t.0
 KeepsTaskRow p w m s i a (task.Fill place t word) = HasFilledTask p w m s a place t word
 KeepsTaskRow p w m s i a (task.AddPending place t) = HasFilledTask p w m s a place t TASK_WORDS
 KeepsTaskRow p w m s i a (task.AddChildren place t) = HasFilledTask p w m s a place t TASK_WORDS
 KeepsTaskRow p w m s i a (task.AddReferences place t) = HasFilledTask p w m s a place t TASK_WORDS
+KeepsTaskRow p w m s i a (task.AddCount place t) =
+    HasFilledTask p w m s a place t TASK_WORDS × (new_group w a ≢ 0)
 KeepsTaskRow p w m s i a (task.Defer place t) = HasFilledTask p w m s a (Some place) t TASK_WORDS
 KeepsTaskRow p w m s i a (task.StartNow t) = HasFilledTask p w m s a None t TASK_WORDS
 
@@ -279,11 +296,13 @@ abbrev pub WasMade : List ℕ → State → ℕ → Type 0
 WasMade w s code = (coded_task w code).0.generation
     < (s.tasks (coded_task w code).0.creator (coded_task w code).0.slot).generations
 
--- in this wait a task may start: at a barrier any one of the region, and elsewhere a child of the current task alone
+-- in this wait a task may start: at a barrier any one of the region, at the end of a taskgroup region one of its group, and elsewhere a child of the
+-- current task alone
 abbrev pub MayStartIn : Wait → Actor → Task → Type 0
 MayStartIn (wait.Barrier b) a t = Unit {0}
 MayStartIn wait.Taskwait a t = t.generating ≡ Some a.context.task
 MayStartIn wait.Taskyield a t = t.generating ≡ Some a.context.task
+MayStartIn wait.Taskgroup a t = t.group ≡ innermost_or None a.context.task a.context.open_groups
 
 -- a task that was found and passed the test of its wait: where it is live, it may start
 abbrev pub HasTested : List ℕ → State → Actor → Wait → ℕ → Type 0
@@ -304,14 +323,20 @@ abbrev pub HasPlaced : List ℕ → Memory → State → Actor → Wait → Tid 
 HasPlaced w m s a v k f final n = IsInHand s a v k (λ t. (t.function ≡ f) × (t.is_final ≡ final))
     × IsFilled (m k.0.creator tasks k.0.slot) (start_plan w a) n
 
+-- no task of the innermost open group is unfinished
+abbrev pub HasNoMember : State → Actor → Type 0
+HasNoMember s a = (g : Group) × (innermost_or None a.context.task a.context.open_groups ≡ Some g) × AreMembersFinished s g
+
 abbrev pub KeepsLookRow : List ℕ → Memory → State → Actor → LookCounter → Type 0
 KeepsLookRow w m s a (look.LoadSlot v n row) = OfRegion s a (IsRowOf row n)
 KeepsLookRow w m s a (look.LoadGenerating v n row code) = OfRegion s a (IsRowOf row n) × WasMade w s code
+KeepsLookRow w m s a (look.LoadGroup n row code) = OfRegion s a (IsRowOf row n) × WasMade w s code
 KeepsLookRow w m s a (look.Take v n row code) = OfRegion s a (IsRowOf row n) × HasTested w s a v code
 KeepsLookRow w m s a (look.LoadFunction v n code t) = IsInHand s a v t (λ u. Unit {0})
 KeepsLookRow w m s a (look.LoadFinal v n code t f) = IsInHand s a v t (λ u. u.function ≡ f)
 KeepsLookRow w m s a (look.Fill v n code t f final word) = HasPlaced w m s a v t f final word
 KeepsLookRow w m s a (look.Start v n code t f final) = HasPlaced w m s a v t f final START_WORDS
+KeepsLookRow w m s a look.GroupEnd = HasNoMember s a
 KeepsLookRow w m s a c = Unit {0}
 
 -- ---- explicit tasks that have finished
@@ -346,6 +371,10 @@ abbrev pub KeepsFinishRow : List ℕ → State → Actor → FinishCounter → T
 KeepsFinishRow w s a finish.Finish = Unit {0}
 KeepsFinishRow w s a (finish.LoadGenerating v t) = HasEndedUnder s a t (λ g. Unit {0})
 KeepsFinishRow w s a (finish.SubtractChildren v t at) = HasEndedUnder s a t (λ g. place_of g.0 ≡ at)
+KeepsFinishRow w s a (finish.LoadGroup v t at) = HasEndedUnder s a t (λ g. place_of g.0 ≡ at)
+KeepsFinishRow w s a (finish.SubtractCount v t at group) =
+    HasEndedUnder s a t (λ g. place_of g.0 ≡ at)
+    × ((x : Group) × (group_of s t ≡ Some x) × (group_word w (Some x) ≡ group))
 KeepsFinishRow w s a (finish.SubtractReferences v t at) =
     HasEndedUnder s a t (λ g. place_of g.0 ≡ at)
 KeepsFinishRow w s a (finish.Free v t at) = HasEndedUnder s a t (λ g. place_of g.0 ≡ at)

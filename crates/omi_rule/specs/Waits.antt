@@ -13,7 +13,7 @@ use Rattle.omi_layout.specs.Field.{regions, tasks}
 use Rattle.omi_layout.specs.Memory.{word_address}
 use Rattle.omi_layout.specs.Named.{number}
 use Rattle.omi_layout.specs.Table.{per_thread}
-use Rattle.omi_step_words.specs.Words.{of_place, of_region, of_task, of_thread}
+use Rattle.omi_step_words.specs.Words.{of_count, of_place, of_region, of_task, of_thread}
 
 -- ---- places in a list
 
@@ -37,10 +37,14 @@ abbrev pub passes_next : List Item → Type 0
 passes_next (item.Tasks state ∷ item.Pass ∷ xs) = Unit {0}
 passes_next xs = ⊥
 
--- the end of a taskwait construct is next, and the join of a team
+-- the end of a taskwait construct is next, that of a taskgroup region, and the join of a team
 abbrev pub children_next : List Item → Type 0
 children_next (item.Tasks state ∷ item.WaitDone ∷ xs) = Unit {0}
 children_next xs = ⊥
+
+abbrev pub members_next : List Item → Type 0
+members_next (item.Tasks state ∷ item.GroupEnd ∷ xs) = Unit {0}
+members_next xs = ⊥
 
 abbrev pub joins_next : List Item → Type 0
 joins_next (item.Join ∷ xs) = Unit {0}
@@ -85,6 +89,9 @@ pub data Waits (w : List ℕ) (s : State) (i address word : ℕ) : Type 0 where
   -- a taskwait construct waits for the children of its task
   ForChildren : OfCurrent s i (λ k t. children_next t.list
       × (address ≡ of_task w k TaskChildren) × (word ≢ 0)) → Waits w s i address word
+  -- a taskgroup region waits for the tasks of the innermost open group of its task
+  ForGroup : OfCurrent s i (λ k t. members_next t.list
+      × (address ≡ of_count w k (t.open_groups - 1)) × (word ≢ 0)) → Waits w s i address word
   -- member 0 waits at its end for the others to leave
   ForMembers : OfCurrentRegion s i (λ k t r. joins_next t.list
       × (address ≡ of_region w t.region RegionLeft)

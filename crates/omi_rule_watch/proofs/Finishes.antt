@@ -1,13 +1,19 @@
 -- The steps of the end of an explicit task, and those that give the records of tasks back: the look behind them has not begun.
-use Rattle.std.proofs.Common.{◌≡◌, ◌==◌, ◌&&◌, ℕ, Bool, true, false, List, Option, Some, None, refl, if◌then◌else◌}
+use Rattle.std.proofs.Common.{◌≡◌, ◌==◌, ◌&&◌, ℕ, Bool, true, false, List, Option, Some, None, refl, if◌then◌else◌, ◌/◌, ◌%◌, ◌≤◌, arith}
+use Rattle.std.specs.Option.{option_map_or}
+use Rattle.std.proofs.lemmas.Bool.Decides.{nat_tests}
 use Rattle.omi_script.specs.declared.program.Program.{Program}
 use Rattle.omi_model.specs.declared.event.Event.{Event}
 use Rattle.omi_model.specs.State.{State}
+use Rattle.omi_model.specs.declared.id.Tid.{Tid}
 use Rattle.omi_layout.specs.declared.field.Field.{Field}
-use Rattle.omi_layout.specs.declared.field.Field.TheVariants.{RegionLife, TaskGenerating, TaskImplicit, TaskLife}
+use Rattle.omi_layout.specs.declared.field.Field.TheVariants.{RegionLife, TaskGenerating, TaskImplicit, TaskLife, TaskSlots}
 use Rattle.omi_layout.specs.Field.{kind_of, tasks}
 use Rattle.omi_layout.specs.Memory.{IsRecordWord, Memory}
 use Rattle.omi_layout.specs.Named.{number}
+use Rattle.omi_layout.specs.declared.limits.TheConstants.{GROUP_PLACE}
+use Rattle.omi_layout.proofs.Numbers.{numbered_field}
+use Rattle.omi_layout.proofs.SlotWords.{group_word_within}
 use Rattle.omi_pc.specs.declared.actor.Actor.{Actor}
 use Rattle.omi_pc.specs.declared.counter.Counter.TheVariants as counter
 use Rattle.omi_pc.specs.declared.frame.Wait.{Wait}
@@ -27,12 +33,13 @@ use Rattle.omi_rule.specs.Steps.{IsOn, RecordWord, found_in}
 use Rattle.omi_rule.proofs.Assembly.{Before}
 use Rattle.omi_rule.proofs.barrier.AtCounter.{placed_counter, row_is}
 use Rattle.omi_rule_watch.specs.Given.{Has, IsFinishGivenBy, IsLookGiven, IsSearchGiven}
-use Rattle.omi_rule_watch.specs.Watch.{SlotLook, Watch, finds, is_load, is_own, is_slot, no_look}
+use Rattle.omi_rule_watch.specs.Watch.{SlotLook, Watch, finds, is_load, is_own, is_slot, no_look, current_member_task}
 use Rattle.omi_rule_watch.proofs.Cases.{one_of}
 use Rattle.omi_rule_watch.proofs.Parts.{IsCalm, KeepsParts, PartsKeep, calm_at, event_parts, look_stays, quiet_parts}
 use Rattle.omi_rule_watch.proofs.Resting.{IsFresh, seeks_none}
 use Rattle.omi_rule_watch.proofs.Standing.{life_taken, record_word, some_word, word_of}
 use Rattle.omi_rule_watch.proofs.Workers.{not_found}
+use Rattle.omi_numbers.specs.declared.limits.TheConstants.{OWN_SLOTS}
 
 -- ---- the next counter
 
@@ -52,24 +59,31 @@ back_fresh : (p : Program) (v : Option Wait) → IsFresh (behind_finish p v)
 back_fresh p None = seeks_none refl refl (λ a. refl)
 back_fresh p (Some wait.Taskyield) = seeks_none refl refl (λ a. refl)
 back_fresh p (Some wait.Taskwait) = seeks_none refl refl (λ a. refl)
+back_fresh p (Some wait.Taskgroup) = seeks_none refl refl (λ a. refl)
 back_fresh p (Some (wait.Barrier b)) = seeks_none refl refl (λ a. refl)
+
+looks_again : (b : Actor) (l : SlotLook) → Has l 0 None → (v : Wait) (d : Bool)
+    → IsLookGiven b (counter.Look (if d then look.State v else look.LoadRow v 0)) l
+looks_again b l has v true = tt
+looks_again b l has v false = has
 
 back_given : (p : Program) (b : Actor) (l : SlotLook) → Has l 0 None → (v : Option Wait)
     → IsLookGiven b (behind_finish p v) l
 back_given p b l has None = tt
 back_given p b l has (Some wait.Taskyield) = tt
-back_given p b l has (Some wait.Taskwait) = go p.env.debug
+back_given p b l has (Some wait.Taskwait) = looks_again b l has wait.Taskwait p.env.debug
+back_given p b l has (Some (wait.Barrier k)) = looks_again b l has (wait.Barrier k) p.env.debug
+back_given p b l has (Some wait.Taskgroup) = looks_again b l has wait.Taskgroup p.env.debug
+
+-- a word behind the slots of a record is none of them
+no_own_slot : (s : State) (i creator slot place k : ℕ) → OWN_SLOTS ≤ place
+    → is_slot s i k (record { creator = creator; slot = slot; field = TaskSlots; place = place }) ≡ false
+no_own_slot s i creator slot place k behind = go (place == k % OWN_SLOTS) refl
   where
-    go : (d : Bool)
-        → IsLookGiven b (counter.Look (if d then look.State wait.Taskwait else look.LoadRow wait.Taskwait 0)) l
-    go true = tt
-    go false = has
-back_given p b l has (Some (wait.Barrier k)) = go p.env.debug
-  where
-    go : (d : Bool)
-        → IsLookGiven b (counter.Look (if d then look.State (wait.Barrier k) else look.LoadRow (wait.Barrier k) 0)) l
-    go true = tt
-    go false = has
+    go : (b : Bool) → place == k % OWN_SLOTS ≡ b
+        → b && option_map_or (λ (t : Tid). creator == t.0.creator && slot == t.0.slot) (current_member_task s i (k / OWN_SLOTS)) false ≡ false
+    go true e = absurd (grind (arith, nat_tests, e, behind))
+    go false e = refl
 
 module _ (p : Program) (w : List ℕ) (m : Memory) (events : List (ℕ × Event)) (s : State) (actors : ℕ → Actor)
     (i : ℕ) (before : Before p w m events s actors i) (h : Watch) where
@@ -118,6 +132,31 @@ module _ (p : Program) (w : List ℕ) (m : Memory) (events : List (ℕ × Event)
       → IsRecordWord w q.creator q.slot (number f) 0
   task_word_there q f kind placed = record_word p w m events s actors i before tasks q.creator q.slot f kind placed
 
+  -- the group of the finished task
+  module _ (v : Option Wait) (t : Tid) (q : Place)
+      (at : (actors i).counter ≡ counter.Finish (finish.LoadGroup v t q))
+      (given : IsSearchGiven (actors i) (counter.Finish (finish.LoadGroup v t q)) h.search)
+      (has : Has h.look 0 None) where
+    abbrev on_group : RecordWord
+    on_group = record { creator = t.0.creator; slot = t.0.slot; field = TaskSlots; place = GROUP_PLACE }
+
+    loads_group : Keeps (finish.LoadGroup v t q)
+    loads_group = (
+      on_group,
+      record {
+        there = record {
+          field = numbered_field TaskSlots;
+          record_slot = (placed (finish.LoadGroup v t q) at given).0;
+          within = group_word_within w GROUP_PLACE before.suits.groups (omega arith);
+        };
+        address = refl;
+      },
+      quiet_to (finish.LoadGroup v t q) at given has on_group _ refl refl (λ k. no_own_slot s i t.0.creator t.0.slot GROUP_PLACE k (omega arith))
+          (seeks_none refl refl (λ a. refl))
+          (λ l begins. begins_two (found_in m on_group == 0) (finish.SubtractReferences v t q)
+          (finish.SubtractCount v t q (found_in m on_group)) l begins begins),
+    )
+
   -- ---- the life word of a task above
 
   module _ (v : Option Wait) (q : Place) (next : ℕ) (at : (actors i).counter ≡ counter.Finish (finish.LoadLife v q next))
@@ -159,6 +198,10 @@ module _ (p : Program) (w : List ℕ) (m : Memory) (events : List (ℕ × Event)
   finish_parts (finish.SubtractChildren v t generating) at given has =
       let (x, on) = some (finish.SubtractChildren v t generating) at given in
       (x, on, quiet_to (finish.SubtractChildren v t generating) at given has x _ refl refl (λ k. refl) (seeks_none refl refl (λ a. refl)) (λ l begins. begins))
+  finish_parts (finish.LoadGroup v t generating) at given has = loads_group v t generating at given has
+  finish_parts (finish.SubtractCount v t generating group) at given has =
+      let (x, on) = some (finish.SubtractCount v t generating group) at given in
+      (x, on, quiet_to (finish.SubtractCount v t generating group) at given has x _ refl refl (λ k. refl) (seeks_none refl refl (λ a. refl)) (λ l begins. begins))
   finish_parts (finish.SubtractReferences v t generating) at given has =
       let (x, on) = some (finish.SubtractReferences v t generating) at given in (
         x,

@@ -14,5 +14,6 @@ pub mod Barriers
 pub mod Finishes
 pub mod SameWords
 pub mod Takes
+pub mod GroupCounts
 pub mod TakingSteps
 pub mod Kept

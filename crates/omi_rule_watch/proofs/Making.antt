@@ -12,7 +12,8 @@ use Rattle.omi_layout.specs.declared.field.Field.TheVariants.{RuntimeLocks, Task
 use Rattle.omi_layout.specs.Field.{tasks}
 use Rattle.omi_layout.specs.Memory.{Memory}
 use Rattle.omi_layout.proofs.Numbers.{numbered_field}
-use Rattle.omi_layout.proofs.SlotWords.{slot_within}
+use Rattle.omi_layout.proofs.SlotWords.{slot_within, group_word_within}
+use Rattle.omi_layout.specs.declared.limits.TheConstants.{GROUP_PLACE}
 use Rattle.omi_pc.specs.declared.actor.Actor.{Actor}
 use Rattle.omi_pc.specs.declared.counter.Counter.TheVariants as counter
 use Rattle.omi_pc.specs.declared.counter.PlainCounter.{PlainCounter}
@@ -29,10 +30,11 @@ use Rattle.omi_step_words.specs.Moving.{to_task}
 use Rattle.omi_step_words.specs.Plan.{of_variable, variable_at}
 use Rattle.omi_step_words.specs.Searches.{next_slot, own_place}
 use Rattle.omi_step_words.specs.Words.{is_free, object_in, of_place}
-use Rattle.omi_plain.specs.PlainSteps.{behind_enter, past_enter, left_behind, of_lock, plain_moved, plain_next, plain_outcome}
+use Rattle.omi_plain.specs.PlainSteps.{behind_enter, past_enter, left_behind, of_lock, plain_moved, plain_next, plain_outcome, group_begun}
 use Rattle.omi_plain.specs.Statements.{in_work, lock_in}
-use Rattle.omi_task.specs.MakingSteps.{behind_raises, made_function, makes_final, making_moved, making_next, making_outcome, of_own_slot}
+use Rattle.omi_task.specs.MakingSteps.{behind_raises, made_function, makes_final, making_moved, making_next, making_outcome, of_own_slot, behind_variables}
 use Rattle.omi_task.specs.Starts.{task_context}
+use Rattle.omi_task.specs.Groups.{new_group}
 use Rattle.omi_rule.specs.Steps.{IsOn, RecordWord, found_in}
 use Rattle.omi_rule.proofs.Assembly.{Before}
 use Rattle.omi_rule.proofs.plain.Locks.{lock_there}
@@ -78,6 +80,12 @@ module _ (p : Program) (w : List ℕ) (m : Memory) (events : List (ℕ × Event)
   rests_raised : (place : Option ℕ) (t : Tid) → Rests (counter.Task (behind_raises place t))
   rests_raised None t = rests_making (task.StartNow t) refl refl (λ a. tt)
   rests_raised (Some place) t = rests_making (task.Defer place t) refl refl (λ a. tt)
+
+  -- the data environment is loaded
+  rests_variables : (groups : ℕ) (place : Option ℕ) → Rests (counter.Task (behind_variables groups place))
+  rests_variables groups place =
+      rests_two (groups == 0) (task.LoadGroup place) (task.LoadLife place 0)
+      (rests_making (task.LoadGroup place) refl refl (λ a. tt)) (rests_making (task.LoadLife place 0) refl refl (λ a. refl))
 
   module _ (c : TaskCounter) (at : (actors i).counter ≡ counter.Task c) where
     any : (x : RecordWord) × IsOn w (making_next p w (actors i) c) x
@@ -176,8 +184,25 @@ module _ (p : Program) (w : List ℕ) (m : Memory) (events : List (ℕ × Event)
         record { there = variable_word w k word below (context_placed p w m events s actors i before (task.LoadVariable place word) at).task; address = refl },
         quiet_rests w m s i (op.Load (of_variable w k word)) x _ h
             (calm_at a (counter.Task (task.LoadVariable place word)) h.search refl refl refl given) no_region no_task
-            (rests_two (nat_lt (word + 1) VARIABLE_WORDS) (task.LoadVariable place (word + 1)) (task.LoadLife place 0)
-            (rests_making (task.LoadVariable place (word + 1)) refl refl (λ a. tt)) (rests_making (task.LoadLife place 0) refl refl (λ a. refl))),
+            (rests_two (nat_lt (word + 1) VARIABLE_WORDS) (task.LoadVariable place (word + 1))
+            (behind_variables (actors i).context.open_groups place)
+            (rests_making (task.LoadVariable place (word + 1)) refl refl (λ a. tt))
+            (rests_variables (actors i).context.open_groups place)),
+      )
+  making_parts (task.LoadGroup place) at given =
+      let k = (actors i).context.task.0 in
+      let x : RecordWord = record { creator = k.creator; slot = k.slot; field = TaskSlots; place = GROUP_PLACE } in (
+        x,
+        record {
+          there = record {
+            field = numbered_field TaskSlots;
+            record_slot = (context_placed p w m events s actors i before (task.LoadGroup place) at).task;
+            within = group_word_within w GROUP_PLACE before.suits.groups (omega arith);
+          };
+          address = refl;
+        },
+        quiet_rests w m s i _ x _ h (calm_at a (counter.Task (task.LoadGroup place)) h.search refl refl refl given) refl refl
+            (rests_making (task.LoadLife place 0) refl refl (λ a. refl)),
       )
   making_parts (task.LoadLife place slot) at given = task_search place slot at given
   making_parts (task.Take place t) at given = (
@@ -218,6 +243,14 @@ module _ (p : Program) (w : List ℕ) (m : Memory) (events : List (ℕ × Event)
         x,
         on,
         quiet_rests w m s i _ x _ h (calm_at a (counter.Task (task.AddReferences place t)) h.search refl refl refl given) refl refl
+            (rests_two (new_group w (actors i) == 0) (behind_raises place t) (task.AddCount place t)
+            (rests_raised place t) (rests_making (task.AddCount place t) refl refl (λ a. tt))),
+      )
+  making_parts (task.AddCount place t) at given =
+      let (x, on) = any (task.AddCount place t) at in (
+        x,
+        on,
+        quiet_rests w m s i _ x _ h (calm_at a (counter.Task (task.AddCount place t)) h.search refl refl refl given) refl refl
             (rests_raised place t),
       )
   making_parts (task.Defer place t) at given =
@@ -256,6 +289,10 @@ module _ (p : Program) (w : List ℕ) (m : Memory) (events : List (ℕ × Event)
   rests_left (Some (stmt.Critical k f)) now = rests_plain plain.Call
   rests_left (Some x) now = rests_settled p (actors i) (λ none. now)
 
+  rests_grouped : (x : Option Stmt) → Rests (actors i).counter → Rests (group_begun x (actors i)).counter
+  rests_grouped (Some (stmt.Taskgroup f)) now = rests_plain plain.Call
+  rests_grouped x now = now
+
   -- behind an enter: a look may begin
   entered_calm : (debug final : Bool) (x : Option Stmt)
       → IsFresh (behind_enter debug final x) × ((b : Actor) → IsLookGiven b (behind_enter debug final x) no_look)
@@ -267,6 +304,8 @@ module _ (p : Program) (w : List ℕ) (m : Memory) (events : List (ℕ × Event)
   entered_calm true final (Some stmt.Taskwait) = (seeks_none refl refl (λ a. refl), λ b. tt)
   entered_calm false final (Some stmt.Taskwait) = (seeks_none refl refl (λ a. refl), λ b. record { looked = refl; seen = refl })
   entered_calm debug final (Some stmt.Taskyield) = (seeks_none refl refl (λ a. refl), λ b. record { looked = refl; seen = refl })
+  entered_calm true final (Some (stmt.Taskgroup f)) = (seeks_none refl refl (λ a. refl), λ b. tt)
+  entered_calm false final (Some (stmt.Taskgroup f)) = (seeks_none refl refl (λ a. refl), λ b. record { looked = refl; seen = refl })
   entered_calm true final (Some stmt.Barrier) = (seeks_none refl refl (λ a. refl), λ b. tt)
   entered_calm false final (Some stmt.Barrier) = (seeks_none refl refl (λ a. refl), λ b. tt)
   entered_calm true final (Some (stmt.Critical k f)) = (seeks_none refl refl (λ a. refl), λ b. tt)
@@ -329,6 +368,8 @@ module _ (p : Program) (w : List ℕ) (m : Memory) (events : List (ℕ × Event)
   plain_parts plain.Lock at given = locks at given
   plain_parts plain.Unlock at given =
       commits plain.Unlock at given _ _ (rests_settled p a (λ none. here plain.Unlock at given))
+  plain_parts plain.GroupBegin at given =
+      commits plain.GroupBegin at given _ _ (rests_grouped (in_work p a) (here plain.GroupBegin at given))
   plain_parts plain.Done at given = commits plain.Done at given _ _ (rests_plain plain.Ended)
   plain_parts plain.Ended at given =
       let (x, on) = word plain.Ended at given in

@@ -14,7 +14,7 @@ use Rattle.omi_rep.specs.declared.outcome.Outcome.TheVariants as outcome
 use Rattle.omi_rule.specs.Steps.{IsOn, RecordWord, found_in}
 use Rattle.omi_rule_watch.specs.Demands.{BeginsSearch, IsExpected, MeetsLook, MeetsOrder, searches}
 use Rattle.omi_rule_watch.specs.Given.{Has, IsFirst, IsLookGiven, IsSearchGiven, region_found, sought, task_found}
-use Rattle.omi_rule_watch.specs.Watch.{SlotLook, Search, Watch, finds, found_after, found_in_slot, is_gone, is_load, is_no_child, is_own, is_own_life, is_slot, is_waiting, life_behind, look_after, looked_at, no_look, search_after}
+use Rattle.omi_rule_watch.specs.Watch.{SlotLook, Search, Watch, finds, found_after, found_in_slot, is_gone, is_load, is_no_child, is_no_member, is_own, is_own_life, is_slot, is_waiting, life_behind, look_after, looked_at, no_look, search_after}
 use Rattle.omi_rule_watch.proofs.Resting.{IsFresh, Rests}
 
 -- ---- what is shown of a step
@@ -143,7 +143,7 @@ module _ (w : List ℕ) (m : Memory) (s : State) (i : ℕ) (o : Op) (x : RecordW
 
   -- and on no word for which a thread looks
   pub waits_rests : (address word : ℕ) → is_own RegionLife i x ≡ false → is_own TaskLife i x ≡ false
-      → is_waiting x.field ≡ false → Rests b.counter
+      → is_waiting x ≡ false → Rests b.counter
       → KeepsParts w m s i o x (b, outcome.NotReady address word) h
   waits_rests address word other_region other_task other rests =
       waits_parts address word other_region other_task rests.fresh
@@ -190,7 +190,8 @@ look_loads w s i x o found n h has this =
 
 -- a code was seen: the slot is passed or not
 pub look_passes : (w : List ℕ) (s : State) (i : ℕ) (x : RecordWord) (o : Op) (found n code : ℕ) (h : SlotLook) (b : Bool)
-    → Has h n (Some code) → is_gone s i x o found n code || is_no_child w s i x o found code ≡ b
+    → Has h n (Some code)
+    → is_gone s i x o found n code || (is_no_child w s i x o found code || is_no_member w s i x o found code) ≡ b
     → looked_at w s i x o found h.looked h.seen ≡ (if b then record { looked = n + 1; seen = None } else record { looked = n; seen = Some code })
 look_passes w s i x o found n code h b has is =
     ap (λ (c : Option ℕ). looked_at w s i x o found h.looked c) has.seen

@@ -48,14 +48,16 @@ use Rattle.omi_fork.specs.WorkerSteps.{worker_moved, worker_outcome}
 use Rattle.omi_plain.specs.PlainSteps.{plain_outcome}
 use Rattle.omi_task.specs.LookSteps.{behind_code, behind_look, look_at, look_moved, look_outcome, looking_on, next_look}
 use Rattle.omi_task.specs.FinishSteps.{behind_finish, behind_references, finish_moved, finish_outcome}
-use Rattle.omi_task.specs.MakingSteps.{making_moved, making_outcome}
+use Rattle.omi_task.specs.MakingSteps.{making_moved, making_outcome, behind_raises, behind_variables}
 use Rattle.omi_task.specs.Slots.{coded_task}
+use Rattle.omi_task.specs.Groups.{new_group}
 use Rattle.omi_actor.specs.Steps.{resumed_at}
 use Rattle.omi_rule_watch.specs.Demands.{most_in_row}
 use Rattle.omi_rule_watch.specs.Given.{at_look, carried, finish_quiet, making_quiet, most_quiet, team_quiet}
 use Rattle.omi_rule_watch.specs.Watch.{quiet_after}
 use Rattle.omi_rule_watch.specs.WatchLaws.{QuietStepsAreFew}
 use Rattle.omi_rule_watch.proofs.Cases.{one_of, paired}
+use Rattle.omi_model.specs.declared.id.Tid.{Tid}
 
 -- ---- moves between statements
 
@@ -210,6 +212,11 @@ made_from q b other x y none few =
     (λ (out : Outcome) (c : TaskCounter). quiet_after out q ≤ making_quiet c) b outcome.Quiet other x y few
     (omega (arith, none))
 
+-- all counts are raised
+quiet_raised : (place : Option ℕ) (t : Tid) (q : ℕ) → q ≤ 16 + TASK_WORDS → q ≤ making_quiet (behind_raises place t)
+quiet_raised None t q few = omega (arith, few)
+quiet_raised (Some place) t q few = omega (arith, few)
+
 quiet_making : (p : Program) (w : List ℕ) (a : Actor) (c : TaskCounter) (old q : ℕ) → FitsTask p a c
     → q ≤ making_quiet c
     → quiet_after (making_outcome w a c old) q ≤ most_quiet p.threads (making_moved p w a c old).counter
@@ -219,7 +226,11 @@ quiet_making p w a (task.LoadSlot place) old q fits few =
     (omega (arith, few))
 quiet_making p w a (task.LoadVariable place word) old q fits few =
     made_to (q + 1) (nat_lt (word + 1) VARIABLE_WORDS) (task.LoadVariable place (word + 1))
-    (task.LoadLife place 0) (omega (arith, few)) (let within = fits.1 in omega (arith, few, within))
+    (behind_variables a.context.open_groups place) (omega (arith, few))
+    (let within = fits.1 in
+    made_to (q + 1) (a.context.open_groups == 0) (task.LoadGroup place) (task.LoadLife place 0)
+    (omega (arith, few, within)) (omega (arith, few, within)))
+quiet_making p w a (task.LoadGroup place) old q fits few = omega (arith, few)
 quiet_making p w a (task.LoadLife place slot) old q fits few =
     made_from q (is_free old) _ (task.Take place (record { 0 = object_in (own_place a slot) old }))
     (task.LoadLife place (next_slot w tasks slot)) refl (omega (arith, few))
@@ -229,8 +240,10 @@ quiet_making p w a (task.Fill place t word) old q fits few =
     (omega (arith, few)) (let within = fits.1 in omega (arith, few, within))
 quiet_making p w a (task.AddPending place t) old q fits few = omega (arith, few)
 quiet_making p w a (task.AddChildren place t) old q fits few = omega (arith, few)
-quiet_making p w a (task.AddReferences None t) old q fits few = omega (arith, few)
-quiet_making p w a (task.AddReferences (Some place) t) old q fits few = omega (arith, few)
+quiet_making p w a (task.AddReferences place t) old q fits few =
+    made_to (q + 1) (new_group w a == 0) (behind_raises place t) (task.AddCount place t)
+    (quiet_raised place t (q + 1) (omega (arith, few))) (omega (arith, few))
+quiet_making p w a (task.AddCount place t) old q fits few = quiet_raised place t (q + 1) (omega (arith, few))
 quiet_making p w a (task.Defer place t) old q fits few = omega arith
 quiet_making p w a (task.StartNow t) old q fits few = omega arith
 
@@ -244,6 +257,8 @@ no_statement p a wait.Taskwait none waits =
     let is = subst (λ fs. IsAt p fs stmt.Taskwait) none waits in absurd (cc is)
 no_statement p a wait.Taskyield none waits =
     let is = subst (λ fs. IsAt p fs stmt.Taskyield) none waits in absurd (cc is)
+no_statement p a wait.Taskgroup none (f, waits) =
+    let is = subst (λ fs. IsAt p fs (stmt.Taskgroup f)) none waits in absurd (cc is)
 
 -- a team has at most all threads
 pub size_is_few : (p : Program) (a : Actor) (w : Wait) → AreOpen p a.context a.stack → Waits p a w
@@ -269,6 +284,7 @@ quiet_on p a v n row q within all few = go (nat_lt (n + 1) (slots_of a))
         first false = omega (arith, few, within, all)
     behind wait.Taskwait = omega (arith, few, within, all)
     behind wait.Taskyield = omega (arith, few, within, all)
+    behind wait.Taskgroup = omega (arith, few, within, all)
 
     at : (d : Bool)
         → q + 1 ≤ most_quiet p.threads (counter.Look (if d then look.LoadRow v (n + 1) else look.LoadSlot v (n + 1) row))
@@ -290,6 +306,7 @@ quiet_code : (t : ℕ) (v : Wait) (n : ℕ) (row : Place) (code q : ℕ) → q �
 quiet_code t (wait.Barrier b) n row code q few = omega (arith, few)
 quiet_code t wait.Taskwait n row code q few = omega (arith, few)
 quiet_code t wait.Taskyield n row code q few = omega (arith, few)
+quiet_code t wait.Taskgroup n row code q few = omega (arith, few)
 
 quiet_looks : (p : Program) (w : List ℕ) (a : Actor) (c : LookCounter) (old q : ℕ)
     → AreOpen p a.context a.stack → FitsLook p a c → q ≤ most_quiet p.threads (counter.Look c)
@@ -304,6 +321,10 @@ quiet_looks p w a (look.LoadGenerating v n row code) old q bodies fits few =
     quietly p.threads (q + 1) (old == _) (to_look (look.Take v n row code) a) (looking_on v n row a)
     (omega (arith, few))
     (quiet_on p a v n row q fits.0.0.1 (size_is_few p a v bodies fits.0.0.0) (omega (arith, few)))
+quiet_looks p w a (look.LoadGroup n row code) old q bodies fits few =
+    quietly p.threads (q + 1) (old == _) (to_look (look.Take wait.Taskgroup n row code) a)
+    (looking_on wait.Taskgroup n row a) (omega (arith, few))
+    (quiet_on p a wait.Taskgroup n row q fits.0.0.1 (size_is_few p a wait.Taskgroup bodies fits.0.0.0) (omega (arith, few)))
 quiet_looks p w a (look.Take v n row code) old q bodies fits few =
     quietly p.threads (q + 1) (old == code) (to_look (look.LoadFunction v n code (coded_task w code)) a)
     (looking_on v n row a) (omega (arith, few))
@@ -321,24 +342,24 @@ quiet_looks p w a (look.Start v n code t f final) old q bodies fits few = omega 
 quiet_looks p w a look.LoadChildren old q bodies fits few =
     either p.threads q (old == 0) (back_to_work p a) (to_look (look.LoadRow wait.Taskwait 0) a) _ _
     (omega arith) (omega arith)
+quiet_looks p w a look.LoadCount old q bodies fits few =
+    either p.threads q (old == 0) (to_look look.GroupEnd a) (to_look (look.LoadRow wait.Taskgroup 0) a) outcome.Quiet _
+    (omega (arith, few)) (omega arith)
+quiet_looks p w a look.GroupEnd old q bodies fits few = omega arith
 quiet_looks p w a (look.Yield n) old q bodies fits few = omega arith
 
-quiet_back : (p : Program) (v : Option Wait) (q : ℕ) → q ≤ 4
+quiet_again : (t q : ℕ) (v : Wait) (d : Bool) → q ≤ 5
+    → q + 1 ≤ most_quiet t (counter.Look (if d then look.State v else look.LoadRow v 0))
+quiet_again t q v true few = omega (arith, few)
+quiet_again t q v false few = omega (arith, few)
+
+quiet_back : (p : Program) (v : Option Wait) (q : ℕ) → q ≤ 5
     → q + 1 ≤ most_quiet p.threads (behind_finish p v)
 quiet_back p None q few = omega (arith, few)
 quiet_back p (Some wait.Taskyield) q few = omega (arith, few)
-quiet_back p (Some wait.Taskwait) q few = go p.env.debug
-  where
-    go : (b : Bool)
-        → q + 1 ≤ most_quiet p.threads (counter.Look (if b then look.State wait.Taskwait else look.LoadRow wait.Taskwait 0))
-    go true = omega (arith, few)
-    go false = omega (arith, few)
-quiet_back p (Some (wait.Barrier b)) q few = go p.env.debug
-  where
-    go : (d : Bool)
-        → q + 1 ≤ most_quiet p.threads (counter.Look (if d then look.State (wait.Barrier b) else look.LoadRow (wait.Barrier b) 0))
-    go true = omega (arith, few)
-    go false = omega (arith, few)
+quiet_back p (Some wait.Taskwait) q few = quiet_again p.threads q wait.Taskwait p.env.debug few
+quiet_back p (Some wait.Taskgroup) q few = quiet_again p.threads q wait.Taskgroup p.env.debug few
+quiet_back p (Some (wait.Barrier b)) q few = quiet_again p.threads q (wait.Barrier b) p.env.debug few
 
 -- the counter behind a word that was loaded or lowered, by this word
 lowered_to : (t q : ℕ) (b : Bool) (x y : FinishCounter) → q ≤ finish_quiet t x → q ≤ finish_quiet t y
@@ -358,6 +379,10 @@ quiet_finish : (p : Program) (w : List ℕ) (a : Actor) (c : FinishCounter) (old
 quiet_finish p w a finish.Finish old q few = omega arith
 quiet_finish p w a (finish.LoadGenerating v t) old q few = omega (arith, few)
 quiet_finish p w a (finish.SubtractChildren v t generating) old q few = omega (arith, few)
+quiet_finish p w a (finish.LoadGroup v t generating) old q few =
+    lowered_to p.threads (q + 1) (old == 0) (finish.SubtractReferences v t generating)
+    (finish.SubtractCount v t generating old) (omega (arith, few)) (omega (arith, few))
+quiet_finish p w a (finish.SubtractCount v t generating group) old q few = omega (arith, few)
 quiet_finish p w a (finish.SubtractReferences v t generating) old q few =
     lowered_to p.threads (q + 1) (old == 1) (finish.Free v t generating) (finish.SubtractPending v)
     (omega (arith, few)) (omega (arith, few))
@@ -390,6 +415,7 @@ quiet_plain p w a plain.WorkState old q = refl
 quiet_plain p w a plain.LockState old q = refl
 quiet_plain p w a plain.Lock old q = not_quiet q (old == 0) _ _ refl refl
 quiet_plain p w a plain.Unlock old q = refl
+quiet_plain p w a plain.GroupBegin old q = refl
 quiet_plain p w a plain.Done old q = refl
 quiet_plain p w a plain.Ended old q = refl
 
@@ -423,6 +449,8 @@ few_look p a (look.LoadRow v n) bodies fits =
 few_look p a (look.LoadSlot v n row) bodies fits = few_looks p a v n 1 bodies fits.0.0 fits.0.1 (omega arith)
 few_look p a (look.LoadGenerating v n row code) bodies fits =
     few_looks p a v n 2 bodies fits.0.0.0 fits.0.0.1 (omega arith)
+few_look p a (look.LoadGroup n row code) bodies fits =
+    few_looks p a wait.Taskgroup n 2 bodies fits.0.0.0 fits.0.0.1 (omega arith)
 few_look p a (look.Take v n row code) bodies fits =
     few_looks p a v n 3 bodies fits.0.0.0 fits.0.0.1 (omega arith)
 few_look p a (look.LoadFunction v n code t) bodies fits =
@@ -435,6 +463,8 @@ few_look p a (look.Fill v n code t f final word) bodies fits =
 few_look p a (look.Start v n code t f final) bodies fits =
     few_looks p a v n 11 bodies fits.0.0.0 fits.0.0.1 (omega arith)
 few_look p a look.LoadChildren bodies fits = omega arith
+few_look p a look.LoadCount bodies fits = omega arith
+few_look p a look.GroupEnd bodies fits = omega arith
 few_look p a (look.Yield n) bodies fits = omega arith
 
 few_team : (p : Program) (a : Actor) (c : TeamCounter) → FitsTeam p a c

@@ -9,13 +9,13 @@ use Rattle.omi_model.specs.declared.id.Id.{Id}
 use Rattle.omi_model.specs.State.{State}
 use Rattle.omi_layout.specs.declared.field.Field.{Field}
 use Rattle.omi_layout.specs.declared.field.Field.TheVariants.{RegionArrived, RegionLeft, RegionLife, RegionPending, RegionReleased, RegionTeam, RuntimeLocks, RuntimeMaxActive, TaskChildren, TaskDevice, TaskDynamic, TaskEnter, TaskLife, TaskNthreads, TaskReferences, TaskSchedule, TaskSlots, TaskTool, ThreadAssign, ThreadClaim, ThreadCurrent, ThreadLife, ThreadState}
-use Rattle.omi_layout.specs.declared.limits.TheConstants.{FIELDS}
+use Rattle.omi_layout.specs.declared.limits.TheConstants.{FIELDS, OPEN_PLACE}
 use Rattle.omi_layout.specs.Field.{kind_of, regions, runtime, tasks, threads}
 use Rattle.omi_layout.specs.Memory.{Memory, word_address}
 use Rattle.omi_layout.specs.Named.{number}
 use Rattle.omi_layout.specs.Place.{IsSlot}
 use Rattle.omi_layout.proofs.Numbers.{numbered_field}
-use Rattle.omi_layout.proofs.SlotWords.{slot_within}
+use Rattle.omi_layout.proofs.SlotWords.{slot_within, group_word_within}
 use Rattle.omi_layout.proofs.Stored.{address_placed}
 use Rattle.omi_numbers.specs.declared.limits.TheConstants.{OWN_SLOTS}
 use Rattle.omi_numbers.specs.declared.variables.TheConstants.{DEFAULT_DEVICE_VAR, DYN_VAR, MAX_ACTIVE_LEVELS_VAR, NTHREADS_VAR, RUN_SCHED_VAR}
@@ -44,7 +44,7 @@ use Rattle.omi_step_words.specs.declared.plan.Planned.{Planned}
 use Rattle.omi_step_words.specs.Members.{member_of}
 use Rattle.omi_step_words.specs.Placed.{IsPlacedCounter}
 use Rattle.omi_step_words.specs.Plan.{filling, region_plan, task_plan}
-use Rattle.omi_step_words.specs.Words.{of_runtime, of_task, of_thread, unused_word}
+use Rattle.omi_step_words.specs.Words.{of_runtime, of_task, of_thread, unused_word, of_groups}
 use Rattle.omi_fork.specs.BarrierSteps.{barrier_next}
 use Rattle.omi_fork.specs.JoinSteps.{join_next}
 use Rattle.omi_fork.specs.TeamParts.{new_member, planned_region}
@@ -66,6 +66,7 @@ use Rattle.omi_rule.proofs.task.Within as making
 use Rattle.omi_rule.proofs.team.Plans.{IsPlannedWord, planned_there, region_planned, task_planned}
 use Rattle.omi_rule_watch.specs.Given.{IsSearchGiven}
 use Rattle.omi_rule_watch.specs.Watch.{Search}
+use Rattle.omi_rule_watch.proofs.GroupCounts.{count_lowered, count_raised, count_word}
 use Rattle.omi_rule_watch.proofs.Standing.{own, record_word, thread_word, word_of}
 use Rattle.omi_rule_watch.proofs.Takes.{IsFound, frees_none, loads_none, misses, other_number, takes_region, takes_task}
 
@@ -249,14 +250,15 @@ module _ (p : Program) (w : List ℕ) (m : Memory) (events : List (ℕ × Event)
       → IsSearchGiven (actors i) (counter.Task c) h → Finds (making_next p w (actors i) c)
   making_finds (task.LoadSlot place) at given = loads _
   making_finds (task.LoadVariable place word) at given = loads _
+  making_finds (task.LoadGroup place) at given = loads _
   making_finds (task.LoadLife place slot) at given = loads _
   making_finds (task.Take place t) at given = λ x on.
       takes_task w before.valid i _ t.0 ((fits_at (counter.Task (task.Take place t)) at).1 ∙ mine) (found_in m x) h x on
       (on_record _ tasks t.0.creator t.0.slot TaskLife refl (placed_at (counter.Task (task.Take place t)) at) refl)
       given.task
   making_finds (task.Fill place t word) at given =
-      at_task_plan t.0 (task_plan w (new_task p a) word) (placed_at (counter.Task (task.Fill place t word)) at).0
-      (task_planned w (new_task p a) word before.suits.groups (fits_at (counter.Task (task.Fill place t word)) at).1)
+      at_task_plan t.0 (task_plan w (new_task p w a) word) (placed_at (counter.Task (task.Fill place t word)) at)
+      (task_planned w (new_task p w a) word before.suits.groups (fits_at (counter.Task (task.Fill place t word)) at).1)
   making_finds (task.AddPending place t) at given =
       at_record _ regions a.context.region.0.creator a.context.region.0.slot RegionPending refl
       (making.context_placed p w m events s actors i before (task.AddPending place t) at).region refl refl refl
@@ -266,6 +268,9 @@ module _ (p : Program) (w : List ℕ) (m : Memory) (events : List (ℕ × Event)
   making_finds (task.AddReferences place t) at given =
       at_record _ tasks a.context.task.0.creator a.context.task.0.slot TaskReferences refl
       (making.context_placed p w m events s actors i before (task.AddReferences place t) at).task refl refl refl
+  making_finds (task.AddCount place t) at given =
+      let (g, there) = count_raised p w m events s actors i before place t at in
+      at_word _ (count_word g) there refl refl
   making_finds (task.Defer place t) at given =
       at_word _ (record { creator = a.context.row.0.creator; slot = a.context.row.0.slot; field = TaskSlots; place = place })
       (record {
@@ -278,11 +283,22 @@ module _ (p : Program) (w : List ℕ) (m : Memory) (events : List (ℕ × Event)
       }) refl refl
   making_finds (task.StartNow t) at given = at_thread _ ThreadCurrent refl refl refl refl
 
+  -- the word for the open groups of the current task
+  on_open_groups : (o : Op) → IsSlot w tasks a.context.task.0.creator a.context.task.0.slot
+      → address_of o ≡ of_groups w a.context.task OPEN_PLACE → Finds o
+  on_open_groups o there is =
+      at_word o (record { creator = a.context.task.0.creator; slot = a.context.task.0.slot; field = TaskSlots; place = OPEN_PLACE })
+      (record {
+        there = record { field = numbered_field TaskSlots; record_slot = there; within = group_word_within w OPEN_PLACE before.suits.groups (omega arith) };
+        address = is;
+      }) refl refl
+
   look_finds : (c : LookCounter) → (actors i).counter ≡ counter.Look c → Finds (look_next w (actors i) c)
   look_finds (look.State v) at = at_thread _ ThreadState refl refl refl refl
   look_finds (look.LoadRow v n) at = loads _
   look_finds (look.LoadSlot v n row) at = loads _
   look_finds (look.LoadGenerating v n row code) at = loads _
+  look_finds (look.LoadGroup n row code) at = loads _
   look_finds (look.Take v n row code) at =
       at_word _ (record { creator = row.creator; slot = row.slot; field = TaskSlots; place = n % OWN_SLOTS })
       (record {
@@ -296,6 +312,9 @@ module _ (p : Program) (w : List ℕ) (m : Memory) (events : List (ℕ × Event)
       (start_planned w a word (fits_at (counter.Look (look.Fill v n code t f final word)) at).1)
   look_finds (look.Start v n code t f final) at = at_thread _ ThreadCurrent refl refl refl refl
   look_finds look.LoadChildren at = loads _
+  look_finds look.LoadCount at = loads _
+  look_finds look.GroupEnd at =
+      on_open_groups _ (context_placed p w m events s actors i before (counter.Look look.GroupEnd) at tt).task refl
   look_finds (look.Yield n) at = loads _
 
   finish_finds : (c : FinishCounter) → (actors i).counter ≡ counter.Finish c → Finds (finish_next w (actors i) c)
@@ -304,6 +323,10 @@ module _ (p : Program) (w : List ℕ) (m : Memory) (events : List (ℕ × Event)
   finish_finds (finish.SubtractChildren v t generating) at =
       at_record _ tasks generating.creator generating.slot TaskChildren refl
       (placed_at (counter.Finish (finish.SubtractChildren v t generating)) at).1 refl refl refl
+  finish_finds (finish.LoadGroup v t generating) at = loads _
+  finish_finds (finish.SubtractCount v t generating group) at =
+      let (g, there) = count_lowered p w m events s actors i before v t generating group at in
+      at_word _ (count_word g) there refl refl
   finish_finds (finish.SubtractReferences v t generating) at =
       at_record _ tasks t.0.creator t.0.slot TaskReferences refl
       (placed_at (counter.Finish (finish.SubtractReferences v t generating)) at).0 refl refl refl
@@ -372,6 +395,8 @@ module _ (p : Program) (w : List ℕ) (m : Memory) (events : List (ℕ × Event)
   plain_finds plain.LockState at = at_thread _ ThreadState refl refl refl refl
   plain_finds plain.Lock at = at_lock plain.Lock at (fits_at (counter.Plain plain.Lock) at) _ refl
   plain_finds plain.Unlock at = at_lock plain.Unlock at (fits_at (counter.Plain plain.Unlock) at) _ refl
+  plain_finds plain.GroupBegin at =
+      on_open_groups _ (task_on p w m events s actors i before plain.GroupBegin at TaskTool 0 refl).there.record_slot refl
   plain_finds plain.Done at = loads _
   plain_finds plain.Ended at = loads _
 

@@ -107,7 +107,7 @@ pub record MeetsSearch (w : List ℕ) (m : Memory) (s : State) (i : ℕ) (x : Re
 -- a thread waits where deferred tasks may start only when it has looked at all slots of its team
 abbrev pub MeetsLook : State → ℕ → RecordWord → Outcome → SlotLook → Type 0
 MeetsLook s i x (outcome.NotReady address word) h =
-    is_waiting x.field ≡ true → h.looked ≡ OWN_SLOTS * current_team_size s i
+    is_waiting x ≡ true → h.looked ≡ OWN_SLOTS * current_team_size s i
 MeetsLook s i x out h = Unit {0}
 
 -- ---- the whole

@@ -36,7 +36,7 @@ carried threads = threads + 6
 abbrev pub member_steps : ℕ
 member_steps = TASK_WORDS + 3
 
--- one slot is looked at in four steps at most: its row, its code, the task's generating task, and the exchange
+-- one slot is looked at in four steps at most: its row, its code, the task's generating task or group, and the exchange
 abbrev pub at_look : ℕ → ℕ → ℕ
 at_look threads n = carried threads + 4 * n
 
@@ -94,39 +94,46 @@ join_quiet (join.FreeRegion r size) = 0
 abbrev pub making_quiet : TaskCounter → ℕ
 making_quiet (task.LoadSlot place) = 0
 making_quiet (task.LoadVariable place word) = 1 + word
-making_quiet (task.LoadLife place slot) = 9
-making_quiet (task.Take place t) = 10
-making_quiet (task.Fill place t word) = 11 + word
-making_quiet (task.AddPending place t) = 11 + TASK_WORDS
-making_quiet (task.AddChildren place t) = 12 + TASK_WORDS
-making_quiet (task.AddReferences place t) = 13 + TASK_WORDS
-making_quiet c = 14 + TASK_WORDS
+making_quiet (task.LoadGroup place) = 9
+making_quiet (task.LoadLife place slot) = 10
+making_quiet (task.Take place t) = 11
+making_quiet (task.Fill place t word) = 12 + word
+making_quiet (task.AddPending place t) = 12 + TASK_WORDS
+making_quiet (task.AddChildren place t) = 13 + TASK_WORDS
+making_quiet (task.AddReferences place t) = 14 + TASK_WORDS
+making_quiet (task.AddCount place t) = 15 + TASK_WORDS
+making_quiet c = 16 + TASK_WORDS
 
 abbrev pub look_quiet : ℕ → LookCounter → ℕ
 look_quiet threads (look.State v) = carried threads
 look_quiet threads (look.LoadRow v n) = at_look threads n
 look_quiet threads (look.LoadSlot v n row) = at_look threads n + 1
 look_quiet threads (look.LoadGenerating v n row code) = at_look threads n + 2
+look_quiet threads (look.LoadGroup n row code) = at_look threads n + 2
 look_quiet threads (look.Take v n row code) = at_look threads n + 3
 look_quiet threads (look.LoadFunction v n code t) = at_look threads n + 4
 look_quiet threads (look.LoadFinal v n code t f) = at_look threads n + 5
 look_quiet threads (look.Fill v n code t f final word) = at_look threads n + 6 + word
 look_quiet threads (look.Start v n code t f final) = at_look threads n + 11
 look_quiet threads look.LoadChildren = behind_looks threads
+look_quiet threads look.LoadCount = behind_looks threads
+look_quiet threads look.GroupEnd = behind_looks threads + 1
 look_quiet threads (look.Yield n) = behind_looks threads
 
--- three quiet steps lead from the end of a task to the event that gives its record back, and four from there to that of a task above
+-- five quiet steps at most lead from the end of a task to the event that gives its record back, and four from there to that of a task above
 abbrev pub finish_quiet : ℕ → FinishCounter → ℕ
 finish_quiet threads finish.Finish = carried threads
 finish_quiet threads (finish.LoadGenerating v t) = 0
 finish_quiet threads (finish.SubtractChildren v t generating) = 1
-finish_quiet threads (finish.SubtractReferences v t generating) = 2
+finish_quiet threads (finish.LoadGroup v t generating) = 2
+finish_quiet threads (finish.SubtractCount v t generating group) = 3
+finish_quiet threads (finish.SubtractReferences v t generating) = 4
 finish_quiet threads (finish.LoadImplicit v generating) = 0
 finish_quiet threads (finish.LoadNext v generating) = 1
 finish_quiet threads (finish.LoadLife v generating next) = 2
 finish_quiet threads (finish.SubtractGenerating v generating explicit) = 3
-finish_quiet threads (finish.Free v t generating) = 4
-finish_quiet threads (finish.SubtractPending v) = 4
+finish_quiet threads (finish.Free v t generating) = 5
+finish_quiet threads (finish.SubtractPending v) = 5
 
 abbrev pub most_quiet : ℕ → Counter → ℕ
 most_quiet threads (counter.Worker c) = worker_quiet threads c
@@ -186,8 +193,10 @@ abbrev pub IsLookGivenBy : Actor → LookCounter → SlotLook → Type 0
 IsLookGivenBy a (look.LoadRow v n) h = Has h n None
 IsLookGivenBy a (look.LoadSlot v n row) h = Has h n None
 IsLookGivenBy a (look.LoadGenerating v n row code) h = Has h n (Some code)
+IsLookGivenBy a (look.LoadGroup n row code) h = Has h n (Some code)
 IsLookGivenBy a (look.Take v n row code) h = Has h n (Some code)
 IsLookGivenBy a look.LoadChildren h = HasAll a h
+IsLookGivenBy a look.LoadCount h = HasAll a h
 IsLookGivenBy a c h = Unit {0}
 
 -- member 0 finds a barrier released that it has released itself

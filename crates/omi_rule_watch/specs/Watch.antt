@@ -1,6 +1,6 @@
 -- The watch of a thread: what its own steps so far come to, by the operation, the word that it found and the outcome of each. A step of
 -- another thread leaves it as it is.
-use Rattle.std.specs.Prelude.{ℕ, ◌+◌, ◌/◌, ◌%◌, ◌==◌, ◌&&◌, ◌||◌, Bool, true, false, not, List, ◌∷◌, length, slice_get, Option, Some, None, if◌then◌else◌}
+use Rattle.std.specs.Prelude.{ℕ, ◌+◌, ◌/◌, ◌%◌, ◌==◌, ◌&&◌, ◌||◌, nat_le, Bool, true, false, not, List, ◌∷◌, length, slice_get, Option, Some, None, if◌then◌else◌}
 use Rattle.std.specs.Option.{option_and_then, option_map, option_map_or}
 use Rattle.omi_word.specs.declared.op.Op.{Op}
 use Rattle.omi_word.specs.declared.op.Op.TheVariants as op
@@ -10,7 +10,8 @@ use Rattle.omi_model.specs.declared.item.Item.{Item}
 use Rattle.omi_model.specs.declared.item.Item.TheVariants as item
 use Rattle.omi_model.specs.declared.region.Region.{Region}
 use Rattle.omi_model.specs.Changes.{list_of}
-use Rattle.omi_model.specs.State.{State, current_task, region_of}
+use Rattle.omi_model.specs.Groups.{innermost}
+use Rattle.omi_model.specs.State.{State, current_task, region_of, task_of}
 use Rattle.omi_layout.specs.declared.field.Field.{Field}
 use Rattle.omi_layout.specs.declared.field.Field.TheVariants.{RegionArrived, RegionLife, RegionPending, RegionReleased, TaskChildren, TaskGenerating, TaskLife, TaskSlots}
 use Rattle.omi_layout.specs.Field.{kind_of}
@@ -19,7 +20,8 @@ use Rattle.omi_layout.specs.Table.{per_thread}
 use Rattle.omi_numbers.specs.declared.limits.TheConstants.{OWN_SLOTS}
 use Rattle.omi_rep.specs.declared.outcome.Outcome.{Outcome}
 use Rattle.omi_rep.specs.declared.outcome.Outcome.TheVariants as outcome
-use Rattle.omi_rep.specs.Records.{task_word}
+use Rattle.omi_layout.specs.declared.limits.TheConstants.{COUNT_PLACE, GROUP_PLACE}
+use Rattle.omi_rep.specs.Records.{group_word, task_word}
 use Rattle.omi_step_words.specs.Words.{is_free, object_in, used_word}
 use Rattle.omi_task.specs.Slots.{coded_place}
 use Rattle.omi_rule.specs.Steps.{RecordWord}
@@ -125,12 +127,19 @@ search_after w i x o found out h =
 -- ---- the look
 
 -- the words on which a thread waits while deferred tasks may start
-abbrev pub is_waiting : Field → Bool
-is_waiting RegionReleased = true
-is_waiting RegionArrived = true
-is_waiting RegionPending = true
-is_waiting TaskChildren = true
-is_waiting f = false
+abbrev pub is_waiting_field : Field → Bool
+is_waiting_field RegionReleased = true
+is_waiting_field RegionArrived = true
+is_waiting_field RegionPending = true
+is_waiting_field TaskChildren = true
+is_waiting_field f = false
+
+-- and the count of a group, which stands behind the slots
+abbrev pub is_count : RecordWord → Bool
+is_count x = number x.field == number TaskSlots && nat_le COUNT_PLACE x.place
+
+abbrev pub is_waiting : RecordWord → Bool
+is_waiting x = is_waiting_field x.field || is_count x
 
 -- the region of the current task of a thread
 abbrev pub current_region : State → ℕ → Option Region
@@ -157,11 +166,28 @@ is_generating_of w code x =
     number x.field == number TaskGenerating
     && (x.creator == (coded_place w code).creator && x.slot == (coded_place w code).slot)
 
+-- this is the word for the group in the record that a code names
+abbrev pub is_group_of : List ℕ → ℕ → RecordWord → Bool
+is_group_of w code x =
+    (number x.field == number TaskSlots && x.place == GROUP_PLACE)
+    && (x.creator == (coded_place w code).creator && x.slot == (coded_place w code).slot)
+
 -- only children of the current task start here: at the end of taskwait, and at taskyield
 abbrev pub children_start : List Item → Bool
 children_start (item.Tasks state ∷ item.WaitDone ∷ xs) = true
 children_start (item.OneTask ∷ xs) = true
 children_start xs = false
+
+-- only tasks of the current task's innermost open group start here: at the end of its taskgroup region
+abbrev pub members_start : List Item → Bool
+members_start (item.Tasks state ∷ item.GroupEnd ∷ xs) = true
+members_start xs = false
+
+-- the word of this group
+abbrev pub group_to_end : List ℕ → State → ℕ → ℕ
+group_to_end w s i =
+    group_word w
+    (option_and_then (λ k. option_and_then (innermost k) (task_of s k)) (s.threads i).current)
 
 -- the task that was seen is no longer there
 abbrev pub is_gone : State → ℕ → RecordWord → Op → ℕ → ℕ → ℕ → Bool
@@ -173,6 +199,12 @@ is_no_child w s i x o found code =
     (is_load o && is_generating_of w code x)
     && (children_start (list_of s i) && not (found == task_word w (s.threads i).current))
 
+-- it is no task of that group, where only those start
+abbrev pub is_no_member : List ℕ → State → ℕ → RecordWord → Op → ℕ → ℕ → Bool
+is_no_member w s i x o found code =
+    (is_load o && is_group_of w code x)
+    && (members_start (list_of s i) && not (found == group_to_end w s i))
+
 -- A slot is passed where it is empty, or where the task that was seen in it is not to be had. A code that is seen stays so till then
 abbrev pub looked_at : List ℕ → State → ℕ → RecordWord → Op → ℕ → ℕ → Option ℕ → SlotLook
 looked_at w s i x o found n None =
@@ -181,7 +213,7 @@ looked_at w s i x o found n None =
     else record { looked = n; seen = Some found })
     else record { looked = n; seen = None }
 looked_at w s i x o found n (Some code) =
-    if is_gone s i x o found n code || is_no_child w s i x o found code
+    if is_gone s i x o found n code || (is_no_child w s i x o found code || is_no_member w s i x o found code)
     then record { looked = n + 1; seen = None }
     else record { looked = n; seen = Some code }
 
@@ -190,7 +222,7 @@ abbrev pub look_after : List ℕ → State → ℕ → RecordWord → Op → ℕ
 look_after w s i x o found outcome.Quiet h = looked_at w s i x o found h.looked h.seen
 look_after w s i x o found (outcome.Event e) h = no_look
 look_after w s i x o found (outcome.NotReady address word) h =
-    if is_waiting x.field then no_look else h
+    if is_waiting x then no_look else h
 look_after w s i x o found outcome.Ended h = h
 
 -- ---- the whole

@@ -1,5 +1,5 @@
 -- Slots whose objects go on as what they are: what is found, seen, counted and waited for in one state is so in the other.
-use Rattle.std.proofs.Common.{◌≡◌, ◌==◌, ◌+◌, ℕ, Bool, true, false, Option, Some, None, refl, sym, ap, subst, ◌∙◌, arith, if◌then◌else◌}
+use Rattle.std.proofs.Common.{◌≡◌, ◌==◌, ◌+◌, ℕ, Bool, true, false, Option, Some, None, refl, sym, ap, subst, ◌∙◌, arith, if◌then◌else◌, ap₂, ◌&&◌}
 use Rattle.std.specs.Prelude.{IsSome}
 use Rattle.std.specs.Option.{option_and_then, option_map}
 use Rattle.std.proofs.lemmas.List.Elements.{All-weaker}
@@ -13,16 +13,19 @@ use Rattle.omi_model.specs.declared.task.Task.{Task}
 use Rattle.omi_model.specs.Put.{Slots, changed, found, named, on}
 use Rattle.omi_model.specs.State.{State, region_of, task_of}
 use Rattle.omi_model.proofs.Slots.{each_slot}
+use Rattle.omi_model.specs.Groups.{group_within, innermost_or}
+use Rattle.omi_model.specs.declared.group.Group.{Group}
 use Rattle.omi_layout.specs.declared.field.Field.{Field}
 use Rattle.omi_layout.specs.Memory.{Rec}
 use Rattle.omi_layout.specs.Named.{number}
 use Rattle.omi_rule_words.specs.Owes.{Owed}
-use Rattle.omi_rule_words.specs.Counts.{generating_of, of_live}
+use Rattle.omi_rule_words.specs.Counts.{generating_of, of_live, one, is_unfinished}
 use Rattle.omi_rule_words.specs.Threads.{WaitsFor}
 use Rattle.omi_rule_words.specs.Objects.{IsDeferredIn, KeepsLife}
 use Rattle.omi_rule_words.specs.Words.{HasFinished, IsInTheMaking, KeepsMaking, OwesOnLive}
 use Rattle.omi_rule_words.specs.TaskKinds.{IsSameTask}
 use Rattle.omi_rule_words.proofs.OwedTasks.{TasksStay, owed_on_tasks, owes_tasks_alike}
+use Rattle.omi_rule_words.specs.Groups.{group_of, group_of_new, is_some_group}
 
 -- ---- slots
 
@@ -133,10 +136,38 @@ module _ {A : Type 0} (R : A → A → Type 0) where
 -- ---- tasks and regions
 
 pub same_task : (t : Task) → IsSameTask t t
-same_task t = record { implicit = refl; region = refl; thread = refl; generating = refl; progress = refl; place = refl }
+same_task t =
+    record { implicit = refl; region = refl; thread = refl; generating = refl; progress = refl; place = refl; group = refl; open_groups = refl }
 
-pub task_back : (t u : Task) → IsSameTask t u → IsSameTask u t
-task_back t u o = record { implicit = sym o.implicit; region = sym o.region; thread = sym o.thread; generating = sym o.generating; progress = sym o.progress; place = sym o.place }
+-- a task goes on as what it is, but for the number of its open groups
+pub record IsSameKind (t u : Task) : Type 0 where
+  pub implicit : u.implicit ≡ t.implicit
+  pub region : u.region ≡ t.region
+  pub thread : u.thread ≡ t.thread
+  pub generating : u.generating ≡ t.generating
+  pub progress : u.progress ≡ t.progress
+  pub place : u.place ≡ t.place
+  pub group : u.group ≡ t.group
+
+pub same_kind : (t : Task) → IsSameKind t t
+same_kind t =
+    record { implicit = refl; region = refl; thread = refl; generating = refl; progress = refl; place = refl; group = refl }
+
+pub kind_of : (t u : Task) → IsSameTask t u → IsSameKind t u
+kind_of t u o = record { implicit = o.implicit; region = o.region; thread = o.thread; generating = o.generating; progress = o.progress; place = o.place; group = o.group }
+
+pub task_back : (t u : Task) → IsSameKind t u → IsSameKind u t
+task_back t u o = record { implicit = sym o.implicit; region = sym o.region; thread = sym o.thread; generating = sym o.generating; progress = sym o.progress; place = sym o.place; group = sym o.group }
+
+pub kinds_of : (xs ys : Slots Task) → SlotsAlike IsSameTask xs ys → SlotsAlike IsSameKind xs ys
+kinds_of xs ys alike =
+    λ c k. record { generations = (alike c k).generations; live = go (xs c k).live (ys c k).live (alike c k).live }
+  where
+    go : (o p : Option Task) → LiveAlike IsSameTask o p → LiveAlike IsSameKind o p
+    go None None alike = tt
+    go None (Some y) alike = absurd alike
+    go (Some x) None alike = absurd alike
+    go (Some x) (Some y) alike = kind_of x y alike
 
 -- a region goes on as what it is
 pub record IsSameRegion (r q : Region) : Type 0 where
@@ -150,7 +181,7 @@ pub region_back : (r q : Region) → IsSameRegion r q → IsSameRegion q r
 region_back r q o = record { team = sym o.team; joined = sym o.joined }
 
 -- what is counted of a task
-pub parts_same : (f : Bool → Progress → Rid → Option Tid → ℕ) (t u : Task) → IsSameTask t u
+pub parts_same : (f : Bool → Progress → Rid → Option Tid → ℕ) (t u : Task) → IsSameKind t u
     → f u.implicit u.progress u.region u.generating ≡ f t.implicit t.progress t.region t.generating
 parts_same f t u o =
     ap (λ x. f x u.progress u.region u.generating) o.implicit
@@ -158,8 +189,15 @@ parts_same f t u o =
     ∙ (ap (λ x. f t.implicit t.progress x u.generating) o.region
     ∙ ap (λ x. f t.implicit t.progress t.region x) o.generating))
 
-pub live_counted : (f : Task → ℕ) → ((t u : Task) → IsSameTask t u → f u ≡ f t) → (o p : Option Task)
-    → LiveAlike IsSameTask o p → of_live f p ≡ of_live f o
+-- and of its group
+pub members_same : (g : Group) (t u : Task) → IsSameKind t u
+    → one (is_unfinished u && is_some_group g u.group) ≡ one (is_unfinished t && is_some_group g t.group)
+members_same g t u o =
+    ap (λ x. one (is_unfinished u && is_some_group g x)) o.group
+    ∙ parts_same (λ i p q h. one (is_unfinished (record t { implicit = i; progress = p }) && is_some_group g t.group)) t u o
+
+pub live_counted : (f : Task → ℕ) → ((t u : Task) → IsSameKind t u → f u ≡ f t) → (o p : Option Task)
+    → LiveAlike IsSameKind o p → of_live f p ≡ of_live f o
 live_counted f same None None alike = refl
 live_counted f same None (Some u) alike = absurd alike
 live_counted f same (Some t) None alike = absurd alike
@@ -168,24 +206,24 @@ live_counted f same (Some t) (Some u) alike = same t u alike
 -- ---- two states
 
 module _ (a b : State) (regions_alike : SlotsAlike IsSameRegion a.regions b.regions)
-    (tasks_alike : SlotsAlike IsSameTask a.tasks b.tasks) where
-  pub task_found : (k : Tid) → LiveAlike IsSameTask (task_of a k) (task_of b k)
-  task_found k = named_alike IsSameTask a.tasks b.tasks tasks_alike k.0
+    (tasks_alike : SlotsAlike IsSameKind a.tasks b.tasks) where
+  pub task_found : (k : Tid) → LiveAlike IsSameKind (task_of a k) (task_of b k)
+  task_found k = named_alike IsSameKind a.tasks b.tasks tasks_alike k.0
 
   pub region_found : (n : Rid) → LiveAlike IsSameRegion (region_of a n) (region_of b n)
   region_found n = named_alike IsSameRegion a.regions b.regions regions_alike n.0
 
   pub task_before : (k : Tid) (u : Task) → task_of b k ≡ Some u
-      → (t : Task) × (task_of a k ≡ Some t) × IsSameTask t u
-  task_before k u is = live_before IsSameTask (task_of a k) (task_of b k) u (task_found k) is
+      → (t : Task) × (task_of a k ≡ Some t) × IsSameKind t u
+  task_before k u is = live_before IsSameKind (task_of a k) (task_of b k) u (task_found k) is
 
   pub some_task : (k : Tid) → IsSome (task_of a k) → IsSome (task_of b k)
-  some_task k = some_after IsSameTask (task_of a k) (task_of b k) (task_found k)
+  some_task k = some_after IsSameKind (task_of a k) (task_of b k) (task_found k)
 
   pub generating_same : (k : Tid) → generating_of b k ≡ generating_of a k
   generating_same k = go (task_of a k) (task_of b k) (task_found k)
     where
-      go : (o p : Option Task) → LiveAlike IsSameTask o p
+      go : (o p : Option Task) → LiveAlike IsSameKind o p
           → option_and_then (λ (t : Task). t.generating) p ≡ option_and_then (λ (t : Task). t.generating) o
       go None None alike = refl
       go None (Some u) alike = absurd alike
@@ -193,15 +231,40 @@ module _ (a b : State) (regions_alike : SlotsAlike IsSameRegion a.regions b.regi
       go (Some t) (Some u) alike = alike.generating
 
 module _ (a b : State) (regions_alike : SlotsAlike IsSameRegion a.regions b.regions)
-    (tasks_alike : SlotsAlike IsSameTask a.tasks b.tasks) where
+    (tasks_alike : SlotsAlike IsSameKind a.tasks b.tasks) where
+  pub group_of_same : (k : Tid) → group_of b k ≡ group_of a k
+  group_of_same k = go (task_of a k) (task_of b k) (task_found a b regions_alike tasks_alike k)
+    where
+      go : (o p : Option Task) → LiveAlike IsSameKind o p
+          → option_and_then (λ (t : Task). t.group) p ≡ option_and_then (λ (t : Task). t.group) o
+      go None None alike = refl
+      go None (Some u) alike = absurd alike
+      go (Some t) None alike = absurd alike
+      go (Some t) (Some u) alike = alike.group
+
+-- and so are the groups of the tasks that it generates, where it has as many open
+pub group_of_new_same : (a b : State) → SlotsAlike IsSameTask a.tasks b.tasks → (k : Tid)
+    → group_of_new b k ≡ group_of_new a k
+group_of_new_same a b tasks_alike k =
+    go (task_of a k) (task_of b k) (named_alike IsSameTask a.tasks b.tasks tasks_alike k.0)
+  where
+    go : (o p : Option Task) → LiveAlike IsSameTask o p
+        → option_and_then (group_within k) p ≡ option_and_then (group_within k) o
+    go None None alike = refl
+    go None (Some u) alike = absurd alike
+    go (Some t) None alike = absurd alike
+    go (Some t) (Some u) alike = ap₂ (λ x n. innermost_or x k n) alike.group alike.open_groups
+
+module _ (a b : State) (regions_alike : SlotsAlike IsSameRegion a.regions b.regions)
+    (tasks_alike : SlotsAlike IsSameKind a.tasks b.tasks) where
   regions_back : SlotsAlike IsSameRegion b.regions a.regions
   regions_back = slots_back IsSameRegion region_back a.regions b.regions regions_alike
 
-  tasks_back : SlotsAlike IsSameTask b.tasks a.tasks
-  tasks_back = slots_back IsSameTask task_back a.tasks b.tasks tasks_alike
+  tasks_back : SlotsAlike IsSameKind b.tasks a.tasks
+  tasks_back = slots_back IsSameKind task_back a.tasks b.tasks tasks_alike
 
   pub task_after : (k : Tid) (t : Task) → task_of a k ≡ Some t
-      → (u : Task) × (task_of b k ≡ Some u) × IsSameTask t u
+      → (u : Task) × (task_of b k ≡ Some u) × IsSameKind t u
   task_after k t is =
       let (u, live, same) = task_before b a regions_back tasks_back k t is in (u, live, task_back u t same)
 
@@ -240,7 +303,7 @@ module _ (a b : State) (regions_alike : SlotsAlike IsSameRegion a.regions b.regi
   pub making_after : (i : ℕ) (o : Owed) → KeepsMaking a i o → KeepsMaking b i o
   making_after i o x = record {
     region = λ n is. in_making IsSameRegion i a.regions b.regions n.0 regions_back (x.region n is);
-    tasks = All-weaker (λ (k : Tid). IsInTheMaking i (a.tasks i) k.0) (λ (k : Tid). IsInTheMaking i (b.tasks i) k.0) (λ k. in_making IsSameTask i a.tasks b.tasks k.0 tasks_back) o.tasks x.tasks;
+    tasks = All-weaker (λ (k : Tid). IsInTheMaking i (a.tasks i) k.0) (λ (k : Tid). IsInTheMaking i (b.tasks i) k.0) (λ k. in_making IsSameKind i a.tasks b.tasks k.0 tasks_back) o.tasks x.tasks;
     apart = x.apart;
   }
 

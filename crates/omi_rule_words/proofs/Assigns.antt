@@ -21,8 +21,10 @@ use Rattle.omi_rule_words.specs.Objects.{KeepsDeferred, KeepsLife}
 use Rattle.omi_rule_words.specs.Words.{AreApart, IsInTheMaking, KeepsMade, KeepsRegionSlot, KeepsTaskSlot, KeepsWords}
 use Rattle.omi_rule_words.specs.Kinds.{AssignClearsKeep, AssignStoresKeep}
 use Rattle.omi_rule_words.proofs.StoredCodes.{assign_stored}
-use Rattle.omi_rule_words.proofs.OtherOwes.{OwesAlike, owes_alike, deferred_owed, objects_owed, region_owed, task_owed}
+use Rattle.omi_rule_words.proofs.OtherOwes.{OwesAlike, owes_alike, deferred_owed, objects_owed, region_owed, task_owed, alike_on_groups}
 use Rattle.omi_rule_words.proofs.Sums.{sum_changed, sum_same}
+use Rattle.omi_rule_words.specs.Groups.{KeepsGroups}
+use Rattle.omi_rule_words.proofs.GroupCounts.{groups_owed}
 
 -- What is kept but for assign words, where the assign word of one thread is stored, and threads owe other assign words or have met
 -- other tasks
@@ -69,6 +71,9 @@ module _ (w : List ℕ) (m : Memory) (s : State) (owes : ℕ → Owed) (i to wor
     runtime_record = subst (λ (r : Rec). KeepsRuntime w r s) (sym (stays 0 runtime 0 (λ kind. absurd (omega (arith, kind))))) keeps.runtime_record;
     made = made;
     deferred = subst (λ (r : ℕ → ℕ → Rec). KeepsDeferred w r s other) (sym same) (deferred_owed w s owes other alike (λ c. m c tasks) keeps.deferred);
+    groups =
+        subst (λ (r : ℕ → ℕ → Rec). KeepsGroups w r s other) (sym same)
+        (groups_owed w (λ c. m c tasks) s owes other (λ j. alike_on_groups (other j) (owes j) (alike j)) keeps.groups);
   }
     where
       same : ◌≡◌ {A = ℕ → ℕ → Rec} (λ c. after c tasks) (λ c. m c tasks)
@@ -138,7 +143,7 @@ assign_stores_keep =
         other = replace_at owes i p
 
         alike_own : OwesAlike p (owes i)
-        alike_own = record { pending = refl; raised = refl; lowered = refl; referred = refl; own = refl; returned = refl; gives = refl; left = refl; hand = refl }
+        alike_own = record { pending = refl; raised = refl; lowered = refl; referred = refl; own = refl; returned = refl; gives = refl; left = refl; hand = refl; counted = refl; uncounted = refl }
 
         met : (j : ℕ) → one (other j).met ≡ one (owes j).met
         met j = each_put (λ c (x : Owed). one x.met ≡ one (owes c).met) owes i p refl j (λ _. refl)
@@ -218,7 +223,7 @@ assign_clears_keep =
         other = replace_at owes i p
 
         alike_own : OwesAlike p (owes i)
-        alike_own = record { pending = refl; raised = refl; lowered = refl; referred = refl; own = refl; returned = refl; gives = refl; left = refl; hand = refl }
+        alike_own = record { pending = refl; raised = refl; lowered = refl; referred = refl; own = refl; returned = refl; gives = refl; left = refl; hand = refl; counted = refl; uncounted = refl }
 
         same_sum : (j : ℕ) (t : Tid)
             → sum_of_owed s other (assign_owed j t) ≡ sum_of_owed s owes (assign_owed j t)

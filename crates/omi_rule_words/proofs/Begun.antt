@@ -8,7 +8,8 @@ use Rattle.omi_model.specs.declared.slot.Slot.{Slot}
 use Rattle.omi_model.specs.declared.task.Task.{Task}
 use Rattle.omi_model.specs.Put.{found}
 use Rattle.omi_model.proofs.Slots.{some_same}
-use Rattle.omi_numbers.specs.declared.limits.TheConstants.{OWN_SLOTS}
+use Rattle.omi_numbers.specs.declared.limits.TheConstants.{OPEN_GROUPS, OWN_SLOTS}
+use Rattle.omi_layout.specs.declared.limits.TheConstants.{COUNT_PLACE}
 use Rattle.omi_layout.specs.declared.field.Field.{Field}
 use Rattle.omi_layout.specs.declared.field.Field.TheVariants.{TaskChildren, TaskSlots, TaskReferences}
 use Rattle.omi_layout.specs.Memory.{Rec}
@@ -96,6 +97,7 @@ pub record NewTask (w : List ℕ) (r : Rec) (taken : Bool) (Kind : Task → Type
   pub children : Has r TaskChildren 0 0
   pub references : Has r TaskReferences 0 (own_reference t)
   pub slots : t.implicit ≡ true → (place : ℕ) → place < OWN_SLOTS → Has r TaskSlots place 0
+  pub groups : (index : ℕ) → index < OPEN_GROUPS → Has r TaskSlots (COUNT_PLACE + index) 0
   pub kind : Kind t
 
 pub one_none : (b c : Bool) → c ≡ false → one (b && c) ≡ 0

@@ -38,10 +38,12 @@ use Rattle.omi_rule_words.proofs.SlotStores.{slot_stored}
 use Rattle.omi_rule_words.proofs.Starts.{other_name}
 use Rattle.omi_rule_words.proofs.StoredCodes.{environment_placed}
 use Rattle.omi_rule_words.proofs.Sums.{slots_none_within, sum_none_within}
+use Rattle.omi_rule_words.specs.Groups.{AreOwnersLive}
 
 module _ (w : List ℕ) (m : Memory) (s : State) (owes : ℕ → Owed) (i : ℕ) (task : Tid) (new : Task) (k : Tid)
     (t : Task) (hand : Option Tid)
-    (keeps : KeepsWords w m s owes) (names : AreNamesLive s) (known : i < s.count)
+    (keeps : KeepsWords w m s owes) (names : AreNamesLive s) (owners : AreOwnersLive s)
+    (known : i < s.count)
     (owes_new : OwesNew w s owes i task k t) (is_made : IsMade k t new)
     (filled : IsFilledAs w (m i tasks task.0.slot) new)
     (within : IsWithin w s) (v : IsValid w) where
@@ -58,7 +60,7 @@ module _ (w : List ℕ) (m : Memory) (s : State) (owes : ℕ → Owed) (i : ℕ)
   unnamed : (u : Task) → task_of s task ≡ Some u → ⊥
   unnamed u live =
       none_found task.0.generation (s.tasks task.0.creator task.0.slot)
-      (empty w m s owes i task new k t hand keeps names known owes_new is_made filled)
+      (empty w m s owes i task new k t hand keeps names owners known owes_new is_made filled)
       (some_found (task_of s task) u live)
 
   -- so it is in no hand, and its code is in no slot
@@ -112,7 +114,7 @@ module _ (w : List ℕ) (m : Memory) (s : State) (owes : ℕ → Owed) (i : ℕ)
 
   slots_same : (code : ℕ) → slots_with w (λ c. m c tasks) after code ≡ slots_with w (λ c. m c tasks) s code
   slots_same code =
-      let more = made_counted w m s owes i task new k t hand keeps names known owes_new is_made filled held in
+      let more = made_counted w m s owes i task new k t hand keeps names owners known owes_new is_made filled held in
       let none : held task.0.creator task.0.slot new ≡ 0 =
       ap
       (λ b. if b then sum_below OWN_SLOTS (λ place. one (m task.0.creator tasks task.0.slot (number TaskSlots) place == code)) else 0) is_made.explicit in
@@ -126,14 +128,14 @@ module _ (w : List ℕ) (m : Memory) (s : State) (owes : ℕ → Owed) (i : ℕ)
   made_in_hand : ((q : Tid) → hand ≡ Some q → (q ≡ task) × (new.progress ≡ progress.Deferred))
       → (new.progress ≡ progress.Deferred → hand ≡ Some task) → KeepsWords w m after other
   made_in_hand held in_hand =
-      made_kept w m s owes i task new k t hand keeps names known owes_new is_made filled (record {
-        once = λ q u is deferred. once q u deferred (new_or_old w m s owes i task new k t hand keeps names known owes_new is_made filled q u is);
+      made_kept w m s owes i task new k t hand keeps names owners known owes_new is_made filled (record {
+        once = λ q u is deferred. once q u deferred (new_or_old w m s owes i task new k t hand keeps names owners known owes_new is_made filled q u is);
         hands = λ j q below.
             each_put
             (λ c (o : Owed). c < s.count → o.hand ≡ Some q → (u : Task) × (task_of after q ≡ Some u) × (u.progress ≡ progress.Deferred)) owes i given
             (λ _ is. let (name, deferred) = held q is in (new, subst (λ (x : Tid). task_of after x ≡ Some new) (sym name) (made_same s.tasks task.0 new), deferred))
             j (λ _ there is. let (u, live, deferred) = keeps.deferred.hands j q there is in
-            (u, made_stays s.tasks task.0 new q.0 u (empty w m s owes i task new k t hand keeps names known owes_new is_made filled) live, deferred)) below;
+            (u, made_stays s.tasks task.0 new q.0 u (empty w m s owes i task new k t hand keeps names owners known owes_new is_made filled) live, deferred)) below;
       })
     where
       once : (q : Tid) (u : Task) → u.progress ≡ progress.Deferred
@@ -170,24 +172,25 @@ module _ (w : List ℕ) (m : Memory) (s : State) (owes : ℕ → Owed) (i : ℕ)
 -- a new task starts at once
 pub starts_now_keep : StartsNowKeep
 starts_now_keep =
-    λ p w m s owes i task f final k t keeps within names v known owes_new filled place. starts p w m s owes i task f final k t keeps within names v known owes_new filled place
+    λ p w m s owes i task f final k t keeps within names owners v known owes_new filled place. starts p w m s owes i task f final k t keeps within names owners v known owes_new filled place
   where
     starts : (p : Program) (w : List ℕ) (m : Memory) (s : State) (owes : ℕ → Owed) (i : ℕ) (task : Tid) (f : ℕ) (final : Bool) (k : Tid) (t : Task)
-        → KeepsWords w m s owes → IsWithin w s → AreNamesLive s → IsValid w
+        → KeepsWords w m s owes → IsWithin w s → AreNamesLive s → AreOwnersLive s → IsValid w
         → i < s.count → OwesNew w s owes i task k t → IsFilledFor w (m i tasks task.0.slot)
         (deferred_task p k t f final 0) → KeepsPlace w (m i tasks task.0.slot) (scheduled i k t (deferred_task p k t f final 0))
         → KeepsWords w (with_word m i threads 0 (number ThreadCurrent) 0 (task_address w task))
         (started_now p s i task f final k t) (replace_at owes i nothing)
-    starts p w m s owes i task f final k t keeps within names v known owes_new filled place =
+    starts p w m s owes i task f final k t keeps within names owners v known owes_new filled place =
         current_stored w m (record s { tasks = made s.tasks task.0 new }) (replace_at owes i nothing) i
         (Some task)
-        (made_in_hand w m s owes i task new k t None keeps names known owes_new
-        (record { explicit = refl; region = refl; generating = refl; goes = refl; unmet = λ is. absurd (cc) })
+        (made_in_hand w m s owes i task new k t None keeps names owners known owes_new
+        (record { explicit = refl; region = refl; generating = refl; goes = refl; unmet = λ is. absurd (cc); group = refl })
         (record {
           environment = environment_placed w (m i tasks task.0.slot) (deferred_task p k t f final 0) i t.number (Some k) (exit_below t.exit) 0 filled.environment;
           place = λ _. place;
           children = filled.children;
           references = filled.references;
+          groups = filled.groups;
         })
         within v (λ q is. absurd (cc)) (λ is. absurd (cc)))
         known
@@ -196,7 +199,7 @@ starts_now_keep =
         new = scheduled i k t (deferred_task p k t f final 0)
 
 -- what is stored twice is what was stored last
-put_twice : {A : Type 0} (f : ℕ → A) (i : ℕ) (x y : A)
+pub put_twice : {A : Type 0} (f : ℕ → A) (i : ℕ) (x y : A)
     → ◌≡◌ {A = ℕ → A} (replace_at (replace_at f i x) i y) (replace_at f i y)
 put_twice {A} f i x y = fun_ext (λ j. go j (j == i))
   where
@@ -208,7 +211,7 @@ put_twice {A} f i x y = fun_ext (λ j. go j (j == i))
 module _ (p : Program) (w : List ℕ) (m : Memory) (s : State) (owes : ℕ → Owed) (i : ℕ) (task : Tid) (f : ℕ)
     (final : Bool) (place : ℕ) (k : Tid) (t : Task) (row : Tid) (keeps : KeepsWords w m s owes)
     (within : IsWithin w s)
-    (names : AreNamesLive s) (v : IsValid w) (known : i < s.count) (owes_new : OwesNew w s owes i task k t)
+    (names : AreNamesLive s) (owners : AreOwnersLive s) (v : IsValid w) (known : i < s.count) (owes_new : OwesNew w s owes i task k t)
     (is_row : IsRow s i row t) (inside : place < OWN_SLOTS) (free : slot_of m row place ≡ 0)
     (filled : IsFilledFor w (m i tasks task.0.slot) (deferred_task p k t f final place)) where
   abbrev new : Task
@@ -221,26 +224,26 @@ module _ (p : Program) (w : List ℕ) (m : Memory) (s : State) (owes : ℕ → O
   in_hand = record nothing { hand = Some task }
 
   made_as : IsMade k t new
-  made_as = record { explicit = refl; region = refl; generating = refl; goes = refl; unmet = λ is. absurd (cc) }
+  made_as = record { explicit = refl; region = refl; generating = refl; goes = refl; unmet = λ is. absurd (cc); group = refl }
 
   filled_as : IsFilledAs w (m i tasks task.0.slot) new
-  filled_as = record { environment = filled.environment; place = λ undeferred. absurd (undeferred refl refl); children = filled.children; references = filled.references }
+  filled_as = record { environment = filled.environment; place = λ undeferred. absurd (undeferred refl refl); children = filled.children; references = filled.references; groups = filled.groups }
 
   in_the_hand : KeepsWords w m now (replace_at owes i in_hand)
   in_the_hand =
-      made_in_hand w m s owes i task new k t (Some task) keeps names known owes_new made_as filled_as within v
+      made_in_hand w m s owes i task new k t (Some task) keeps names owners known owes_new made_as filled_as within v
       (λ q is. (let same : task ≡ q = cc in sym same, refl)) (λ _. refl)
 
   -- what lives after it
   still : (q : Tid) (u : Task) → task_of s q ≡ Some u → task_of now q ≡ Some u
   still q u is =
       made_stays s.tasks task.0 new q.0 u
-      (empty w m s owes i task new k t (Some task) keeps names known owes_new made_as filled_as) is
+      (empty w m s owes i task new k t (Some task) keeps names owners known owes_new made_as filled_as) is
 
   recorded : (q : Tid) (u : Task) → task_of now q ≡ Some u → IsSlot w tasks q.0.creator q.0.slot
   recorded q u is =
       go
-      (new_or_old w m s owes i task new k t (Some task) keeps names known owes_new made_as filled_as q u is)
+      (new_or_old w m s owes i task new k t (Some task) keeps names owners known owes_new made_as filled_as q u is)
     where
       go : (record { name : q ≡ task; same : u ≡ new }) ⊎ (task_of s q ≡ Some u)
           → IsSlot w tasks q.0.creator q.0.slot
@@ -257,7 +260,7 @@ module _ (p : Program) (w : List ℕ) (m : Memory) (s : State) (owes : ℕ → O
     progress = refl;
     region = sym is_row.region;
     place_is = refl;
-    maker = maker_is w m s owes i task new k t (Some task) keeps names known owes_new made_as filled_as ∙ sym is_row.thread;
+    maker = maker_is w m s owes i task new k t (Some task) keeps names owners known owes_new made_as filled_as ∙ sym is_row.thread;
   }
 
   held_now : replace_at owes i in_hand i ≡ in_hand
@@ -284,5 +287,5 @@ module _ (p : Program) (w : List ℕ) (m : Memory) (s : State) (owes : ℕ → O
 
 pub defers_keep : DefersKeep
 defers_keep =
-    λ p w m s owes i task f final place k t row keeps within names v known owes_new is_row inside free filled.
-    task_defers p w m s owes i task f final place k t row keeps within names v known owes_new is_row inside free filled
+    λ p w m s owes i task f final place k t row keeps within names owners v known owes_new is_row inside free filled.
+    task_defers p w m s owes i task f final place k t row keeps within names owners v known owes_new is_row inside free filled

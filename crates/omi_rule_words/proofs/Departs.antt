@@ -41,7 +41,7 @@ module _ (w : List ℕ) (m : Memory) (s : State) (owes : ℕ → Owed) (i : ℕ)
   alike j = each_put (λ c (x : Owed). OwesSame x (owes c)) owes i given own j (λ _. owes_same (owes j))
     where
       own : OwesSame given (owes i)
-      own = record { region = refl; tasks = refl; pending = refl; raised = refl; lowered = refl; referred = refl; own = refl; returned = refl; gives = refl; hand = refl }
+      own = record { region = refl; tasks = refl; pending = refl; raised = refl; lowered = refl; referred = refl; own = refl; returned = refl; gives = refl; hand = refl; counted = refl; uncounted = refl }
 
   same_assigns : (j : ℕ) → (other j).assigns ≡ (owes j).assigns
   same_assigns j = each_put (λ c (x : Owed). x.assigns ≡ (owes c).assigns) owes i given refl j (λ _. refl)

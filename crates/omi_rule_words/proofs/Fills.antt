@@ -1,11 +1,12 @@
 -- Private stores into a record in the making.
-use Rattle.std.proofs.Common.{◌≡◌, ◌≢◌, ◌==◌, ◌&&◌, ℕ, Bool, true, false, List, None, refl, sym, ap, subst, ◌∙◌, arith, if◌then◌else◌}
+use Rattle.std.proofs.Common.{◌≡◌, ◌≢◌, ◌==◌, ◌&&◌, ℕ, Bool, true, false, List, None, refl, sym, ap, subst, ◌∙◌, arith, if◌then◌else◌, ◌+◌}
 use mathlib.Core.Path.{fun_ext}
 use Rattle.std.proofs.lemmas.Bool.Decides.{nat_tests}
 use Rattle.omi_rep.specs.Records.{slot_word}
 use Rattle.omi_model.specs.declared.slot.Slot.{Slot}
 use Rattle.omi_model.specs.declared.task.Task.{Task}
 use Rattle.omi_model.specs.State.{State}
+use Rattle.omi_model.proofs.Slots.{found_live}
 use Rattle.omi_numbers.specs.declared.limits.TheConstants.{OWN_SLOTS}
 use Rattle.omi_layout.specs.declared.field.Field.{Field}
 use Rattle.omi_layout.specs.declared.field.Field.TheVariants.{RegionLife, TaskLife, TaskSlots}
@@ -13,6 +14,7 @@ use Rattle.omi_layout.specs.Field.{runtime, threads, regions, tasks}
 use Rattle.omi_layout.specs.Memory.{Rec, Memory, with_word}
 use Rattle.omi_layout.specs.Named.{number}
 use Rattle.omi_layout.proofs.Puts.{record_stays, word_stays}
+use Rattle.omi_layout.specs.declared.limits.TheConstants.{COUNT_PLACE}
 use Rattle.omi_rule_words.specs.Owes.{Owed}
 use Rattle.omi_rule_words.specs.Counts.{of_live, one, sum_below, has_slot, has_region_slot}
 use Rattle.omi_rule_words.specs.Threads.{KeepsRuntime}
@@ -22,6 +24,8 @@ use Rattle.omi_rule_words.specs.Kinds.{RegionFillsKeep, TaskFillsKeep}
 use Rattle.omi_rule_words.proofs.MadeSlots.{made_kept}
 use Rattle.omi_rule_words.proofs.Alike
 use Rattle.omi_rule_words.proofs.Sums.{slots_same}
+use Rattle.omi_rule_words.specs.Groups.{KeepsGroups}
+use Rattle.omi_rule_words.proofs.GroupCounts.{groups_read}
 
 -- a life word that stays
 pub life_same : {A : Type 0} (r q : Rec) (life : Field) (slot : Slot A) (owed : Bool)
@@ -61,6 +65,21 @@ slots_stay w m s i slot f at word none code =
         ap (λ (r : Rec). of_live (in_record r) (s.tasks c k).live)
         (record_stays m i tasks slot f at word c tasks k (λ creator _ place. grind (arith, nat_tests)))
 
+-- and the counts of groups are as before
+pub groups_stay : (w : List ℕ) (m : Memory) (s : State) (owes : ℕ → Owed) (i slot f at word : ℕ)
+    → (s.tasks i slot).live ≡ None → KeepsGroups w (λ c. m c tasks) s owes
+    → KeepsGroups w (λ c. with_word m i tasks slot f at word c tasks) s owes
+groups_stay w m s owes i slot f at word none o =
+    groups_read w (λ c. m c tasks) (λ c. with_word m i tasks slot f at word c tasks) s owes
+    (λ k t index live few.
+    let there = found_live k.0.generation (s.tasks k.0.creator k.0.slot) t live in
+    ap (λ (r : Rec). r (number TaskSlots) (COUNT_PLACE + index))
+    (record_stays m i tasks slot f at word k.0.creator tasks k.0.slot
+    (λ creator _ place.
+    let empty : (s.tasks k.0.creator k.0.slot).live ≡ None =
+    subst (λ d. (s.tasks d k.0.slot).live ≡ None) (sym creator) (subst (λ q. (s.tasks i q).live ≡ None) (sym place) none) in
+    absurd (cc)))) o
+
 pub region_fills_keep : RegionFillsKeep
 region_fills_keep =
     λ w m s owes i slot f at word keeps none other. kept w m s owes i slot f at word keeps none other
@@ -69,6 +88,7 @@ region_fills_keep =
         → KeepsWords w m s owes → (s.regions i slot).live ≡ None
         → number f ≢ number RegionLife → KeepsWords w (with_word m i regions slot (number f) at word) s owes
     kept w m s owes i slot f at word keeps none other = record {
+      groups = subst (λ (r : ℕ → ℕ → Rec). KeepsGroups w r s owes) (sym tasks_same) keeps.groups;
       runtime_record = subst (λ (r : Rec). KeepsRuntime w r s) (sym (stays 0 runtime 0 (λ kind. absurd (omega (arith, kind))))) keeps.runtime_record;
       made = λ j known.
           let o = keeps.made j known in
@@ -127,6 +147,7 @@ task_fills_keep =
             omega (arith, was, same);
         hands = keeps.deferred.hands;
       };
+      groups = groups_stay w m s owes i slot (number f) at word none keeps.groups;
     }
       where
         n : Memory

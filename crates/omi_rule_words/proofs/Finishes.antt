@@ -33,6 +33,7 @@ use Rattle.omi_rule_words.proofs.OtherCounts.{is_own_id, owed_put}
 use Rattle.omi_rule_words.proofs.Starts.{other_name}
 use Rattle.omi_rule_words.proofs.TaskMoves.{GoesTo, TeamsAlike, generating_same, some_after, task_moved, tasks_recounted}
 use Rattle.omi_rule_words.proofs.ListMoves.{freeing_keeps}
+use Rattle.omi_rule_words.specs.Groups.{count_owed, is_some_group}
 
 module _ (w : List ℕ) (m : Memory) (s : State) (owes : ℕ → Owed) (i : ℕ) (k : Tid) (t : Task) (h : Tid)
     (keeps : KeepsWords w m s owes) (within : IsWithin w s) (names : AreNamesLive s) (known : i < s.count)
@@ -44,7 +45,7 @@ module _ (w : List ℕ) (m : Memory) (s : State) (owes : ℕ → Owed) (i : ℕ)
   after = on_task s k g
 
   abbrev p : Owed
-  p = record nothing { pending = Some t.region; lowered = Some k; own = Some k }
+  p = record nothing { pending = Some t.region; lowered = Some k; uncounted = Some k; own = Some k }
 
   goes : GoesTo t (g t)
   goes = record {
@@ -52,6 +53,8 @@ module _ (w : List ℕ) (m : Memory) (s : State) (owes : ℕ → Owed) (i : ℕ)
     implicit = refl;
     region = refl;
     generating = refl;
+    group = refl;
+    open_groups = refl;
     unmet = λ is. let was = running.progress in absurd (cc);
     unfinished = λ is. let was = running.progress in absurd (cc);
     started = λ is. absurd (cc);
@@ -155,6 +158,20 @@ module _ (w : List ℕ) (m : Memory) (s : State) (owes : ℕ → Owed) (i : ℕ)
       (λ (o : Option Task). 0 + one (is_some_task q (option_and_then (λ (x : Task). x.generating) o))) running.live in
       omega (arith, change, was, none, owes_more, before, now))
       (λ c j _ _ row _ _ place _ d _. undeferred d.task d.live d.progress)
+      (λ x.
+      let change =
+      tasks_recounted w s k t g running.live goes maker slot_below
+      (λ _ _ y. one (is_unfinished y && is_some_group x y.group)) in
+      let was : one (is_unfinished t && is_some_group x t.group) ≡ one (is_some_group x t.group) =
+      ap (λ b. one (b && is_some_group x t.group)) was_unfinished in
+      let none = now_finished (is_some_group x t.group) in
+      let owes_more = owed_put s owes i p known (count_owed s x) in
+      let before : count_owed s x (owes i) ≡ 0 = ap (count_owed s x) owed in
+      let now : count_owed s x p ≡ 0 + one (is_some_group x t.group) =
+      ap (λ (o : Option Task). 0 + one (is_some_group x (option_and_then (λ (y : Task). y.group) o))) running.live in
+      omega (arith, change, was, none, owes_more, before, now))
+      (λ q none. absurd (cc))
+      (λ q is. is)
       (λ o. o.environment)
       (λ o. o.place (λ _ deferred. let begun = running.progress in absurd (cc)))
       objects refl

@@ -41,6 +41,7 @@ use Rattle.omi_rule_words.proofs.GrownMembers.{IsMember, members_grown, refers}
 use Rattle.omi_rule_words.proofs.MadeMembers.{IsBeside, IsMadeAt, all_at, apart_behind_first, behind_first, behind_second, each_task, has_member_slot, has_no_slot, made_at, none_in, once_in, one_member}
 use Rattle.omi_rule_words.proofs.OtherOwes.{OwesAlike, owes_alike}
 use Rattle.omi_rule_words.proofs.Sums.{sum_changed, sum_none_within}
+use Rattle.omi_rule_words.specs.Groups.{AreOwnersLive}
 
 -- no record of a task begins at address 0
 pub address_some : (w : List ℕ) → IsValid w → (k : Tid) → task_address w k ≢ 0
@@ -82,7 +83,8 @@ module _ (p : Program) (w : List ℕ) (m : Memory) (s : State) (owes : ℕ → O
     (keeps : KeepsWords w m s owes) (known : i < s.count)
     (owed : owes i ≡ record nothing { region = Some region; tasks = tasks_of team })
     (filled : ForkIsFilled p w (m i) region team f k t r)
-    (idle : All (λ x. HasNoTask s owes x.1) (drop 1 team)) (names : AreNamesLive s) (v : IsValid w) where
+    (idle : All (λ x. HasNoTask s owes x.1) (drop 1 team)) (names : AreNamesLive s)
+    (owners : AreOwnersLive s) (v : IsValid w) where
   abbrev new : ℕ → ℕ → Task
   new = member_task p region k t r f
 
@@ -107,7 +109,7 @@ module _ (p : Program) (w : List ℕ) (m : Memory) (s : State) (owes : ℕ → O
       (subst (λ (o : Owed). OwesAlike given o) (sym owed) own) j (λ _. owes_alike (owes j))
     where
       own : OwesAlike given (record nothing { region = Some region; tasks = tasks_of team })
-      own = record { pending = refl; raised = refl; lowered = refl; referred = refl; own = refl; returned = refl; gives = refl; left = refl; hand = refl }
+      own = record { pending = refl; raised = refl; lowered = refl; referred = refl; own = refl; returned = refl; gives = refl; left = refl; hand = refl; counted = refl; uncounted = refl }
 
   less : (j : ℕ) → OwesLess (other j) (owes j)
   less j = owes_less (other j) (owes j) (alike j)
@@ -187,6 +189,7 @@ module _ (p : Program) (w : List ℕ) (m : Memory) (s : State) (owes : ℕ → O
           children = (filled.members j x is).children;
           references = (filled.members j x is).references;
           slots = λ _. (filled.members j x is).slots;
+          groups = (filled.members j x is).groups;
           kind = record { implicit = refl; undeferred = going j };
         };
       })
@@ -297,7 +300,7 @@ module _ (p : Program) (w : List ℕ) (m : Memory) (s : State) (owes : ℕ → O
               go (inr y) = y.same
 
   abbrev still : (j : ℕ) (q : Tid) → WaitsFor s j q → WaitsFor after j q
-  still = waits_after w m s rs ts owes other IsMember refers keeps names less region_slots task_slots
+  still = waits_after w m s rs ts owes other IsMember refers keeps names owners less region_slots task_slots
 
   assigns : (j : ℕ) → j < s.count → All (λ q. WaitsFor after q.1 q.0) (other j).assigns
   assigns j within =
@@ -396,8 +399,8 @@ module _ (p : Program) (w : List ℕ) (m : Memory) (s : State) (owes : ℕ → O
   task_forks : KeepsWords w (with_word m i threads 0 (number ThreadCurrent) 0 (task_word w (master_of team))) (forked p s i region team f k t r) other
   task_forks =
       current_stored w m after other i (master_of team)
-      (members_grown w m s rs ts owes other keeps names alike region_slots task_slots making_kept assigns assigned) known
+      (members_grown w m s rs ts owes other keeps names owners alike region_slots task_slots making_kept assigns assigned) known
 
 pub forks_keep : ForksKeep
 forks_keep =
-    λ p w m s owes i region team f k t r keeps known owed filled idle names v. task_forks p w m s owes i region team f k t r keeps known owed filled idle names v
+    λ p w m s owes i region team f k t r keeps known owed filled idle names owners v. task_forks p w m s owes i region team f k t r keeps known owed filled idle names owners v

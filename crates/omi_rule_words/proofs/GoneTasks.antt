@@ -16,6 +16,8 @@ use Rattle.omi_model.specs.Freeing.{IsSpent}
 use Rattle.omi_model.specs.Put.{gone, named}
 use Rattle.omi_model.specs.State.{State, task_of}
 use Rattle.omi_model.proofs.Slots.{found_live, gone_apart, gone_generations, gone_other, gone_was, some_same}
+use Rattle.omi_model.specs.Groups.{group_within}
+use Rattle.omi_model.specs.declared.group.Group.{Group}
 use Rattle.omi_numbers.specs.declared.limits.TheConstants.{OWN_SLOTS}
 use Rattle.omi_layout.specs.declared.field.Field.TheVariants.{RegionLife, TaskLife, TaskSlots}
 use Rattle.omi_layout.specs.Field.{regions, runtime, tasks, threads}
@@ -23,6 +25,7 @@ use Rattle.omi_layout.specs.Memory.{Memory, Rec}
 use Rattle.omi_layout.specs.Named.{number}
 use Rattle.omi_layout.specs.Table.{per_thread}
 use Rattle.omi_layout.proofs.Puts.{record_stays, word_read, word_stays}
+use Rattle.omi_layout.specs.declared.limits.TheConstants.{COUNT_PLACE}
 use Rattle.omi_pc.specs.declared.place.Place.{Place}
 use Rattle.omi_rep.specs.Shows.{IsWithin}
 use Rattle.omi_rule_words.specs.Owes.{Owed}
@@ -40,6 +43,8 @@ use Rattle.omi_rule_words.proofs.OtherStates.{slots_as_before}
 use Rattle.omi_rule_words.proofs.OwedTasks.{OwesOnTasks, lowered_finished}
 use Rattle.omi_rule_words.proofs.PendingWords.{live_of}
 use Rattle.omi_rule_words.proofs.Sums.{sum_changed, sum_same, sum_same_within}
+use Rattle.omi_rule_words.proofs.GroupCounts.{count_alike, groups_counted, groups_read}
+use Rattle.omi_rule_words.specs.Groups.{KeepsGroups, count_owed, is_some_group}
 
 -- two threads owe the same, but on references of generating tasks and to give tasks back
 pub record OwesElse (p o : Owed) : Type 0 where
@@ -54,6 +59,8 @@ pub record OwesElse (p o : Owed) : Type 0 where
   pub assigns : p.assigns ≡ o.assigns
   pub met : p.met ≡ o.met
   pub hand : p.hand ≡ o.hand
+  pub counted : p.counted ≡ o.counted
+  pub uncounted : p.uncounted ≡ o.uncounted
 
 pub owes_else : (o : Owed) → OwesElse o o
 owes_else o =
@@ -69,6 +76,8 @@ owes_else o =
       assigns = refl;
       met = refl;
       hand = refl;
+      counted = refl;
+      uncounted = refl;
     }
 
 -- how often a word stands in the slots of a row
@@ -231,7 +240,36 @@ module _ (w : List ℕ) (m : Memory) (s : State) (owes other : ℕ → Owed) (ta
       → sum_of_owed s other f ≡ sum_of_owed s owes f
   owed_same f each = sum_same s.count (λ j. f (other j)) (λ j. f (owes j)) each
 
-  module _ (unlowered : (j : ℕ) → j < s.count → (owes j).lowered ≢ Some task) where
+  -- the same is found under another name
+  found_same : (q : Tid) → (q.0 ≡ task.0 → ⊥) → task_of after q ≡ task_of s q
+  found_same q ne = go (task_of s q) refl (task_of after q) refl
+    where
+      go : (o : Option Task) → task_of s q ≡ o → (p : Option Task) → task_of after q ≡ p → p ≡ o
+      go (Some x) is p at = sym at ∙ task_after q x ne is
+      go None is None at = refl
+      go None is (Some y) at = let was = (task_before q y at).0 in absurd (cc)
+
+  module _ (unlowered : (j : ℕ) → j < s.count → (owes j).lowered ≢ Some task)
+      (unraised : (j : ℕ) → j < s.count → (owes j).raised ≢ Some task)
+      (ungrouped : (j : ℕ) → j < s.count → (owes j).uncounted ≢ Some task) where
+    -- as much is owed on a group
+    groups_same : (g : Group)
+        → sum_of_owed after other (count_owed after g) ≡ sum_of_owed s owes (count_owed s g)
+    groups_same g =
+        sum_same_within s.count (λ j. count_owed after g (other j)) (λ j. count_owed s g (owes j))
+        (λ j known.
+        count_alike after g (other j) (owes j) (alike j).counted (alike j).uncounted
+        ∙ ap₂ (λ a b. one (is_some_group g a) + one (is_some_group g b))
+        (through (λ q. group_within q) (owes j).counted (λ is. unraised j known (keeps.groups.counted j task known is)))
+        (through (λ q t. t.group) (owes j).uncounted (ungrouped j known)))
+      where
+        through : (f : Tid → Task → Option Group) (x : Option Tid) → x ≢ Some task
+            → option_and_then (λ q. option_and_then (f q) (task_of after q)) x
+            ≡ option_and_then (λ q. option_and_then (f q) (task_of s q)) x
+        through f None ne = refl
+        through f (Some q) ne =
+            ap (option_and_then (f q)) (found_same q (λ same. ne (ap Some (named_as q task same))))
+
     -- a task that has finished, and whose generating task's word is to be lowered
     lowered_there : (j : ℕ) → j < s.count → (q : Tid) → (owes j).lowered ≡ Some q
         → HasFinished s q × (q.0 ≡ task.0 → ⊥)
@@ -492,7 +530,7 @@ module _ (w : List ℕ) (m : Memory) (s : State) (owes other : ℕ → Owed) (ta
             let (live, ne) = task_before q x is in
             let was = keeps.deferred.once q x live deferred in
             let words =
-            slots_as_before w m n after slots_stay (slot_word w q) in
+            slots_as_before w m n after (λ c j at _. slots_stay c j at) (slot_word w q) in
             let change = tasks_recounted (slots_of m (slot_word w q)) in
             let none = unslotted q x live deferred in
             let owed = owed_same (start_owed q) (λ j. ap (λ y. one (is_some_task q y)) (alike j).hand) in
@@ -502,14 +540,28 @@ module _ (w : List ℕ) (m : Memory) (s : State) (owes other : ℕ → Owed) (ta
             (x, task_after q x (other_progress q x live (λ over. absurd (cc))) live, deferred);
       }
 
-      pub task_gone : ((j : ℕ) → j < s.count → (owes j).raised ≢ Some task)
-          → ((j : ℕ) → j < s.count → OwesOnTasks after (other j)) → KeepsWords w n after other
-      task_gone unraised on_tasks = record {
+      groups_kept : KeepsGroups w (λ c. n c tasks) after other
+      groups_kept =
+          groups_read w (λ c. m c tasks) (λ c. n c tasks) after other
+          (λ k t index live few. slots_stay k.0.creator k.0.slot (COUNT_PLACE + index))
+          (groups_counted w (λ c. m c tasks) s after owes other refl
+          (λ q x is. (x, (task_before q x is).0))
+          (λ g.
+          let change = tasks_recounted (λ _ _ y. one (is_unfinished y && is_some_group g y.group)) in
+          let none = not_unfinished (is_some_group g old.group) in
+          let owed = groups_same g in
+          omega (arith, change, none, owed))
+          (λ j q known is. (alike j).raised ∙ keeps.groups.counted j q known (sym (alike j).counted ∙ is))
+          (λ j q known is. (alike j).own ∙ keeps.groups.uncounted j q known (sym (alike j).uncounted ∙ is)) keeps.groups)
+
+      pub task_gone : ((j : ℕ) → j < s.count → OwesOnTasks after (other j)) → KeepsWords w n after other
+      task_gone on_tasks = record {
         runtime_record =
             subst (λ (r : Rec). KeepsRuntime w r after)
             (sym (stays 0 runtime 0 (λ kind. absurd (omega (arith, kind))))) keeps.runtime_record;
         made = made;
         deferred = deferred_kept;
+        groups = groups_kept;
       }
         where
           made : (j : ℕ) → j < s.count → KeepsMade w after other j (n j)

@@ -1,6 +1,6 @@
 -- A state in which objects begin, whose records stand filled, and that counts as before with what threads owe: what is kept of words but for
 -- assign words, records in the making and hands. Nothing names new objects yet.
-use Rattle.std.proofs.Common.{◌≡◌, ◌==◌, ◌+◌, ◌&&◌, ◌<◌, ◌-◌, ℕ, Bool, true, false, inl, inr, List, Option, Some, None, refl, sym, ap, subst, ◌∙◌, arith, eq-eqb, if◌then◌else◌}
+use Rattle.std.proofs.Common.{◌≡◌, ◌==◌, ◌+◌, ◌&&◌, ◌<◌, ◌-◌, ℕ, Bool, true, false, inl, inr, List, Option, Some, None, refl, sym, ap, ap₂, subst, ◌∙◌, arith, zero, suc, eq-eqb, if◌then◌else◌}
 use Rattle.std.specs.Prelude.{◌⊎◌, All, IsSome}
 use Rattle.std.specs.Option.{option_and_then}
 use Rattle.std.proofs.lemmas.Bool.Decides.{nat_tests}
@@ -14,10 +14,13 @@ use Rattle.omi_model.specs.LawNames.{AreNamesLive}
 use Rattle.omi_model.specs.Put.{Slots}
 use Rattle.omi_model.specs.State.{State, region_of, task_of}
 use Rattle.omi_model.proofs.Slots.{some_same}
+use Rattle.omi_model.specs.declared.group.Group.{Group}
+use Rattle.omi_model.specs.Groups.{group_within, innermost_or}
 use Rattle.omi_layout.specs.declared.field.Field.TheVariants.{RegionLife, TaskLife, TaskSlots}
 use Rattle.omi_layout.specs.Field.{threads, regions, tasks}
 use Rattle.omi_layout.specs.Memory.{Rec, Memory}
 use Rattle.omi_layout.specs.Table.{per_thread}
+use Rattle.omi_layout.specs.declared.limits.TheConstants.{COUNT_PLACE}
 use Rattle.omi_pc.specs.declared.place.Place.{Place}
 use Rattle.omi_rule_words.specs.Owes.{Owed}
 use Rattle.omi_rule_words.specs.Counts.{children_owed, generating_of, has_region_slot, has_slot, is_region, is_some_region, is_some_task, is_task, is_unfinished, left_owed, of_live, one, pending_owed, sum_below, sum_of_owed, sum_of_slots, unfinished_children, unfinished_in, is_explicit, live_children, references_owed, gives_owed, is_at, is_at_some}
@@ -29,6 +32,9 @@ use Rattle.omi_rule_words.proofs.Begun.{Grows, IsNew, NewRegion, NewTask, begun_
 use Rattle.omi_rule_words.proofs.OtherOwes.{OwesAlike, alike_on_tasks}
 use Rattle.omi_rule_words.proofs.OwedTasks.{OwesOnTasks, OwesTasksAlike, lowered_finished, owed_on_tasks, referred_to}
 use Rattle.omi_rule_words.proofs.Sums.{slots_none_within, sum_none_within, sum_same, sum_same_within}
+use Rattle.omi_rule_words.specs.Groups.{AreOwnersLive, KeepsGroups, count_owed, group_at, group_of, group_of_new, is_some_group, unfinished_members}
+use Rattle.omi_rule_words.proofs.PendingWords.{live_of}
+use Rattle.omi_numbers.specs.declared.limits.TheConstants.{OPEN_GROUPS}
 
 -- a thread owes nothing on a task's references, and to give none back
 pub record OwesNoTask (p : Owed) : Type 0 where
@@ -46,6 +52,8 @@ pub record OwesLess (p o : Owed) : Type 0 where
   pub own : p.own ≡ o.own
   pub gives : p.gives ≡ o.gives
   pub left : p.left ≡ o.left
+  pub counted : (k : Tid) → p.counted ≡ Some k → (o.counted ≡ Some k) × (p.raised ≡ o.raised)
+  pub uncounted : p.uncounted ≡ o.uncounted
 
 pub owes_less : (p o : Owed) → OwesAlike p o → OwesLess p o
 owes_less p o alike =
@@ -57,11 +65,13 @@ owes_less p o alike =
       own = alike.own;
       gives = alike.gives;
       left = alike.left;
+      counted = λ k is. (sym alike.counted ∙ is, alike.raised);
+      uncounted = alike.uncounted;
     }
 
 module _ (w : List ℕ) (m : Memory) (s : State) (rs : Slots Region) (ts : Slots Task) (owes other : ℕ → Owed)
     (Kind : Task → Type 0) (new_refers : (t : Task) → Kind t → is_unfinished t ≡ is_explicit t)
-    (keeps : KeepsWords w m s owes) (names : AreNamesLive s)
+    (keeps : KeepsWords w m s owes) (names : AreNamesLive s) (owners : AreOwnersLive s)
     (alike : (j : ℕ) → OwesLess (other j) (owes j))
     (region_slots : (c k : ℕ) → Grows (has_region_slot k (other c).region ≡ has_region_slot k (owes c).region)
     (NewRegion w (m c regions k) (has_region_slot k (owes c).region)) (s.regions c k) (rs c k))
@@ -152,6 +162,27 @@ module _ (w : List ℕ) (m : Memory) (s : State) (rs : Slots Region) (ts : Slots
       sum_same_within s.count (λ j. children_owed after k (other j)) (λ j. children_owed s k (other j))
       (lowered_same k)
 
+  -- a thread's new task, and the one that it has finished, are in the groups that they were in
+  counts_owed_same : (g : Group) → sum_of_owed after other (count_owed after g) ≡ sum_of_owed s other (count_owed s g)
+  counts_owed_same g =
+      sum_same_within s.count (λ j. count_owed after g (other j)) (λ j. count_owed s g (other j))
+      (λ j known. ap₂ (λ a b. one (is_some_group g a) + one (is_some_group g b))
+      (through (λ q. group_within q) (other j).counted (λ q is.
+      let before = ((alike j).counted q is).0 in
+      (keeps.made j known).objects.raised q (keeps.groups.counted j q known before)))
+      (through (λ q t. t.group) (other j).uncounted (λ q is.
+      let own = keeps.groups.uncounted j q known (sym (alike j).uncounted ∙ is) in
+      let x = ((keeps.made j known).objects.own q own).0 in
+      some_found (task_of s q) x.task x.live)))
+    where
+      through : (f : Tid → Task → Option Group) (x : Option Tid) → ((q : Tid) → x ≡ Some q → IsSome (task_of s q))
+          → option_and_then (λ q. option_and_then (f q) (task_of after q)) x
+          ≡ option_and_then (λ q. option_and_then (f q) (task_of s q)) x
+      through f None live = refl
+      through f (Some q) live =
+          let (t, is) = live_of (task_of s q) (live q refl) in
+          ap (option_and_then (f q)) (task_after q t is ∙ sym is)
+
   left_same : (n : Rid) → sum_of_owed s other (left_owed n) ≡ sum_of_owed s owes (left_owed n)
   left_same n = owed_same (left_owed n) (λ j. ap (λ q. one (is_some_region n q)) (alike j).left)
 
@@ -225,6 +256,26 @@ module _ (w : List ℕ) (m : Memory) (s : State) (rs : Slots Region) (ts : Slots
           one_none (is_unfinished t) (is_region n t.region)
           (region_unnamed n empty t.region (let (x, live) = (names.tasks (task_in c j (s.tasks c j)) t (named_there c j maker place t is)).region in some_found (region_of s t.region) x live))
 
+  -- a group of which nothing that lives is the owner
+  ungrouped : (g : Group) → (s.tasks g.owner.0.creator g.owner.0.slot).live ≡ None → (o : Option Group)
+      → ((h : Group) → o ≡ Some h → IsSome (task_of s h.owner)) → is_some_group g o ≡ false
+  ungrouped g empty None live = refl
+  ungrouped g empty (Some h) live =
+      ap (λ b. b && g.index == h.index)
+      (unnamed g.owner empty (Some h.owner) (λ q is. let same : h.owner ≡ q = cc in subst (λ (y : Tid). IsSome (task_of s y)) same (live h refl)))
+
+  no_members : (g : Group) → (s.tasks g.owner.0.creator g.owner.0.slot).live ≡ None → unfinished_members w s g ≡ 0
+  no_members g empty =
+      slots_none_within w s (λ c j t. one (is_unfinished t && is_some_group g t.group))
+      (λ c j maker place. go c j maker place (s.tasks c j).live refl)
+    where
+      go : (c j : ℕ) → c < s.count → j < per_thread w tasks → (o : Option Task) → (s.tasks c j).live ≡ o
+          → of_live (λ t. one (is_unfinished t && is_some_group g t.group)) o ≡ 0
+      go c j maker place None is = refl
+      go c j maker place (Some t) is =
+          one_none (is_unfinished t) (is_some_group g t.group)
+          (ungrouped g empty t.group (λ h in_group. owners (task_in c j (s.tasks c j)) t h (named_there c j maker place t is) in_group))
+
   -- and no thread owes anything on it
   region_unowed : (n : Rid) → (s.regions n.0.creator n.0.slot).live ≡ None
       → (sum_of_owed s owes (pending_owed n) ≡ 0) × (sum_of_owed s owes (left_owed n) ≡ 0)
@@ -294,6 +345,45 @@ module _ (w : List ℕ) (m : Memory) (s : State) (rs : Slots Region) (ts : Slots
           ap one (returned (owes j) (owes j).returned o.returned) in
           omega (arith, a, b, c)
 
+  groups_unowed : (g : Group) → (s.tasks g.owner.0.creator g.owner.0.slot).live ≡ None
+      → sum_of_owed s owes (count_owed s g) ≡ 0
+  groups_unowed g empty = sum_none_within s.count (λ j. count_owed s g (owes j)) each
+    where
+      of_own : (q : Tid) (o : Option Task) → task_of s q ≡ o → (h : Group)
+          → option_and_then (λ t. t.group) o ≡ Some h → IsSome (task_of s h.owner)
+      of_own q None live h is = absurd (cc)
+      of_own q (Some t) live h is = owners q t h live is
+
+      of_new : (q : Tid) (o : Option Task) → task_of s q ≡ o → (h : Group)
+          → option_and_then (group_within q) o ≡ Some h → IsSome (task_of s h.owner)
+      of_new q None live h is = absurd (cc)
+      of_new q (Some t) live h is = go t.open_groups is
+        where
+          go : (n : ℕ) → innermost_or t.group q n ≡ Some h → IsSome (task_of s h.owner)
+          go zero is = owners q t h live is
+          go (suc n) is =
+              let same : q ≡ h.owner = ap (λ (x : Group). x.owner) (group_is is) in
+              subst (λ (y : Tid). IsSome (task_of s y)) same (some_found (task_of s q) t live)
+            where
+              group_is : Some (record { owner = q; index = n }) ≡ Some h → group_at q n ≡ h
+              group_is same = some_same refl same
+
+      each : (j : ℕ) → j < s.count → count_owed s g (owes j) ≡ 0
+      each j known =
+          let a : one (is_some_group g (option_and_then (group_of_new s) (owes j).counted)) ≡ 0 =
+          ap one (ungrouped g empty _ (λ h is. news (owes j).counted h is)) in
+          let b : one (is_some_group g (option_and_then (group_of s) (owes j).uncounted)) ≡ 0 =
+          ap one (ungrouped g empty _ (λ h is. owns (owes j).uncounted h is)) in
+          omega (arith, a, b)
+        where
+          news : (o : Option Tid) (h : Group) → option_and_then (group_of_new s) o ≡ Some h → IsSome (task_of s h.owner)
+          news None h is = absurd (cc)
+          news (Some q) h is = of_new q (task_of s q) refl h is
+
+          owns : (o : Option Tid) (h : Group) → option_and_then (group_of s) o ≡ Some h → IsSome (task_of s h.owner)
+          owns None h is = absurd (cc)
+          owns (Some q) h is = of_own q (task_of s q) refl h is
+
   gives_same : (k : Tid) → sum_of_owed s other (gives_owed k) ≡ sum_of_owed s owes (gives_owed k)
   gives_same k = owed_same (gives_owed k) (λ j. ap (λ q. one (is_some_task k q)) (alike j).gives)
 
@@ -307,7 +397,8 @@ module _ (w : List ℕ) (m : Memory) (s : State) (rs : Slots Region) (ts : Slots
   module _
       (references_counted : (k : Tid) → live_children w after k + sum_of_owed s other (references_owed k) ≡ live_children w s k + sum_of_owed s owes (references_owed k))
       (pending_counted : (n : Rid) → unfinished_in w after n + sum_of_owed s other (pending_owed n) ≡ unfinished_in w s n + sum_of_owed s owes (pending_owed n))
-      (children_counted : (k : Tid) → unfinished_children w after k + sum_of_owed s other (children_owed s k) ≡ unfinished_children w s k + sum_of_owed s owes (children_owed s k)) where
+      (children_counted : (k : Tid) → unfinished_children w after k + sum_of_owed s other (children_owed s k) ≡ unfinished_children w s k + sum_of_owed s owes (children_owed s k))
+      (members_counted : (g : Group) → unfinished_members w after g + sum_of_owed s other (count_owed s g) ≡ unfinished_members w s g + sum_of_owed s owes (count_owed s g)) where
     -- ---- objects that were live
 
     region_kept : (n : Rid) (r : Rec) (x : Region) → KeepsRegion w s owes n r x
@@ -428,6 +519,34 @@ module _ (w : List ℕ) (m : Memory) (s : State) (rs : Slots Region) (ts : Slots
       slots = λ implicit place within. inl (new.slots implicit place within);
     }
 
+    -- ---- groups
+
+    groups_kept : KeepsGroups w (λ c. m c tasks) after other
+    groups_kept = record {
+      counts = λ k t index live few. go k t index few (task_before k t live);
+      counted = λ j q known is.
+          let (before, same) = (alike j).counted q is in
+          same ∙ keeps.groups.counted j q known before;
+      uncounted = λ j q known is. (alike j).own ∙ keeps.groups.uncounted j q known (sym (alike j).uncounted ∙ is);
+    }
+      where
+        go : (k : Tid) (t : Task) (index : ℕ) → index < OPEN_GROUPS
+            → (task_of s k ≡ Some t) ⊎ IsNew (NewAt k.0.creator k.0.slot) k.0.generation (s.tasks k.0.creator k.0.slot) t
+            → Has (m k.0.creator tasks k.0.slot) TaskSlots (COUNT_PLACE + index)
+            (unfinished_members w after (group_at k index) + sum_of_owed after other (count_owed after (group_at k index)))
+        go k t index few (inl live) =
+            let was = keeps.groups.counts k t index live few in
+            let change = members_counted (group_at k index) in
+            let owed = counts_owed_same (group_at k index) in
+            omega (arith, was, change, owed)
+        go k t index few (inr new) =
+            let word = new.new.groups index few in
+            let none = no_members (group_at k index) new.empty in
+            let nobody = groups_unowed (group_at k index) new.empty in
+            let change = members_counted (group_at k index) in
+            let owed = counts_owed_same (group_at k index) in
+            omega (arith, word, none, nobody, change, owed)
+
     -- ---- the whole
 
     region_slot_kept : (c k : ℕ) → KeepsRegionSlot w s owes c k (m c regions k)
@@ -493,4 +612,5 @@ module _ (w : List ℕ) (m : Memory) (s : State) (rs : Slots Region) (ts : Slots
             objects = objects_kept j (assigns j known) o.objects;
           };
       deferred = deferred;
+      groups = groups_kept;
     }

@@ -11,6 +11,7 @@ use Rattle.omi_model.specs.declared.task.Task.{Task}
 use Rattle.omi_model.specs.LawNames.{AreNamesLive}
 use Rattle.omi_model.specs.Put.{Slots}
 use Rattle.omi_model.specs.State.{State, task_of}
+use Rattle.omi_model.specs.declared.group.Group.{Group}
 use Rattle.omi_numbers.specs.declared.limits.TheConstants.{OWN_SLOTS}
 use Rattle.omi_layout.specs.declared.field.Field.TheVariants.{TaskSlots}
 use Rattle.omi_layout.specs.Field.{threads, regions, tasks}
@@ -26,6 +27,8 @@ use Rattle.omi_rule_words.proofs.Grown.{OwesLess, grown, owes_less, task_after, 
 use Rattle.omi_rule_words.proofs.OtherOwes.{OwesAlike}
 use Rattle.omi_rule_words.proofs.OwedTasks.{references_alike}
 use Rattle.omi_rule_words.proofs.Sums.{sum_none_within, sum_same}
+use Rattle.omi_rule_words.specs.Groups.{AreOwnersLive, count_owed, is_some_group, unfinished_members}
+use Rattle.omi_rule_words.proofs.GroupCounts.{count_alike}
 
 -- an implicit task that is not deferred
 pub record IsMember (t : Task) : Type 0 where
@@ -40,7 +43,8 @@ pub refers : (t : Task) → IsMember t → is_unfinished t ≡ is_explicit t
 refers t o = implicit_none t o.implicit ∙ sym (ap not o.implicit)
 
 module _ (w : List ℕ) (m : Memory) (s : State) (rs : Slots Region) (ts : Slots Task) (owes other : ℕ → Owed)
-    (keeps : KeepsWords w m s owes) (names : AreNamesLive s) (alike : (j : ℕ) → OwesAlike (other j) (owes j))
+    (keeps : KeepsWords w m s owes) (names : AreNamesLive s) (owners : AreOwnersLive s)
+    (alike : (j : ℕ) → OwesAlike (other j) (owes j))
     (region_slots : (c k : ℕ) → Grows (has_region_slot k (other c).region ≡ has_region_slot k (owes c).region)
     (NewRegion w (m c regions k) (has_region_slot k (owes c).region)) (s.regions c k) (rs c k))
     (task_slots : (c k : ℕ) → Grows (has_slot k (other c).tasks ≡ has_slot k (owes c).tasks) (NewTask w (m c tasks k) (has_slot k (owes c).tasks) IsMember) (s.tasks c k) (ts c k)) where
@@ -61,7 +65,7 @@ module _ (w : List ℕ) (m : Memory) (s : State) (rs : Slots Region) (ts : Slots
       → unfinished_in w after n + sum_of_owed s other (pending_owed n) ≡ unfinished_in w s n + sum_of_owed s owes (pending_owed n)
   pending_counted n =
       let same : unfinished_in w after n ≡ unfinished_in w s n
-      = tasks_counted w m s rs ts owes other IsMember refers keeps names less region_slots task_slots
+      = tasks_counted w m s rs ts owes other IsMember refers keeps names owners less region_slots task_slots
       (λ c k t. one (is_unfinished t && is_region n t.region))
       (λ c k t new. ap (λ b. one (b && is_region n t.region)) (implicit_none t new.kind.implicit)) in
       let owed = owed_same (pending_owed n) (λ j. ap (λ q. one (is_some_region n q)) (alike j).pending) in
@@ -71,7 +75,7 @@ module _ (w : List ℕ) (m : Memory) (s : State) (rs : Slots Region) (ts : Slots
       → unfinished_children w after k + sum_of_owed s other (children_owed s k) ≡ unfinished_children w s k + sum_of_owed s owes (children_owed s k)
   children_counted k =
       let same : unfinished_children w after k ≡ unfinished_children w s k
-      = tasks_counted w m s rs ts owes other IsMember refers keeps names less region_slots task_slots
+      = tasks_counted w m s rs ts owes other IsMember refers keeps names owners less region_slots task_slots
       (λ c j t. one (is_unfinished t && is_some_task k t.generating))
       (λ c j t new. ap (λ b. one (b && is_some_task k t.generating)) (implicit_none t new.kind.implicit)) in
       let owed =
@@ -83,7 +87,7 @@ module _ (w : List ℕ) (m : Memory) (s : State) (rs : Slots Region) (ts : Slots
       → live_children w after k + sum_of_owed s other (references_owed k) ≡ live_children w s k + sum_of_owed s owes (references_owed k)
   references_counted k =
       let same : live_children w after k ≡ live_children w s k
-      = tasks_counted w m s rs ts owes other IsMember refers keeps names less region_slots task_slots
+      = tasks_counted w m s rs ts owes other IsMember refers keeps names owners less region_slots task_slots
       (λ c j t. one (is_explicit t && is_some_task k t.generating))
       (λ c j t new. ap (λ b. one (not b && is_some_task k t.generating)) new.kind.implicit) in
       let owed =
@@ -91,18 +95,29 @@ module _ (w : List ℕ) (m : Memory) (s : State) (rs : Slots Region) (ts : Slots
       (λ j. references_alike k (other j) (owes j) (alike j).referred (alike j).own (alike j).returned) in
       omega (arith, same, owed)
 
+  members_counted : (g : Group)
+      → unfinished_members w after g + sum_of_owed s other (count_owed s g) ≡ unfinished_members w s g + sum_of_owed s owes (count_owed s g)
+  members_counted g =
+      let same : unfinished_members w after g ≡ unfinished_members w s g
+      = tasks_counted w m s rs ts owes other IsMember refers keeps names owners less region_slots task_slots
+      (λ c j t. one (is_unfinished t && is_some_group g t.group))
+      (λ c j t new. ap (λ b. one (b && is_some_group g t.group)) (implicit_none t new.kind.implicit)) in
+      let owed =
+      owed_same (count_owed s g) (λ j. count_alike s g (other j) (owes j) (alike j).counted (alike j).uncounted) in
+      omega (arith, same, owed)
+
   deferred_kept : KeepsDeferred w (λ c. m c tasks) after other
   deferred_kept = record {
-    once = λ k t is deferred. go k t deferred (task_before w m s rs ts owes other IsMember refers keeps names less region_slots task_slots k t is);
+    once = λ k t is deferred. go k t deferred (task_before w m s rs ts owes other IsMember refers keeps names owners less region_slots task_slots k t is);
     hands = λ i k known is.
         let (t, live, deferred) = keeps.deferred.hands i k known (sym (alike i).hand ∙ is) in
-        (t, task_after w m s rs ts owes other IsMember refers keeps names less region_slots task_slots k t live, deferred);
+        (t, task_after w m s rs ts owes other IsMember refers keeps names owners less region_slots task_slots k t live, deferred);
   }
     where
       slots_same : (k : Tid)
           → slots_with w (λ c. m c tasks) after (slot_word w k) ≡ slots_with w (λ c. m c tasks) s (slot_word w k)
       slots_same k =
-          tasks_counted w m s rs ts owes other IsMember refers keeps names less region_slots task_slots
+          tasks_counted w m s rs ts owes other IsMember refers keeps names owners less region_slots task_slots
           (λ c j x. if x.implicit then sum_below OWN_SLOTS (λ place. one (m c tasks j (number TaskSlots) place == slot_word w k)) else 0)
           (λ c j t new.
           ap
@@ -125,4 +140,4 @@ module _ (w : List ℕ) (m : Memory) (s : State) (rs : Slots Region) (ts : Slots
       → ((j : ℕ) → j < s.count → All (λ q. WaitsFor after q.1 q.0) (other j).assigns)
       → ((j : ℕ) → j < s.count → KeepsAssign w after other j (m j threads 0)) → KeepsWords w m after other
   members_grown making assigns assigned =
-      grown w m s rs ts owes other IsMember refers keeps names less region_slots task_slots references_counted pending_counted children_counted making assigns assigned deferred_kept
+      grown w m s rs ts owes other IsMember refers keeps names owners less region_slots task_slots references_counted pending_counted children_counted members_counted making assigns assigned deferred_kept

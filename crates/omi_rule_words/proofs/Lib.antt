@@ -8,6 +8,7 @@ pub mod Fills
 pub mod Moves
 pub mod CountedRegions
 pub mod OwedTasks
+pub mod GroupCounts
 pub mod OtherOwes
 pub mod RegionTakes
 pub mod TaskTakes
@@ -16,6 +17,7 @@ pub mod ListMoves
 pub mod Alike
 pub mod OtherStates
 pub mod TaskStores
+pub mod GroupStores
 pub mod RuntimeStores
 pub mod RegionStores
 pub mod Renewed
@@ -29,6 +31,7 @@ pub mod Forks
 pub mod OtherCounts
 pub mod PendingWords
 pub mod TaskWords
+pub mod CountWords
 pub mod EachPlace
 pub mod StoredCodes
 pub mod PlaceStores
@@ -41,6 +44,7 @@ pub mod Starts
 pub mod Finishes
 pub mod LiveTasks
 pub mod ChildrenFinished
+pub mod MembersFinished
 pub mod MadeTasks
 pub mod Defers
 pub mod TaskCounts

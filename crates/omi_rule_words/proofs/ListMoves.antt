@@ -30,14 +30,14 @@ relisted_kept : (w : List ℕ) (s : State) (owes : ℕ → Owed) (k : Tid) (r : 
     → KeepsTask w s owes k r (record t { frees = frees; list = list })
 relisted_kept w s owes k r t frees list =
     task_rewritten w s owes k r r t (record t { frees = frees; list = list })
-    (record { implicit = refl; region = refl; thread = refl; generating = refl; progress = refl; place = refl }) refl refl
-    (λ _. refl)
+    (record { implicit = refl; region = refl; thread = refl; generating = refl; progress = refl; place = refl; group = refl }) refl refl
+    (λ _ _. refl)
     (λ e. e) (λ e. e)
 
 module _ (w : List ℕ) (m : Memory) (s : State) (owes : ℕ → Owed) (k : Tid) (g : Task → Task)
     (alike : (t : Task) → Relisted t (g t)) (keeps : KeepsWords w m s owes) where
   same_before : (t : Task) → IsSameTask t (record t { frees = (g t).frees; list = (g t).list })
-  same_before t = record { implicit = refl; region = refl; thread = refl; generating = refl; progress = refl; place = refl }
+  same_before t = record { implicit = refl; region = refl; thread = refl; generating = refl; progress = refl; place = refl; group = refl; open_groups = refl }
 
   each : (i j : ℕ) → i < s.count → j < per_thread w tasks → (u : Task)
       → ((t : Task) × ((s.tasks i j).live ≡ Some t) × Relisted t u)

@@ -2,6 +2,7 @@
 use Rattle.std.proofs.Common.{◌≡◌, ◌≢◌, ◌&&◌, ◌||◌, ◌+◌, ◌<◌, ℕ, true, false, not, inl, inr, List, [], ◌∷◌, Option, Some, None, refl, sym, ap, ap₂, subst, ◌∙◌, arith, eq-eqb, ne_eqb}
 use Rattle.std.specs.Prelude.{◌⊎◌, All}
 use Rattle.std.proofs.lemmas.List.Elements.{All-head, All-nil, All-weaker}
+use Rattle.std.specs.Option.{option_and_then}
 use Rattle.omi_model.specs.declared.id.Rid.{Rid}
 use Rattle.omi_model.specs.declared.id.Tid.{Tid}
 use Rattle.omi_model.specs.declared.progress.Progress.TheVariants as progress
@@ -11,11 +12,14 @@ use Rattle.omi_model.specs.LawNames.{AreNamesLive}
 use Rattle.omi_model.specs.Put.{Slots, made, named}
 use Rattle.omi_model.specs.State.{State, task_of}
 use Rattle.omi_model.proofs.Slots.{each_slot, made_beside, made_other, made_same, same_or_not, some_same}
-use Rattle.omi_layout.specs.declared.field.Field.TheVariants.{TaskChildren, TaskReferences}
+use Rattle.omi_model.specs.declared.group.Group.{Group}
+use Rattle.omi_model.specs.Groups.{group_within}
+use Rattle.omi_layout.specs.declared.field.Field.TheVariants.{TaskChildren, TaskReferences, TaskSlots}
 use Rattle.omi_layout.specs.Field.{regions, tasks, threads}
 use Rattle.omi_layout.specs.Memory.{Memory, replace_at}
 use Rattle.omi_layout.specs.Table.{per_thread}
 use Rattle.omi_layout.proofs.Puts.{each_put}
+use Rattle.omi_layout.specs.declared.limits.TheConstants.{COUNT_PLACE}
 use Rattle.omi_rule_words.specs.Owes.{Owed, nothing}
 use Rattle.omi_rule_words.specs.Counts.{assign_owed, assigns_in, children_owed, has_region_slot, has_slot, is_finished, is_region, is_some_task, is_unfinished, of_live, one, pending_owed, sum_below, sum_of_owed, sum_of_slots, unfinished_children, unfinished_in, is_explicit, live_children, references_owed}
 use Rattle.omi_rule_words.specs.Threads.{Has, KeepsAssign, WaitsFor}
@@ -27,14 +31,17 @@ use Rattle.omi_rule_words.proofs.Grown.{OwesLess, grown, owes_less, waits_after}
 use Rattle.omi_rule_words.proofs.OtherCounts.{owed_put, owed_put_same}
 use Rattle.omi_rule_words.proofs.OtherOwes.{owes_alike}
 use Rattle.omi_rule_words.proofs.Sums.{sum_changed, sum_same}
+use Rattle.omi_rule_words.specs.Groups.{AreOwnersLive, count_owed, is_some_group, unfinished_members}
+use Rattle.omi_numbers.specs.declared.limits.TheConstants.{OPEN_GROUPS}
 
--- an explicit task that goes on, in the region and with the generating task of its raises
+-- an explicit task that goes on, in the region, with the generating task and in the group of its raises
 pub record IsMade (k : Tid) (t new : Task) : Type 0 where
   pub explicit : new.implicit ≡ false
   pub region : new.region ≡ t.region
   pub generating : new.generating ≡ Some k
   pub goes : is_finished new.progress ≡ false
   pub unmet : new.progress ≢ progress.NotBegun
+  pub group : new.group ≡ group_within k t
 
 -- and the record that stands filled for it
 pub record IsFilledAs (w : List ℕ) (r : ℕ → ℕ → ℕ) (new : Task) : Type 0 where
@@ -42,10 +49,12 @@ pub record IsFilledAs (w : List ℕ) (r : ℕ → ℕ → ℕ) (new : Task) : Ty
   pub place : HasPlace new → KeepsPlace w r new
   pub children : Has r TaskChildren 0 0
   pub references : Has r TaskReferences 0 1
+  pub groups : (index : ℕ) → index < OPEN_GROUPS → Has r TaskSlots (COUNT_PLACE + index) 0
 
 module _ (w : List ℕ) (m : Memory) (s : State) (owes : ℕ → Owed) (i : ℕ) (task : Tid) (new : Task) (k : Tid)
     (t : Task) (hand : Option Tid)
-    (keeps : KeepsWords w m s owes) (names : AreNamesLive s) (known : i < s.count)
+    (keeps : KeepsWords w m s owes) (names : AreNamesLive s) (owners : AreOwnersLive s)
+    (known : i < s.count)
     (owes_new : OwesNew w s owes i task k t) (is_made : IsMade k t new)
     (filled : IsFilledAs w (m i tasks task.0.slot) new) where
   abbrev ts : Slots Task
@@ -61,7 +70,7 @@ module _ (w : List ℕ) (m : Memory) (s : State) (owes : ℕ → Owed) (i : ℕ)
   other = replace_at owes i given
 
   abbrev before : Owed
-  before = record nothing { tasks = task ∷ []; pending = Some t.region; raised = Some k; referred = Some k }
+  before = record nothing { tasks = task ∷ []; pending = Some t.region; raised = Some k; referred = Some k; counted = Some k }
 
   owed : owes i ≡ before
   owed = owes_new.owed
@@ -101,6 +110,8 @@ module _ (w : List ℕ) (m : Memory) (s : State) (owes : ℕ → Owed) (i : ℕ)
         own = refl;
         gives = refl;
         left = refl;
+        counted = λ q is. absurd (cc);
+        uncounted = refl;
       }
 
   -- ---- slots
@@ -138,6 +149,7 @@ module _ (w : List ℕ) (m : Memory) (s : State) (owes : ℕ → Owed) (i : ℕ)
       children = filled.children;
       references = filled.references ∙ sym (ap one own_counted);
       slots = λ implicit. let explicit = is_made.explicit in absurd (cc);
+      groups = filled.groups;
       kind = refl;
     };
   }
@@ -226,6 +238,19 @@ module _ (w : List ℕ) (m : Memory) (s : State) (owes : ℕ → Owed) (i : ℕ)
       let was : references_owed q (owes i) ≡ one (is_some_task q (Some k)) + 0 = ap (references_owed q) owed in
       omega (arith, more, here, change, was)
 
+  members_counted : (g : Group)
+      → unfinished_members w after g + sum_of_owed s other (count_owed s g) ≡ unfinished_members w s g + sum_of_owed s owes (count_owed s g)
+  members_counted g =
+      let more = made_counted (λ _ _ x. one (is_unfinished x && is_some_group g x.group)) in
+      let here : one (is_unfinished new && is_some_group g new.group) ≡ one (is_some_group g (group_within k t)) =
+      ap (λ b. one (b && is_some_group g new.group)) unfinished
+      ∙ ap (λ o. one (is_some_group g o)) is_made.group in
+      let change = owed_put s owes i given known (count_owed s g) in
+      let was : count_owed s g (owes i) ≡ one (is_some_group g (group_within k t)) + 0 =
+      ap (count_owed s g) owed
+      ∙ ap (λ (o : Option Task). one (is_some_group g (option_and_then (group_within k) o)) + 0) owes_new.live in
+      omega (arith, more, here, change, was)
+
   -- ---- what is kept of each thread
 
   making_kept : (j : ℕ) → j < s.count → KeepsMaking after j (other j)
@@ -245,7 +270,7 @@ module _ (w : List ℕ) (m : Memory) (s : State) (owes : ℕ → Owed) (i : ℕ)
       }
 
   still : (j : ℕ) (q : Tid) → WaitsFor s j q → WaitsFor after j q
-  still = waits_after w m s s.regions ts owes other (λ u. u ≡ new) refers keeps names less region_slots task_slots
+  still = waits_after w m s s.regions ts owes other (λ u. u ≡ new) refers keeps names owners less region_slots task_slots
 
   -- under a name stands the new task, or what stood there
   pub new_or_old : (q : Tid) (u : Task) → task_of after q ≡ Some u
@@ -294,4 +319,4 @@ module _ (w : List ℕ) (m : Memory) (s : State) (owes : ℕ → Owed) (i : ℕ)
   pub made_kept : KeepsDeferred w (λ c. m c tasks) after other → KeepsWords w m after other
   made_kept deferred =
       grown w m s s.regions ts owes other
-      (λ u. u ≡ new) refers keeps names less region_slots task_slots references_counted pending_counted children_counted making_kept assigns assigned deferred
+      (λ u. u ≡ new) refers keeps names owners less region_slots task_slots references_counted pending_counted children_counted members_counted making_kept assigns assigned deferred

@@ -51,6 +51,10 @@ module _ (w : List ℕ) (m : Memory) (s : State) (owes : ℕ → Owed) (task : T
   unlowered j below is =
       explicit_apart task (lowered_finished s (owes j) (keeps.made j below).objects task is) refl
 
+  ungrouped : (j : ℕ) → j < s.count → (owes j).uncounted ≢ Some task
+  ungrouped j below is =
+      explicit_apart task ((keeps.made j below).objects.own task (keeps.groups.uncounted j task below is)).0 refl
+
   references_counted : (q : Tid) (x : Task) → (q.0 ≡ task.0 → ⊥) → task_of s q ≡ Some x
       → referred_in w after owes q ≡ referred_in w s owes q
   references_counted q x ne is =
@@ -101,13 +105,13 @@ module _ (w : List ℕ) (m : Memory) (s : State) (owes : ℕ → Owed) (task : T
 
   pub member_frees : KeepsWords w (with_task_emptied m task) after owes
   member_frees =
-      task_gone w m s owes owes task old keeps within may.spent alike unlowered references_counted
+      task_gone w m s owes owes task old keeps within may.spent alike unlowered unowed.raised ungrouped references_counted
       (λ q ne. refl)
       (λ q x is deferred.
       ap
       (λ b. slots_of m (slot_word w q) task.0.creator task.0.slot (record old { implicit = b })) may.implicit
       ∙ no_slot (slot_word w q) (λ none. omega (arith, none)))
-      unowed.raised on_tasks
+      on_tasks
 
 pub member_frees_keep : MemberFreesKeep
 member_frees_keep =

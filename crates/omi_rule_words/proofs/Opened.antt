@@ -1,5 +1,5 @@
 -- The opening words of a program keep the rule on words.
-use Rattle.std.proofs.Common.{◌≡◌, inl, ◌==◌, ◌<◌, ℕ, ◌&&◌, Bool, true, false, List, [], Some, None, refl, sym, ap, subst, arith, if◌then◌else◌}
+use Rattle.std.proofs.Common.{◌≡◌, inl, ◌==◌, ◌<◌, ℕ, ◌&&◌, Bool, true, false, List, [], Some, None, refl, sym, ap, subst, arith, if◌then◌else◌, ◌+◌}
 use Rattle.std.proofs.lemmas.Bool.Decides.{nat_tests}
 use Rattle.std.proofs.lemmas.List.Elements.{All-from_recursion}
 use Rattle.omi_script.specs.declared.program.Program.{Program}
@@ -19,6 +19,8 @@ use Rattle.omi_layout.specs.Memory.{Rec, MadeRecords, Memory, memory_of}
 use Rattle.omi_layout.specs.Named.{number}
 use Rattle.omi_layout.specs.OpeningWords.{AreOpening, OpensMade, OpensThread, OpensRegion, OpensTask}
 use Rattle.omi_layout.specs.Valid.{IsValid}
+use Rattle.omi_layout.specs.declared.limits.TheConstants.{COUNT_PLACE}
+use Rattle.omi_layout.proofs.Arenas.{some_threads}
 use Rattle.omi_pc.specs.Opening.{opening_actor}
 use Rattle.omi_rep.specs.Suits.{Suits}
 use Rattle.omi_rep.proofs.OpenedCodes.{region_opened, runtime_opened, task_opened, thread_opened}
@@ -31,6 +33,7 @@ use Rattle.omi_rule_words.specs.Opens.{OpeningKeepsWords}
 use Rattle.omi_rule_words.proofs.Idle.{opening_owes}
 use Rattle.omi_rule_words.proofs.OwedTasks.{nothing_on_live}
 use Rattle.omi_rule_words.proofs.Sums.{owed_none, slots_none}
+use Rattle.omi_rule_words.specs.Groups.{KeepsGroups, count_owed, group_at, is_some_group}
 
 -- the one task counts nothing
 none_counted : (p : Program) (f : Task → ℕ) → f (opening_task p) ≡ 0 → (c k : ℕ)
@@ -197,8 +200,23 @@ module _ (p : Program) (w words : List ℕ) (v : IsValid w) (suits : Suits p w)
     hands = λ i k within is. let nobody : (owes i).hand ≡ None = ap (λ (o : Owed). o.hand) (none i) in absurd (cc);
   }
 
+  groups_kept : KeepsGroups w (λ c. m c tasks) s owes
+  groups_kept = record {
+    counts = λ k t index live few.
+        let members =
+        slots_none w s (λ c j x. one (is_unfinished x && is_some_group (group_at k index) x.group))
+        (none_counted p (λ x. one (is_unfinished x && is_some_group (group_at k index) x.group)) refl) in
+        let owed = owed_none s owes (count_owed s (group_at k index)) none refl in
+        let is : m k.0.creator tasks k.0.slot (number TaskSlots) (COUNT_PLACE + index) ≡ 0 =
+        each_first_task p (λ q u. m q.0.creator tasks q.0.slot (number TaskSlots) (COUNT_PLACE + index) ≡ 0)
+        (((opens.made 0 (some_threads w v)).task refl).words TaskSlots (COUNT_PLACE + index)) k t live in
+        omega (arith, members, owed, is);
+    counted = λ i k known is. let nobody : (owes i).counted ≡ None = ap (λ (o : Owed). o.counted) (none i) in absurd (cc);
+    uncounted = λ i k known is. let nobody : (owes i).uncounted ≡ None = ap (λ (o : Owed). o.uncounted) (none i) in absurd (cc);
+  }
+
   words_kept : KeepsWords w m s owes
-  words_kept = record { runtime_record = runtime_opened p w (m 0 runtime 0) opens.runtime_record; made = made_kept; deferred = deferred_kept }
+  words_kept = record { runtime_record = runtime_opened p w (m 0 runtime 0) opens.runtime_record; made = made_kept; deferred = deferred_kept; groups = groups_kept }
 
 pub opening_kept : OpeningKeepsWords
 opening_kept = λ p w words v suits opens. words_kept p w words v suits opens

@@ -18,6 +18,7 @@ use Rattle.omi_layout.specs.Memory.{Memory, Rec, replace_at}
 use Rattle.omi_layout.specs.Named.{number}
 use Rattle.omi_layout.specs.Table.{per_thread}
 use Rattle.omi_layout.proofs.Puts.{each_put, put_other, put_same}
+use Rattle.omi_layout.specs.declared.limits.TheConstants.{COUNT_PLACE}
 use Rattle.omi_rep.specs.Codes.{region_told, task_told}
 use Rattle.omi_rule_words.specs.Owes.{Owed}
 use Rattle.omi_rule_words.specs.Counts.{children_owed, has_region_slot, has_slot, is_id, left_owed, pending_owed, start_owed, sum_of_owed, unfinished_in, references_owed, gives_owed, is_explicit, one}
@@ -29,6 +30,8 @@ use Rattle.omi_rule_words.proofs.OtherOwes.{assign_owed_same}
 use Rattle.omi_rule_words.proofs.OtherStates.{slots_as_before}
 use Rattle.omi_rule_words.proofs.Sums.{sum_changed, sum_same}
 use Rattle.omi_rule_words.proofs.StoredCodes.{region_apart, task_apart}
+use Rattle.omi_rule_words.specs.Groups.{KeepsGroups}
+use Rattle.omi_numbers.specs.declared.limits.TheConstants.{OWN_SLOTS}
 
 -- ---- names
 
@@ -149,39 +152,41 @@ module _ (w : List ℕ) (m n : Memory) (s : State) (owes : ℕ → Owed) (i : �
 
   -- the record of a task that counts otherwise
   pub task_counted : (k : Tid) (a b : Rec) (t : Task)
-      → ((g : Field) (at : ℕ) → number g ≢ number TaskChildren → number g ≢ number TaskReferences → b (number g) at ≡ a (number g) at)
+      → ((g : Field) (at : ℕ) → number g ≢ number TaskChildren → number g ≢ number TaskReferences → (number g ≡ number TaskSlots → at < COUNT_PLACE) → b (number g) at ≡ a (number g) at)
       → (KeepsCounts w s owes k a t → KeepsCounts w s other k b t) → KeepsTask w s owes k a t → KeepsTask w s other k b t
   task_counted k a b t same counts o = record {
-    environment = λ g at word none told. let apart = task_apart w (task_told t) g at word told in same g at apart.0 apart.2 ∙ o.environment g at word none told;
-    place = λ has g at word is told. let apart = task_apart w (task_told t) g at word told in same g at apart.0 apart.2 ∙ o.place has g at word is told;
+    environment = λ g at word none told. let apart = task_apart w (task_told t) g at word told in same g at apart.children apart.references apart.counts ∙ o.environment g at word none told;
+    place = λ has g at word is told. let apart = task_apart w (task_told t) g at word told in same g at apart.children apart.references apart.counts ∙ o.place has g at word is told;
     counts = counts o.counts;
-    slots = λ implicit at within. slot at (o.slots implicit at within);
+    slots = λ implicit at within. slot at within (o.slots implicit at within);
   }
     where
-      slot : (at : ℕ)
+      slot : (at : ℕ) → at < OWN_SLOTS
           → Has a TaskSlots at 0 ⊎ ((j : Tid) × IsDeferredIn s t at j × Has a TaskSlots at (slot_word w j))
           → Has b TaskSlots at 0 ⊎ ((j : Tid) × IsDeferredIn s t at j × Has b TaskSlots at (slot_word w j))
-      slot at (inl none) = inl (same TaskSlots at (λ is. omega (arith, is)) (λ is. omega (arith, is)) ∙ none)
-      slot at (inr (j, x, is)) = inr (j, x, same TaskSlots at (λ is. omega (arith, is)) (λ is. omega (arith, is)) ∙ is)
+      slot at within (inl none) = inl (same TaskSlots at (λ is. omega (arith, is)) (λ is. omega (arith, is)) (λ _. omega (arith, within)) ∙ none)
+      slot at within (inr (j, x, is)) = inr (j, x, same TaskSlots at (λ is. omega (arith, is)) (λ is. omega (arith, is)) (λ _. omega (arith, within)) ∙ is)
 
   -- all is kept, where the words of live regions and tasks are right
   pub other_counts : ((c kind j : ℕ) → (kind ≡ regions → ⊥) → (kind ≡ tasks → ⊥) → n c kind j ≡ m c kind j)
       → ((c j : ℕ) → n c regions j (number RegionLife) 0 ≡ m c regions j (number RegionLife) 0)
       → ((c j : ℕ) → n c tasks j (number TaskLife) 0 ≡ m c tasks j (number TaskLife) 0)
-      → ((c j at : ℕ) → n c tasks j (number TaskSlots) at ≡ m c tasks j (number TaskSlots) at)
+      → ((c j at : ℕ) → at < COUNT_PLACE → n c tasks j (number TaskSlots) at ≡ m c tasks j (number TaskSlots) at)
+      → KeepsGroups w (λ c. n c tasks) s other
       → (OwesOnLive s (owes i) → OwesOnLive s p)
       → ((c j : ℕ) → c < s.count → j < per_thread w regions → (x : Region) → (s.regions c j).live ≡ Some x
       → KeepsRegion w s owes (region_in c j (s.regions c j)) (m c regions j) x → KeepsRegion w s other (region_in c j (s.regions c j)) (n c regions j) x)
       → ((c j : ℕ) → c < s.count → j < per_thread w tasks → (t : Task) → (s.tasks c j).live ≡ Some t
       → KeepsTask w s owes (task_in c j (s.tasks c j)) (m c tasks j) t → KeepsTask w s other (task_in c j (s.tasks c j)) (n c tasks j) t)
       → KeepsWords w n s other
-  other_counts stays region_lives task_lives slots objects regions_are tasks_are = record {
+  other_counts stays region_lives task_lives slots groups objects regions_are tasks_are = record {
+    groups = groups;
     runtime_record = subst (λ (r : Rec). KeepsRuntime w r s) (sym (stays 0 runtime 0 (λ kind. absurd (omega (arith, kind))) (λ kind. absurd (omega (arith, kind))))) keeps.runtime_record;
     made = made;
     deferred = record {
       once = λ k t live deferred.
           let was = keeps.deferred.once k t live deferred in
-          let words = slots_as_before w m n s slots (slot_word w k) in
+          let words = slots_as_before w m n s (λ c j at within. slots c j at (omega (arith, within))) (slot_word w k) in
           let owed =
           owed_put_same s owes i p (start_owed k)
           (ap (λ x. start_owed k (record (owes i) { hand = x })) alike_own.hand) in

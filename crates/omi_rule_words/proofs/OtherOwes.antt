@@ -16,6 +16,7 @@ use Rattle.omi_rule_words.specs.Words.{KeepsTask, OwesOnLive}
 use Rattle.omi_rule_words.proofs.CountedRegions.{region_counted}
 use Rattle.omi_rule_words.proofs.OwedTasks.{OwesTasksAlike, owed_on_tasks, references_alike, tasks_stay}
 use Rattle.omi_rule_words.proofs.Sums.{sum_same}
+use Rattle.omi_rule_words.proofs.GroupCounts.{OnGroupsAlike}
 
 -- two threads owe the same, but for records in the making, assign words and tasks that were met
 pub record OwesAlike (p o : Owed) : Type 0 where
@@ -28,10 +29,15 @@ pub record OwesAlike (p o : Owed) : Type 0 where
   pub gives : p.gives ≡ o.gives
   pub left : p.left ≡ o.left
   pub hand : p.hand ≡ o.hand
+  pub counted : p.counted ≡ o.counted
+  pub uncounted : p.uncounted ≡ o.uncounted
 
 pub owes_alike : (o : Owed) → OwesAlike o o
 owes_alike o =
-    record { pending = refl; raised = refl; lowered = refl; referred = refl; own = refl; returned = refl; gives = refl; left = refl; hand = refl }
+    record { pending = refl; raised = refl; lowered = refl; referred = refl; own = refl; returned = refl; gives = refl; left = refl; hand = refl; counted = refl; uncounted = refl }
+
+pub alike_on_groups : (p o : Owed) → OwesAlike p o → OnGroupsAlike p o
+alike_on_groups p o alike = record { counted = alike.counted; uncounted = alike.uncounted; raised = λ k _ is. alike.raised ∙ is; own = λ k _ is. alike.own ∙ is }
 
 pub alike_on_tasks : (p o : Owed) → OwesAlike p o → OwesTasksAlike p o
 alike_on_tasks p o alike =

@@ -14,6 +14,7 @@ use Rattle.omi_layout.specs.Field.{runtime, threads, regions, tasks}
 use Rattle.omi_layout.specs.Memory.{Rec, Memory}
 use Rattle.omi_layout.specs.Named.{number}
 use Rattle.omi_layout.specs.Table.{per_thread}
+use Rattle.omi_layout.specs.declared.limits.TheConstants.{COUNT_PLACE}
 use Rattle.omi_rule_words.specs.Owes.{Owed}
 use Rattle.omi_rule_words.specs.Counts.{assign_owed, children_owed, generating_of, has_region_slot, has_slot, is_region, is_some_task, is_unfinished, left_owed, of_live, one, pending_owed, start_owed, sum_below, sum_of_owed, sum_of_slots, unfinished_children, unfinished_in, is_explicit, live_children, references_owed, gives_owed, is_finished, own_reference}
 use Rattle.omi_rule_words.specs.Threads.{Has, IsAssignedOnce, KeepsAssign, KeepsRuntime, KeepsThread, WaitsFor}
@@ -21,12 +22,14 @@ use Rattle.omi_rule_words.specs.Objects.{IsDeferredIn, KeepsCounts, KeepsDeferre
 use Rattle.omi_rule_words.specs.Words.{KeepsMade, KeepsTask, KeepsWords, region_in, task_in}
 use Rattle.omi_rule_words.specs.TaskKinds.{IsSameTask}
 use Rattle.omi_rule_words.proofs.CountedRegions.{region_counted}
-use Rattle.omi_rule_words.proofs.Alike.{IsSameRegion, SlotsAlike, deferred_in_after, generating_same, life_alike, live_counted, making_after, objects_after, parts_same, region_back, slots_back, task_after, task_back, task_before, waits_after}
-use Rattle.omi_rule_words.proofs.Sums.{sum_same}
+use Rattle.omi_rule_words.proofs.Alike.{IsSameKind, IsSameRegion, SlotsAlike, deferred_in_after, generating_same, life_alike, live_counted, making_after, objects_after, parts_same, region_back, slots_back, task_after, task_back, task_before, waits_after, group_of_new_same, group_of_same, kinds_of, members_same}
+use Rattle.omi_rule_words.proofs.Sums.{sum_same, sum_same_within}
+use Rattle.omi_rule_words.proofs.GroupCounts.{groups_counted, groups_read}
+use Rattle.omi_rule_words.specs.Groups.{KeepsGroups, count_owed, is_some_group, unfinished_members, group_of, group_of_new}
 
 -- a slot word stands in as many slots as before, where the words of all slots are as before
 pub slots_as_before : (w : List ℕ) (m n : Memory) (s : State)
-    → ((i k place : ℕ) → n i tasks k (number TaskSlots) place ≡ m i tasks k (number TaskSlots) place)
+    → ((i k place : ℕ) → place < OWN_SLOTS → n i tasks k (number TaskSlots) place ≡ m i tasks k (number TaskSlots) place)
     → (code : ℕ)
     → slots_with w (λ c. n c tasks) s code ≡ slots_with w (λ c. m c tasks) s code
 slots_as_before w m n s same code =
@@ -43,17 +46,17 @@ slots_as_before w m n s same code =
     of_row c j None = refl
     of_row c j (Some t) =
         ap (λ (x : ℕ). if t.implicit then x else 0)
-        (sum_same OWN_SLOTS (λ place. one (n c tasks j (number TaskSlots) place == code)) (λ place. one (m c tasks j (number TaskSlots) place == code))
-        (λ place. ap (λ x. one (x == code)) (same c j place)))
+        (sum_same_within OWN_SLOTS (λ place. one (n c tasks j (number TaskSlots) place == code)) (λ place. one (m c tasks j (number TaskSlots) place == code))
+        (λ place within. ap (λ x. one (x == code)) (same c j place within)))
 
 module _ (w : List ℕ) (s u : State) (owes : ℕ → Owed) (count : u.count ≡ s.count)
     (regions_alike : SlotsAlike IsSameRegion s.regions u.regions)
-    (tasks_alike : SlotsAlike IsSameTask s.tasks u.tasks) where
+    (tasks_alike : SlotsAlike IsSameKind s.tasks u.tasks) where
   regions_back : SlotsAlike IsSameRegion u.regions s.regions
   regions_back = slots_back IsSameRegion region_back s.regions u.regions regions_alike
 
-  tasks_back : SlotsAlike IsSameTask u.tasks s.tasks
-  tasks_back = slots_back IsSameTask task_back s.tasks u.tasks tasks_alike
+  tasks_back : SlotsAlike IsSameKind u.tasks s.tasks
+  tasks_back = slots_back IsSameKind task_back s.tasks u.tasks tasks_alike
 
   waits_before : (i : ℕ) (k : Tid) → WaitsFor u i k → WaitsFor s i k
   waits_before = waits_after u s regions_back tasks_back
@@ -62,7 +65,7 @@ module _ (w : List ℕ) (s u : State) (owes : ℕ → Owed) (count : u.count ≡
   waits_now = waits_after s u regions_alike tasks_alike
 
   -- what is counted
-  tasks_counted : (f : ℕ → ℕ → Task → ℕ) → ((c k : ℕ) (t v : Task) → IsSameTask t v → f c k v ≡ f c k t)
+  tasks_counted : (f : ℕ → ℕ → Task → ℕ) → ((c k : ℕ) (t v : Task) → IsSameKind t v → f c k v ≡ f c k t)
       → sum_of_slots w u f ≡ sum_of_slots w s f
   tasks_counted f same =
       ap
@@ -145,12 +148,42 @@ module _ (w : List ℕ) (s u : State) (owes : ℕ → Owed) (count : u.count ≡
     none = λ nobody. same ∙ o.none (λ k waits. nobody k (waits_now i k waits));
   }
 
+  -- the counts of groups, where those for which threads raise are the same
+  pub groups_alike : (m n : Memory) → KeepsWords w m s owes
+      → ((c k index : ℕ) → n c tasks k (number TaskSlots) (COUNT_PLACE + index) ≡ m c tasks k (number TaskSlots) (COUNT_PLACE + index))
+      → ((j : ℕ) (q : Tid) → j < s.count → (owes j).counted ≡ Some q → group_of_new u q ≡ group_of_new s q)
+      → KeepsGroups w (λ c. n c tasks) u owes
+  groups_alike m n keeps same news =
+      groups_read w (λ c. m c tasks) (λ c. n c tasks) u owes
+      (λ k t index live few. same k.0.creator k.0.slot index)
+      (groups_counted w (λ c. m c tasks) s u owes owes count
+      (λ k v is. let (t, live, same) = task_before s u regions_alike tasks_alike k v is in (t, live))
+      (λ g.
+      let members : unfinished_members w u g ≡ unfinished_members w s g
+      = tasks_counted (λ c j x. one (is_unfinished x && is_some_group g x.group)) (λ c j x y alike. members_same g x y alike) in
+      let owed : sum_of_owed u owes (count_owed u g) ≡ sum_of_owed s owes (count_owed s g) =
+      ap (λ n. sum_below n (λ j. count_owed u g (owes j))) count
+      ∙ sum_same_within s.count (λ j. count_owed u g (owes j)) (λ j. count_owed s g (owes j))
+      (λ j known. ap₂ (λ a b. one (is_some_group g a) + one (is_some_group g b)) (new (owes j).counted (λ q is. news j q known is)) (own (owes j).uncounted)) in
+      omega (arith, members, owed))
+      keeps.groups.counted keeps.groups.uncounted keeps.groups)
+    where
+      new : (o : Option Tid) → ((q : Tid) → o ≡ Some q → group_of_new u q ≡ group_of_new s q)
+          → option_and_then (group_of_new u) o ≡ option_and_then (group_of_new s) o
+      new None same = refl
+      new (Some q) same = same q refl
+
+      own : (o : Option Tid) → option_and_then (group_of u) o ≡ option_and_then (group_of s) o
+      own None = refl
+      own (Some q) = group_of_same s u regions_alike tasks_alike q
+
   -- memories in which the same words stand for records in the making, deferred tasks and threads that are assigned
   module _ (m n : Memory) (keeps : KeepsWords w m s owes)
       (same_assign : (i : ℕ) → n i threads 0 (number ThreadAssign) 0 ≡ m i threads 0 (number ThreadAssign) 0)
       (region_lives : (i k : ℕ) → n i regions k (number RegionLife) 0 ≡ m i regions k (number RegionLife) 0)
       (task_lives : (i k : ℕ) → n i tasks k (number TaskLife) 0 ≡ m i tasks k (number TaskLife) 0)
-      (same_slots : (i k place : ℕ) → n i tasks k (number TaskSlots) place ≡ m i tasks k (number TaskSlots) place) where
+      (same_slots : (i k place : ℕ) → place < OWN_SLOTS → n i tasks k (number TaskSlots) place ≡ m i tasks k (number TaskSlots) place)
+      (groups : KeepsGroups w (λ c. n c tasks) u owes) where
     deferred_kept : KeepsDeferred w (λ c. n c tasks) u owes
     deferred_kept = record {
       once = λ k v is deferred.
@@ -176,14 +209,14 @@ module _ (w : List ℕ) (s u : State) (owes : ℕ → Owed) (count : u.count ≡
             (λ place. one (n c tasks j (number TaskSlots) place == code))
 
     -- and other words in the records of the objects that are live, which are their codes
-    pub other_states : KeepsRuntime w (n 0 runtime 0) u
+    pub states_alike : KeepsRuntime w (n 0 runtime 0) u
         → ((i : ℕ) → i < s.count → KeepsThread w i (n i threads 0) (u.threads i))
         →
         ((i k : ℕ) → i < s.count → k < per_thread w regions → (x : Region) → (u.regions i k).live ≡ Some x → KeepsRegion w s owes (region_in i k (s.regions i k)) (n i regions k) x)
         →
         ((i k : ℕ) → i < s.count → k < per_thread w tasks → (t : Task) → (u.tasks i k).live ≡ Some t → KeepsTask w s owes (task_in i k (s.tasks i k)) (n i tasks k) t)
         → KeepsWords w n u owes
-    other_states runtime_is threads_are regions_are tasks_are = record { runtime_record = runtime_is; made = λ i known. made i (subst (λ c. i < c) count known); deferred = deferred_kept }
+    states_alike runtime_is threads_are regions_are tasks_are = record { runtime_record = runtime_is; made = λ i known. made i (subst (λ c. i < c) count known); deferred = deferred_kept; groups = groups }
       where
         made : (i : ℕ) → i < s.count → KeepsMade w u owes i (n i)
         made i known =
@@ -199,7 +232,7 @@ module _ (w : List ℕ) (s u : State) (owes : ℕ → Owed) (count : u.count ≡
                     (region_kept (region_in i k (s.regions i k)) (n i regions k) x (regions_are i k known within x is));
               };
               tasks = λ k within. record {
-                life = life_alike IsSameTask (m i tasks k) (n i tasks k) TaskLife (s.tasks i k) (u.tasks i k) (has_slot k (owes i).tasks) (tasks_alike i k) (task_lives i k) (o.tasks k within).life;
+                life = life_alike IsSameKind (m i tasks k) (n i tasks k) TaskLife (s.tasks i k) (u.tasks i k) (has_slot k (owes i).tasks) (tasks_alike i k) (task_lives i k) (o.tasks k within).life;
                 live = λ t is.
                     subst (λ (q : Tid). KeepsTask w u owes q (n i tasks k) t) (ap (λ g. record { 0 = record { creator = i; slot = k; generation = g - 1 } }) (sym (tasks_alike i k).generations))
                     (task_kept (task_in i k (s.tasks i k)) (n i tasks k) t (tasks_are i k known within t is));
@@ -207,6 +240,28 @@ module _ (w : List ℕ) (s u : State) (owes : ℕ → Owed) (count : u.count ≡
               making = making_after s u regions_alike tasks_alike i (owes i) o.making;
               objects = objects_after s u regions_alike tasks_alike (owes i) o.objects;
             }
+
+-- with the same words for slots and groups, and as many open groups of each task
+module _ (w : List ℕ) (s u : State) (owes : ℕ → Owed) (count : u.count ≡ s.count)
+    (regions_alike : SlotsAlike IsSameRegion s.regions u.regions)
+    (tasks_alike : SlotsAlike IsSameTask s.tasks u.tasks) (m n : Memory) (keeps : KeepsWords w m s owes)
+    (same_assign : (i : ℕ) → n i threads 0 (number ThreadAssign) 0 ≡ m i threads 0 (number ThreadAssign) 0)
+    (region_lives : (i k : ℕ) → n i regions k (number RegionLife) 0 ≡ m i regions k (number RegionLife) 0)
+    (task_lives : (i k : ℕ) → n i tasks k (number TaskLife) 0 ≡ m i tasks k (number TaskLife) 0)
+    (same_slots : (i k place : ℕ) → n i tasks k (number TaskSlots) place ≡ m i tasks k (number TaskSlots) place) where
+  pub other_states : KeepsRuntime w (n 0 runtime 0) u
+      → ((i : ℕ) → i < s.count → KeepsThread w i (n i threads 0) (u.threads i))
+      →
+      ((i k : ℕ) → i < s.count → k < per_thread w regions → (x : Region) → (u.regions i k).live ≡ Some x → KeepsRegion w s owes (region_in i k (s.regions i k)) (n i regions k) x)
+      →
+      ((i k : ℕ) → i < s.count → k < per_thread w tasks → (t : Task) → (u.tasks i k).live ≡ Some t → KeepsTask w s owes (task_in i k (s.tasks i k)) (n i tasks k) t)
+      → KeepsWords w n u owes
+  other_states =
+      states_alike w s u owes count regions_alike (kinds_of s.tasks u.tasks tasks_alike) m n keeps same_assign region_lives task_lives
+      (λ i k place _. same_slots i k place)
+      (groups_alike w s u owes count regions_alike (kinds_of s.tasks u.tasks tasks_alike) m n keeps
+      (λ c k index. same_slots c k (COUNT_PLACE + index))
+      (λ _ q _ _. group_of_new_same s u tasks_alike q))
 
 -- a task of the same kind counts the same
 pub counts_as : (w : List ℕ) (s : State) (owes : ℕ → Owed) (k : Tid) (r : Rec) (t u : Task) → u.implicit ≡ t.implicit
@@ -219,14 +274,14 @@ counts_as w s owes k r t u same own o = record {
 }
 
 -- a task that goes on as what it is refers to itself as it did
-pub own_same : (t u : Task) → IsSameTask t u → own_reference u ≡ own_reference t
+pub own_same : (t u : Task) → IsSameKind t u → own_reference u ≡ own_reference t
 own_same t u same =
     ap₂ (λ i p. one (not i && not (is_finished p))) same.implicit same.progress
 
 -- a task that is another, and whose record has other words than its counts and slots
 pub task_rewritten : (w : List ℕ) (s : State) (owes : ℕ → Owed) (k : Tid) (r q : Rec) (t u : Task)
-    → IsSameTask t u
-    → q (number TaskChildren) 0 ≡ r (number TaskChildren) 0 → q (number TaskReferences) 0 ≡ r (number TaskReferences) 0 → ((place : ℕ) → q (number TaskSlots) place ≡ r (number TaskSlots) place)
+    → IsSameKind t u
+    → q (number TaskChildren) 0 ≡ r (number TaskChildren) 0 → q (number TaskReferences) 0 ≡ r (number TaskReferences) 0 → ((place : ℕ) → place < OWN_SLOTS → q (number TaskSlots) place ≡ r (number TaskSlots) place)
     → (KeepsEnvironment w r t → KeepsEnvironment w q u) → (KeepsPlace w r t → KeepsPlace w q u) → KeepsTask w s owes k r t → KeepsTask w s owes k q u
 task_rewritten w s owes k r q t u same children references slots environment place o = record {
   environment = environment o.environment;
@@ -238,13 +293,13 @@ task_rewritten w s owes k r q t u same children references slots environment pla
         references = references ∙ was.references;
         given = was.given ∙ ap (λ x. one (is_explicit u && x == 0)) (sym references);
       };
-  slots = λ implicit at within. slot at (o.slots (sym same.implicit ∙ implicit) at within);
+  slots = λ implicit at within. slot at within (o.slots (sym same.implicit ∙ implicit) at within);
 }
   where
-    slot : (at : ℕ)
+    slot : (at : ℕ) → at < OWN_SLOTS
         → Has r TaskSlots at 0 ⊎ ((j : Tid) × IsDeferredIn s t at j × Has r TaskSlots at (slot_word w j))
         → Has q TaskSlots at 0 ⊎ ((j : Tid) × IsDeferredIn s u at j × Has q TaskSlots at (slot_word w j))
-    slot at (inl none) = inl (slots at ∙ none)
-    slot at (inr (j, x, is)) =
+    slot at within (inl none) = inl (slots at within ∙ none)
+    slot at within (inr (j, x, is)) =
         inr
-        (j, record { task = x.task; live = x.live; progress = x.progress; region = x.region ∙ sym same.region; place_is = x.place_is; maker = x.maker ∙ sym same.thread }, slots at ∙ is)
+        (j, record { task = x.task; live = x.live; progress = x.progress; region = x.region ∙ sym same.region; place_is = x.place_is; maker = x.maker ∙ sym same.thread }, slots at within ∙ is)

@@ -22,9 +22,11 @@ use Rattle.omi_rule_words.specs.CountKinds.{PendingAddsKeep, PendingSubtractsKee
 use Rattle.omi_rule_words.proofs.OtherCounts.{MakesAlike, OwesAlikeOn, counts_same, is_other_id, is_own_id, name_of_slot, other_counts, owed_put, owed_put_same, region_counted, task_counted}
 use Rattle.omi_rule_words.proofs.OwedTasks.{nothing_on_live}
 use Rattle.omi_rule_words.proofs.Sums.{part_below}
+use Rattle.omi_rule_words.proofs.GroupCounts.{OnGroupsAlike, groups_put}
 
 module _ (w : List ℕ) (m : Memory) (s : State) (owes : ℕ → Owed) (i : ℕ) (p : Owed) (n : Rid) (word : ℕ)
-    (keeps : KeepsWords w m s owes) (known : i < s.count) (alike : MakesAlike p (owes i)) where
+    (keeps : KeepsWords w m s owes) (known : i < s.count) (alike : MakesAlike p (owes i))
+    (on_groups : OnGroupsAlike p (owes i)) where
   abbrev after : Memory
   after = with_region_word m n RegionPending word
 
@@ -45,13 +47,14 @@ module _ (w : List ℕ) (m : Memory) (s : State) (owes : ℕ → Owed) (i : ℕ)
       other_counts w m after s owes i p keeps alike (λ c kind j ne _. stays c kind j ne)
       (λ c j. word_stays m n.0.creator regions n.0.slot (number RegionPending) 0 word c regions j (number RegionLife) 0 (λ _ _ _ is _. absurd (omega (arith, is))))
       (λ c j. ap (λ (r : Rec). r (number TaskLife) 0) (stays c tasks j (λ kind. absurd (omega (arith, kind)))))
-      (λ c j at. ap (λ (r : Rec). r (number TaskSlots) at) (stays c tasks j (λ kind. absurd (omega (arith, kind)))))
+      (λ c j at _. ap (λ (r : Rec). r (number TaskSlots) at) (stays c tasks j (λ kind. absurd (omega (arith, kind)))))
+      (groups_put w m after s owes i p keeps on_groups (λ c j at. ap (λ (r : Rec). r (number TaskSlots) at) (stays c tasks j (λ kind. absurd (omega (arith, kind))))))
       objects
       (λ c j within _ x there o. in_record c j x o (cases_eq c n.0.creator) (cases_eq j n.0.slot))
       (λ c j within _ t there o.
       let same = stays c tasks j (λ kind. absurd (omega (arith, kind))) in
       task_counted w m after s owes i p keeps alike (task_in c j (s.tasks c j)) (m c tasks j)
-      (after c tasks j) t (λ g at _ _. ap (λ (r : Rec). r (number g) at) same)
+      (after c tasks j) t (λ g at _ _ _. ap (λ (r : Rec). r (number g) at) same)
       (counts_same w m after s owes i p keeps alike (task_in c j (s.tasks c j)) (m c tasks j) (after c tasks j) t (ap (λ (r : Rec). r (number TaskChildren) 0) same)
       (ap (λ (r : Rec). r (number TaskReferences) 0) same) (children (task_in c j (s.tasks c j)))) o)
     where
@@ -126,6 +129,7 @@ pending_adds_keep =
         let (region, is) = live_of (region_of s n) live in
         pending_stored w m s owes i p n (one_more (word_of_region m n RegionPending)) keeps known
         (record { region = refl; tasks = refl; left = refl; assigns = refl; met = refl; hand = refl })
+        (record { counted = refl; uncounted = refl; raised = λ k _ is. is; own = λ k _ is. is })
         region is (λ k. record { children = refl; references = refl; gives = refl })
         (λ q apart.
         let unowed : pending_owed q (owes i) ≡ 0 = ap (λ (o : Option Rid). one (is_some_region q o)) none in
@@ -161,6 +165,7 @@ pending_subtracts_keep = λ w m s owes i n keeps known owed small. kept w m s ow
         live_of (region_of s n) ((keeps.made i known).objects.pending n (ap (λ (o : Owed). o.pending) owed)) in
         pending_stored w m s owes i nothing n (one_less (word_of_region m n RegionPending)) keeps known
         (subst (λ (o : Owed). MakesAlike nothing o) (sym owed) (record { region = refl; tasks = refl; left = refl; assigns = refl; met = refl; hand = refl }))
+        (subst (λ (o : Owed). OnGroupsAlike nothing o) (sym owed) (record { counted = refl; uncounted = refl; raised = λ k none. absurd (cc); own = λ k none. absurd (cc) }))
         region is
         (λ k. subst (λ (o : Owed). OwesAlikeOn s k nothing o) (sym owed) (record { children = refl; references = refl; gives = refl }))
         (λ q apart. sym (ap (pending_owed q) owed ∙ ap one (is_other_id q.0 n.0 apart)))

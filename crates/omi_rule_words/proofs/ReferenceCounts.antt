@@ -34,6 +34,8 @@ pub record OwesOnce (s : State) (o : Owed) (n : Rid) (k : Tid) : Type 0 where
   assigns : o.assigns ≡ nothing.assigns
   met : o.met ≡ false
   hand : o.hand ≡ None
+  counted : o.counted ≡ None
+  uncounted : o.uncounted ≡ None
   pending : o.pending ≡ Some n
   once : references_owed k o ≡ 1
   apart : (q : Tid) → (q.0.creator ≡ k.0.creator → q.0.slot ≡ k.0.slot → ⊥) → references_owed q o ≡ 0
@@ -131,7 +133,8 @@ module _ (w : List ℕ) (m : Memory) (s : State) (owes : ℕ → Owed) (i : ℕ)
         assigns = sym owed.assigns;
         met = sym owed.met;
         hand = sym owed.hand;
-      }) live
+      })
+      (record { counted = sym owed.counted; uncounted = sym owed.uncounted; raised = λ q none. absurd (cc); own = λ q none. absurd (cc) }) live
       (λ q. sym (ap (λ o. one (is_some_region q o)) owed.pending))
       (λ q apart. record {
         children = sym (owed.children q);
@@ -176,6 +179,8 @@ own_subtracts_keep =
           assigns = refl;
           met = refl;
           hand = refl;
+          counted = refl;
+          uncounted = refl;
           pending = refl;
           once = let own = on_own k (Some k) refl in omega (arith, own);
           apart = λ q apart. let none = on_other q k (Some k) refl apart in omega (arith, none);
@@ -226,6 +231,8 @@ returned_subtracts_keep =
           assigns = refl;
           met = refl;
           hand = refl;
+          counted = refl;
+          uncounted = refl;
           pending = refl;
           once = let own : one (is_at k at) ≡ 1 = ap one there in omega (arith, own);
           apart = λ q apart. let none : one (is_at q at) ≡ 0 = ap one (beside q apart) in omega (arith, none);

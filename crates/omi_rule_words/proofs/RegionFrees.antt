@@ -29,6 +29,7 @@ use Rattle.omi_rule_words.proofs.CountedRegions.{region_counted}
 use Rattle.omi_rule_words.proofs.EachPlace.{each_place}
 use Rattle.omi_rule_words.proofs.GoneSlots as slots
 use Rattle.omi_rule_words.proofs.PendingWords.{live_of}
+use Rattle.omi_rule_words.specs.Groups.{KeepsGroups}
 
 module _ (w : List ℕ) (m : Memory) (s : State) (owes : ℕ → Owed) (n : Rid) (old : Region)
     (keeps : KeepsWords w m s owes) (live : region_of s n ≡ Some old)
@@ -206,6 +207,9 @@ module _ (w : List ℕ) (m : Memory) (s : State) (owes : ℕ → Owed) (n : Rid)
     deferred =
         subst (λ (r : ℕ → ℕ → Rec). KeepsDeferred w r after owes) (sym tasks_same)
         (record { once = keeps.deferred.once; hands = keeps.deferred.hands });
+    groups =
+        subst (λ (r : ℕ → ℕ → Rec). KeepsGroups w r after owes) (sym tasks_same)
+        (record { counts = keeps.groups.counts; counted = keeps.groups.counted; uncounted = keeps.groups.uncounted });
   }
     where
       tasks_same : ◌≡◌ {A = ℕ → ℕ → Rec} (λ c. emptied_memory c tasks) (λ c. m c tasks)

@@ -17,7 +17,9 @@ use Rattle.omi_rule_words.specs.Threads.{KeepsAssign, KeepsRuntime, KeepsThread,
 use Rattle.omi_rule_words.specs.Objects.{KeepsDeferred, KeepsLife}
 use Rattle.omi_rule_words.specs.Words.{IsInTheMaking, KeepsMade, KeepsMaking, KeepsRegionSlot, KeepsTaskSlot, KeepsWords}
 use Rattle.omi_rule_words.specs.Kinds.{RegionTakesKeep}
-use Rattle.omi_rule_words.proofs.OtherOwes.{OwesAlike, owes_alike, assign_owed_same, deferred_owed, objects_owed, region_owed, task_owed}
+use Rattle.omi_rule_words.proofs.OtherOwes.{OwesAlike, owes_alike, assign_owed_same, deferred_owed, objects_owed, region_owed, task_owed, alike_on_groups}
+use Rattle.omi_rule_words.specs.Groups.{KeepsGroups}
+use Rattle.omi_rule_words.proofs.GroupCounts.{groups_owed}
 
 module _ (w : List ℕ) (m : Memory) (s : State) (owes : ℕ → Owed) (i : ℕ) (n : Rid)
     (keeps : KeepsWords w m s owes) (none : (owes i).region ≡ None)
@@ -42,7 +44,7 @@ module _ (w : List ℕ) (m : Memory) (s : State) (owes : ℕ → Owed) (i : ℕ)
   alike : (j : ℕ) → OwesAlike (other j) (owes j)
   alike j =
       each_put (λ k (x : Owed). OwesAlike x (owes k)) owes i p
-      (record { pending = refl; raised = refl; lowered = refl; referred = refl; own = refl; returned = refl; gives = refl; left = refl; hand = refl }) j
+      (record { pending = refl; raised = refl; lowered = refl; referred = refl; own = refl; returned = refl; gives = refl; left = refl; hand = refl; counted = refl; uncounted = refl }) j
       (λ _. owes_alike (owes j))
 
   assigns : (j : ℕ) → (other j).assigns ≡ (owes j).assigns
@@ -144,6 +146,9 @@ module _ (w : List ℕ) (m : Memory) (s : State) (owes : ℕ → Owed) (i : ℕ)
     runtime_record = subst (λ (r : Rec). KeepsRuntime w r s) (sym (stays 0 runtime 0 (λ kind. absurd (omega (arith, kind))))) keeps.runtime_record;
     made = made;
     deferred = subst (λ (r : ℕ → ℕ → Rec). KeepsDeferred w r s other) (sym tasks_same) (deferred_owed w s owes other alike (λ c. m c tasks) keeps.deferred);
+    groups =
+        subst (λ (r : ℕ → ℕ → Rec). KeepsGroups w r s other) (sym tasks_same)
+        (groups_owed w (λ c. m c tasks) s owes other (λ j. alike_on_groups (other j) (owes j) (alike j)) keeps.groups);
   }
 
 pub region_takes_keep : RegionTakesKeep

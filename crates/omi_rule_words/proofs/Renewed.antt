@@ -17,6 +17,7 @@ use Rattle.omi_model.specs.declared.slot.Slot.{Slot}
 use Rattle.omi_model.specs.declared.task.Task.{Task}
 use Rattle.omi_model.specs.Put.{Slots, found}
 use Rattle.omi_model.specs.State.{State, region_of, task_of}
+use Rattle.omi_model.specs.Groups.{group_within}
 use Rattle.omi_numbers.specs.declared.limits.TheConstants.{OWN_SLOTS}
 use Rattle.omi_layout.specs.declared.field.Field.{Field}
 use Rattle.omi_layout.specs.declared.field.Field.TheVariants.{RegionLeft, RegionLife, RegionPending, TaskLife, TaskSlots}
@@ -34,6 +35,8 @@ use Rattle.omi_rule_words.specs.Words.{AreApart, HasFinished, IsInTheMaking, Kee
 use Rattle.omi_rule_words.proofs.OwedTasks.{OwesTasksAlike, owed_on_tasks, references_alike}
 use Rattle.omi_rule_words.proofs.StoredCodes.{region_apart}
 use Rattle.omi_rule_words.proofs.Sums.{sum_same}
+use Rattle.omi_rule_words.proofs.GroupCounts.{count_alike, count_same, groups_counted}
+use Rattle.omi_rule_words.specs.Groups.{KeepsGroups, count_owed, group_of, group_of_new, is_some_group, unfinished_members}
 
 -- ---- slots whose objects become others
 
@@ -233,10 +236,12 @@ pub record OwesSame (p o : Owed) : Type 0 where
   pub gives : p.gives ≡ o.gives
   pub lowered : p.lowered ≡ o.lowered
   pub hand : p.hand ≡ o.hand
+  pub counted : p.counted ≡ o.counted
+  pub uncounted : p.uncounted ≡ o.uncounted
 
 pub owes_same : (o : Owed) → OwesSame o o
 owes_same o =
-    record { region = refl; tasks = refl; pending = refl; raised = refl; lowered = refl; referred = refl; own = refl; returned = refl; gives = refl; hand = refl }
+    record { region = refl; tasks = refl; pending = refl; raised = refl; lowered = refl; referred = refl; own = refl; returned = refl; gives = refl; hand = refl; counted = refl; uncounted = refl }
 
 same_on_tasks : (p o : Owed) → OwesSame p o → OwesTasksAlike p o
 same_on_tasks p o alike =
@@ -280,6 +285,16 @@ module _ (w : List ℕ) (m n : Memory) (s : State) (rs : Slots Region) (ts : Slo
   generating_same : (k : Tid) → generating_of after k ≡ generating_of s k
   generating_same k =
       found_part TaskRenews (λ t. t.generating) (λ t u r. ap (λ (x : Task). x.generating) r.is) k.0.generation
+      (s.tasks k.0.creator k.0.slot) (ts k.0.creator k.0.slot) (task_slots k.0.creator k.0.slot)
+
+  group_same : (k : Tid) → group_of after k ≡ group_of s k
+  group_same k =
+      found_part TaskRenews (λ t. t.group) (λ t u r. ap (λ (x : Task). x.group) r.is) k.0.generation
+      (s.tasks k.0.creator k.0.slot) (ts k.0.creator k.0.slot) (task_slots k.0.creator k.0.slot)
+
+  new_group_same : (k : Tid) → group_of_new after k ≡ group_of_new s k
+  new_group_same k =
+      found_part TaskRenews (group_within k) (λ t u r. ap (λ (x : Task). group_within k x) r.is) k.0.generation
       (s.tasks k.0.creator k.0.slot) (ts k.0.creator k.0.slot) (task_slots k.0.creator k.0.slot)
 
   finished_after : (k : Tid) → HasFinished s k → HasFinished after k
@@ -496,6 +511,21 @@ module _ (w : List ℕ) (m n : Memory) (s : State) (rs : Slots Region) (ts : Slo
         (u, now, deferred_after t u related deferred);
   }
 
+  groups_kept : KeepsGroups w (λ c. m c tasks) after other
+  groups_kept =
+      groups_counted w (λ c. m c tasks) s after owes other refl
+      (λ k u is. let (t, live, related) = task_before k u is in (t, live))
+      (λ g.
+      let members : unfinished_members w after g ≡ unfinished_members w s g
+      = tasks_counted (λ c j x. one (is_unfinished x && is_some_group g x.group))
+      (λ c j x y a. ap₂ (λ p q. one (p && is_some_group g q)) (unfinished_same x y a) (ap (λ (z : Task). z.group) a.is)) in
+      let owed =
+      owed_same (count_owed after g) (count_owed s g)
+      (λ j. count_alike after g (other j) (owes j) (alike j).counted (alike j).uncounted ∙ count_same s after g (owes j) new_group_same group_same) in
+      omega (arith, members, owed))
+      (λ i k known is. (alike i).raised ∙ keeps.groups.counted i k known (sym (alike i).counted ∙ is))
+      (λ i k known is. (alike i).own ∙ keeps.groups.uncounted i k known (sym (alike i).uncounted ∙ is)) keeps.groups
+
   -- where the records of the runtime, of threads and of tasks are the same, and of regions all words but for members that have left
   pub renewed : n 0 runtime 0 ≡ m 0 runtime 0 → ((c : ℕ) → n c threads 0 ≡ m c threads 0)
       → ((c k : ℕ) → n c tasks k ≡ m c tasks k)
@@ -521,6 +551,7 @@ module _ (w : List ℕ) (m n : Memory) (s : State) (rs : Slots Region) (ts : Slo
           objects = objects_kept j (left j known) (assigns j known) o.objects;
         };
     deferred = subst (λ (r : ℕ → ℕ → Rec). KeepsDeferred w r after other) (sym same) (deferred_kept (λ c. m c tasks) keeps.deferred);
+    groups = subst (λ (r : ℕ → ℕ → Rec). KeepsGroups w r after other) (sym same) groups_kept;
   }
     where
       same : ◌≡◌ {A = ℕ → ℕ → Rec} (λ c. n c tasks) (λ c. m c tasks)

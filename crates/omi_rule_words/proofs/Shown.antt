@@ -17,11 +17,12 @@ use Rattle.omi_layout.specs.Memory.{Rec, Memory, memory_of, word_address}
 use Rattle.omi_layout.specs.Named.{number}
 use Rattle.omi_layout.specs.Place.{image_words, IsSlot}
 use Rattle.omi_word.specs.Words.{Words, words_of}
-use Rattle.omi_layout.specs.Table.{thread_count, per_thread}
+use Rattle.omi_layout.specs.Table.{thread_count, per_thread, version}
 use Rattle.omi_layout.specs.Valid.{IsValid}
 use Rattle.omi_layout.proofs.Numbers.{numbered_field}
 use Rattle.omi_layout.proofs.Stored.{mapped}
 use Rattle.omi_layout.proofs.Tables.{tables_give}
+use Rattle.omi_layout.specs.declared.limits.TheConstants.{GROUP_VERSION}
 use Rattle.omi_rep.specs.Codes.{region_code, region_told, runtime_told, shown, shown_unbegun, task_code, task_told, thread_code, thread_told}
 use Rattle.omi_rep.specs.Records.{records_of}
 use Rattle.omi_rep.specs.Shows.{CodesStand, IsWithin, RecordsShow, Shows, ShowsSlot, Stands}
@@ -42,7 +43,7 @@ found_generations {A} g slot x e = go (slot.generations == g + 1) refl e
     go true is h = eqb-true slot.generations (g + 1) is
     go false is h = absurd (cc)
 
-module _ (w words : List ℕ) (s : State) (owes : ℕ → Owed) (v : IsValid w)
+module _ (w words : List ℕ) (s : State) (owes : ℕ → Owed) (v : IsValid w) (grouped : version w ≡ GROUP_VERSION)
     (count : length words ≡ image_words w) (tables : HasTables w words) (within : IsWithin w s)
     (keeps : KeepsWords w (memory_of w words) s owes) where
   abbrev g : Words
@@ -156,8 +157,13 @@ module _ (w words : List ℕ) (s : State) (owes : ℕ → Owed) (v : IsValid w)
   }
 
   kept_shown : Shows w g s
-  kept_shown = record { layout = tables_give w words v tables; within = within; records = records_shown }
+  kept_shown = record {
+    layout = tables_give w words v tables;
+    within = within;
+    groups = λ first k t live. absurd (omega (arith, first, grouped));
+    records = records_shown;
+  }
 
 pub kept_words_show : KeptWordsShow
 kept_words_show =
-    λ w words s owes v count tables within keeps. kept_shown w words s owes v count tables within keeps
+    λ w words s owes v grouped count tables within keeps. kept_shown w words s owes v grouped count tables within keeps

@@ -1,5 +1,5 @@
 -- A word of a row's slots is stored, and the hand of one thread changes: a deferred task goes from a slot to a hand, or from a hand to a slot.
-use Rattle.std.proofs.Common.{◌≡◌, ◌≢◌, ◌==◌, ◌&&◌, ◌+◌, ◌<◌, ℕ, true, inl, inr, List, Option, Some, refl, sym, ap, subst, ◌∙◌, arith, ne_eqb}
+use Rattle.std.proofs.Common.{◌≡◌, ◌≢◌, ◌==◌, ◌&&◌, ◌+◌, ◌<◌, ℕ, true, inl, inr, List, Option, Some, refl, sym, ap, subst, ◌∙◌, arith, ne_eqb, ◌≤◌}
 use Rattle.std.specs.Prelude.{◌⊎◌}
 use Rattle.std.proofs.lemmas.Bool.{cases_eq}
 use Rattle.omi_rep.specs.Codes.{task_told}
@@ -17,6 +17,8 @@ use Rattle.omi_layout.specs.Named.{number}
 use Rattle.omi_layout.specs.Table.{per_thread}
 use Rattle.omi_layout.specs.Valid.{IsValid}
 use Rattle.omi_layout.proofs.Puts.{each_put, record_stays, word_read, word_stays}
+use Rattle.omi_layout.specs.declared.limits.TheConstants.{COUNT_PLACE}
+use Rattle.omi_layout.specs.declared.field.Field.{Field}
 use Rattle.omi_rep.specs.Shows.{IsWithin}
 use Rattle.omi_rule_words.specs.Owes.{Owed, nothing}
 use Rattle.omi_rule_words.specs.Counts.{has_slot, is_explicit, is_task, one, start_owed}
@@ -32,6 +34,7 @@ use Rattle.omi_rule_words.proofs.Hands.{made_rehanded, one_hand}
 use Rattle.omi_rule_words.proofs.OtherCounts.{owed_put}
 use Rattle.omi_rule_words.proofs.SlotSums.{slots_changed}
 use Rattle.omi_rule_words.proofs.StoredCodes.{task_apart}
+use Rattle.omi_rule_words.proofs.GroupCounts.{OnGroupsAlike, groups_owed, groups_read, on_groups_alike}
 
 module _ (w : List ℕ) (m : Memory) (s : State) (owes : ℕ → Owed) (i : ℕ) (hand : Option Tid) (row : Tid)
     (u : Task) (place word : ℕ) (keeps : KeepsWords w m s owes)
@@ -55,6 +58,13 @@ module _ (w : List ℕ) (m : Memory) (s : State) (owes : ℕ → Owed) (i : ℕ)
       word_stays m row.0.creator tasks row.0.slot (number TaskSlots) place word c tasks j g at
       (λ _ _ _ same _. ne same)
 
+  -- a word behind the slots, and one of another field
+  told_word : (g : Field) (at : ℕ) → (number g ≡ number TaskSlots → OWN_SLOTS ≤ at)
+      → after row.0.creator tasks row.0.slot (number g) at ≡ m row.0.creator tasks row.0.slot (number g) at
+  told_word g at behind =
+      word_stays m row.0.creator tasks row.0.slot (number TaskSlots) place word row.0.creator tasks row.0.slot (number g) at
+      (λ _ _ _ field same. let least = behind field in absurd (omega (arith, least, inside, same)))
+
   there : (s.tasks row.0.creator row.0.slot).live ≡ Some u
   there = found_live row.0.generation (s.tasks row.0.creator row.0.slot) u live
 
@@ -63,8 +73,8 @@ module _ (w : List ℕ) (m : Memory) (s : State) (owes : ℕ → Owed) (i : ℕ)
       → KeepsTask w s owes (task_in row.0.creator row.0.slot (s.tasks row.0.creator row.0.slot))
       (after row.0.creator tasks row.0.slot) u
   row_kept o = record {
-    environment = λ g at x none told. other_word (number g) (task_apart w (task_told u) g at x told).1 row.0.creator row.0.slot at ∙ o.environment g at x none told;
-    place = λ has g at x is told. other_word (number g) (task_apart w (task_told u) g at x told).1 row.0.creator row.0.slot at ∙ o.place has g at x is told;
+    environment = λ g at x none told. told_word g at (task_apart w (task_told u) g at x told).slots ∙ o.environment g at x none told;
+    place = λ has g at x is told. told_word g at (task_apart w (task_told u) g at x told).slots ∙ o.place has g at x is told;
     counts = record {
       children = other_word (number TaskChildren) (λ is. omega (arith, is)) row.0.creator row.0.slot 0 ∙ o.counts.children;
       references = other_word (number TaskReferences) (λ is. omega (arith, is)) row.0.creator row.0.slot 0 ∙ o.counts.references;
@@ -151,6 +161,12 @@ module _ (w : List ℕ) (m : Memory) (s : State) (owes : ℕ → Owed) (i : ℕ)
           (λ _. held q)
           j (λ _ there. keeps.deferred.hands j q there) below;
     };
+    groups =
+        groups_read w (λ c. m c tasks) (λ c. after c tasks) s (replace_at owes i p)
+        (λ k t index there few. word_stays m row.0.creator tasks row.0.slot (number TaskSlots) place word k.0.creator tasks k.0.slot (number TaskSlots) (COUNT_PLACE + index)
+        (λ _ _ _ _ same. absurd (omega (arith, inside, same))))
+        (groups_owed w (λ c. m c tasks) s owes (replace_at owes i p)
+        (λ j. each_put (λ c (o : Owed). OnGroupsAlike o (owes c)) owes i p (record { counted = refl; uncounted = refl; raised = λ k _ is. is; own = λ k _ is. is }) j (λ _. on_groups_alike (owes j))) keeps.groups);
   }
 
 pub slot_takes_keep : SlotTakesKeep

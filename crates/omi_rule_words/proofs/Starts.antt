@@ -31,6 +31,7 @@ use Rattle.omi_rule_words.proofs.StoredCodes.{environment_placed}
 use Rattle.omi_rule_words.proofs.SlotSums.{slot_counted}
 use Rattle.omi_rule_words.proofs.Sums.{part_below, parts_below}
 use Rattle.omi_rule_words.proofs.TaskMoves.{GoesTo, TeamsAlike, task_moved, tasks_counted}
+use Rattle.omi_rule_words.specs.Groups.{count_owed, is_some_group, unfinished_members}
 
 -- a name that is another's is not compared as the same
 pub other_name : (q k : Tid) → (q.0 ≡ k.0 → ⊥) → is_some_task q (Some k) ≡ false
@@ -65,6 +66,8 @@ module _ (w : List ℕ) (m : Memory) (s : State) (owes : ℕ → Owed) (i : ℕ)
     implicit = refl;
     region = refl;
     generating = refl;
+    group = refl;
+    open_groups = refl;
     unmet = λ is. let was = ready.1.progress in absurd (cc);
     unfinished = λ is. let was = ready.1.progress in absurd (cc);
     started = λ is. absurd (cc);
@@ -130,7 +133,16 @@ module _ (w : List ℕ) (m : Memory) (s : State) (owes : ℕ → Owed) (i : ℕ)
       let owed_same =
       owed_put_same s owes i nothing (children_owed s q) (sym (ap (children_owed s q) owed)) in
       omega (arith, same, owed_same))
-      unslotted environment
+      unslotted
+      (λ x.
+      let same : unfinished_members w after x ≡ unfinished_members w s x =
+      tasks_counted w s task new g live goes (λ _ _ y. one (is_unfinished y && is_some_group x y.group))
+      (ap (λ b. one (b && is_some_group x new.group)) unfinished_same) in
+      let owed_same =
+      owed_put_same s owes i nothing (count_owed s x) (sym (ap (count_owed s x) owed)) in
+      omega (arith, same, owed_same))
+      (λ q none. absurd (cc))
+      (λ q none. absurd (cc)) environment
       (λ _. ready.2)
       (nothing_on_live after)
       refl

@@ -1,16 +1,21 @@
 -- A record has its codes after a store: of a field of another part of the object, or of one that an object alone doesn't tell.
-use Rattle.std.proofs.Common.{◌≡◌, ◌≢◌, ◌==◌, ℕ, zero, suc, Bool, true, false, List, [], ◌∷◌, Option, Some, refl, ap, ◌∙◌, arith}
+use Rattle.std.proofs.Common.{◌≡◌, ◌≢◌, ◌==◌, ℕ, zero, suc, Bool, true, false, List, [], ◌∷◌, Option, Some, refl, ap, ◌∙◌, arith, ◌<◌, ◌≤◌, None, nat_lt, if◌then◌else◌, eqb-true, inl, inr}
+use Rattle.std.specs.Prelude.{◌⊎◌}
 use Rattle.std.specs.List.{list_any}
 use Rattle.omi_numbers.specs.Words.{flag, state_word}
+use Rattle.omi_numbers.specs.declared.limits.TheConstants.{OWN_SLOTS}
 use Rattle.omi_model.specs.declared.claim.Claim.{Claim}
 use Rattle.omi_model.specs.declared.id.Tid.{Tid}
 use Rattle.omi_model.specs.declared.task.Task.{Task}
+use Rattle.omi_model.proofs.Slots.{some_same}
 use Rattle.omi_layout.specs.declared.field.Field.{Field}
 use Rattle.omi_layout.specs.declared.field.Field.TheVariants.{RegionLeft, RegionPending, TaskChildren, TaskEnter, TaskExit, TaskNumber, TaskScheduling, TaskSlots, TaskThread, ThreadAssign, ThreadClaim, ThreadCurrent, ThreadLife, ThreadState, TaskReferences}
 use Rattle.omi_layout.specs.Memory.{Rec, with_word_in}
 use Rattle.omi_layout.specs.Named.{number}
-use Rattle.omi_rep.specs.Codes.{HasCodes, RegionWords, TaskWords, ThreadWords, claim_word, is_place, region_code, task_code, task_told, thread_code}
-use Rattle.omi_rep.specs.Records.{task_word}
+use Rattle.omi_layout.specs.declared.limits.TheConstants.{COUNT_PLACE, GROUP_PLACE, OPEN_PLACE}
+use Rattle.omi_layout.specs.Table.{width}
+use Rattle.omi_rep.specs.Codes.{HasCodes, RegionWords, TaskWords, ThreadWords, claim_word, is_place, region_code, task_code, task_told, thread_code, group_code}
+use Rattle.omi_rep.specs.Records.{task_word, group_word}
 use Rattle.omi_rep.proofs.Codes.{same_word}
 use Rattle.omi_rule_words.specs.Objects.{KeepsEnvironment, KeepsPlace}
 
@@ -54,14 +59,45 @@ region_apart w r RegionPending at word is = absurd (cc)
 region_apart w r RegionLeft at word is = absurd (cc)
 region_apart w r f at word is = (λ e. absurd (omega (arith, e)), λ e. absurd (omega (arith, e)))
 
--- nor a task the counts and the slots of its
-pub task_apart : (w : List ℕ) (t : TaskWords) (f : Field) (at word : ℕ) → task_code w t f at ≡ Some word
-    → (number f ≢ number TaskChildren) × (number f ≢ number TaskSlots) × (number f ≢ number TaskReferences)
+-- a task tells two words of its last field: its group's, and the number of its open groups
+pub group_told : (w : List ℕ) (t : TaskWords) (at word : ℕ) → task_code w t TaskSlots at ≡ Some word
+    → ((at ≡ GROUP_PLACE) × (group_word w t.group ≡ word)) ⊎ ((at ≡ OPEN_PLACE) × (t.open_groups ≡ word))
+group_told w t at word is = go (nat_lt at (width w (number TaskSlots))) is
+  where
+    places : (b c : Bool) → at == GROUP_PLACE ≡ b → at == OPEN_PLACE ≡ c
+        → (if b then Some (group_word w t.group) else (if c then Some t.open_groups else None)) ≡ Some word
+        → ((at ≡ GROUP_PLACE) × (group_word w t.group ≡ word)) ⊎ ((at ≡ OPEN_PLACE) × (t.open_groups ≡ word))
+    places true c first second some = inl (eqb-true at GROUP_PLACE first, some_same refl some)
+    places false true first second some = inr (eqb-true at OPEN_PLACE second, some_same refl some)
+    places false false first second none = absurd (cc)
+
+    go : (b : Bool) → (if b then group_code w t at else None) ≡ Some word
+        → ((at ≡ GROUP_PLACE) × (group_word w t.group ≡ word)) ⊎ ((at ≡ OPEN_PLACE) × (t.open_groups ≡ word))
+    go true some = places (at == GROUP_PLACE) (at == OPEN_PLACE) refl refl some
+    go false none = absurd (cc)
+
+-- nor a task the counts of its: of children, of references, and of groups. Of the words of its last field it tells the two between the slots
+-- and these counts
+pub record IsTold (f : Field) (at : ℕ) : Type 0 where
+  pub children : number f ≢ number TaskChildren
+  pub references : number f ≢ number TaskReferences
+  pub slots : number f ≡ number TaskSlots → OWN_SLOTS ≤ at
+  pub counts : number f ≡ number TaskSlots → at < COUNT_PLACE
+
+pub task_apart : (w : List ℕ) (t : TaskWords) (f : Field) (at word : ℕ) → task_code w t f at ≡ Some word → IsTold f at
 task_apart w t TaskChildren at word is = absurd (cc)
-task_apart w t TaskSlots at word is = absurd (cc)
 task_apart w t TaskReferences at word is = absurd (cc)
+task_apart w t TaskSlots at word is = go (group_told w t at word is)
+  where
+    told : OWN_SLOTS ≤ at → at < COUNT_PLACE → IsTold TaskSlots at
+    told behind before =
+        record { children = λ e. absurd (omega (arith, e)); references = λ e. absurd (omega (arith, e)); slots = λ _. behind; counts = λ _. before }
+
+    go : ((at ≡ GROUP_PLACE) × (group_word w t.group ≡ word)) ⊎ ((at ≡ OPEN_PLACE) × (t.open_groups ≡ word)) → IsTold TaskSlots at
+    go (inl (place, _)) = told (omega (arith, place)) (omega (arith, place))
+    go (inr (place, _)) = told (omega (arith, place)) (omega (arith, place))
 task_apart w t f at word is =
-    (λ e. absurd (omega (arith, e)), λ e. absurd (omega (arith, e)), λ e. absurd (omega (arith, e)))
+    record { children = λ e. absurd (omega (arith, e)); references = λ e. absurd (omega (arith, e)); slots = λ e. absurd (omega (arith, e)); counts = λ e. absurd (omega (arith, e)) }
 
 -- a field of a task's place is another than one that is none
 pub place_apart : (f g : Field) → is_place f ≡ true → is_place g ≡ false → number f ≢ number g

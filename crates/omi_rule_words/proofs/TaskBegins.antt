@@ -48,7 +48,7 @@ module _ (w : List ℕ) (m : Memory) (s : State) (owes : ℕ → Owed) (i : ℕ)
       (subst (λ (o : Owed). OwesSame nothing o) (sym owed) own) j (λ _. owes_same (owes j))
     where
       own : OwesSame nothing (record nothing { met = true })
-      own = record { region = refl; tasks = refl; pending = refl; raised = refl; lowered = refl; referred = refl; own = refl; returned = refl; gives = refl; hand = refl }
+      own = record { region = refl; tasks = refl; pending = refl; raised = refl; lowered = refl; referred = refl; own = refl; returned = refl; gives = refl; hand = refl; counted = refl; uncounted = refl }
 
   begins : (t : Task) → task_of s k ≡ Some t → TaskRenews t (goes_on t)
   begins t live =

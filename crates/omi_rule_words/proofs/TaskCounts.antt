@@ -43,7 +43,8 @@ children_adds_keep =
     kept w m s owes i k keeps known none live small =
         let (t, is) = live_of (task_of s k) live in
         children_stored w m s owes i p k t keeps known
-        (record { region = refl; tasks = refl; left = refl; assigns = refl; met = refl; hand = refl }) is
+        (record { region = refl; tasks = refl; left = refl; assigns = refl; met = refl; hand = refl })
+        (record { counted = refl; uncounted = refl; raised = λ q _ same. absurd (cc); own = λ q _ same. same }) is
         (λ q. refl)
         (λ q apart. record { children = ap (λ x. x + lowered q) (on_other q k (Some k) refl apart ∙ sym (on_none q (owes i).raised none)); references = refl; gives = refl })
         (λ x. record {
@@ -81,7 +82,8 @@ references_add_keep =
         (replace_at owes i (record (owes i) { referred = Some k }))
     kept w m s owes i k t keeps known none live unfinished pending small =
         references_stored w m s owes i p k t keeps known
-        (record { region = refl; tasks = refl; left = refl; assigns = refl; met = refl; hand = refl }) live
+        (record { region = refl; tasks = refl; left = refl; assigns = refl; met = refl; hand = refl })
+        (record { counted = refl; uncounted = refl; raised = λ q _ same. same; own = λ q _ same. same }) live
         (λ q. refl)
         (λ q apart. record { children = refl; references = ap (λ x. x + rest q) (on_other q k (Some k) refl apart ∙ sym (on_none q (owes i).referred none)); gives = refl })
         (λ x. record {
@@ -129,7 +131,8 @@ children_subtracts_keep =
         live_of (task_of s g)
         (subst (λ (o : Option Tid). IsSome (option_and_then (task_of s) o)) made ((keeps.made i known).objects.lowered k owed).1) in
         children_stored w m s owes i p g t keeps known
-        (record { region = refl; tasks = refl; left = refl; assigns = refl; met = refl; hand = refl }) is
+        (record { region = refl; tasks = refl; left = refl; assigns = refl; met = refl; hand = refl })
+        (record { counted = refl; uncounted = refl; raised = λ q _ same. same; own = λ q _ same. same }) is
         (λ q. refl)
         (λ q apart. record { children = ap (λ x. raised q + x) (sym (on_other q g (option_and_then (generating_of s) (owes i).lowered) of_made apart)); references = refl; gives = refl })
         (λ x. record {

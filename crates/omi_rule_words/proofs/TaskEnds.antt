@@ -219,7 +219,7 @@ module _ (w : List ℕ) (m : Memory) (s : State) (owes : ℕ → Owed) (i : ℕ)
       (subst (λ (o : Owed). OwesSame given o) (sym owed) own) j (λ _. owes_same (owes j))
     where
       own : OwesSame given nothing
-      own = record { region = refl; tasks = refl; pending = refl; raised = refl; lowered = refl; referred = refl; own = refl; returned = refl; gives = refl; hand = refl }
+      own = record { region = refl; tasks = refl; pending = refl; raised = refl; lowered = refl; referred = refl; own = refl; returned = refl; gives = refl; hand = refl; counted = refl; uncounted = refl }
 
   same_assigns : (j : ℕ) → (given_all j).assigns ≡ (owes j).assigns
   same_assigns j =

@@ -59,6 +59,8 @@ module _ (w : List ℕ) (m : Memory) (s : State) (owes : ℕ → Owed) (i : ℕ)
         assigns = refl;
         met = refl;
         hand = refl;
+        counted = refl;
+        uncounted = refl;
       })) j (λ _. owes_else (owes j))
 
   gives : (owes i).gives ≡ Some task
@@ -94,6 +96,9 @@ module _ (w : List ℕ) (m : Memory) (s : State) (owes : ℕ → Owed) (i : ℕ)
 
   unlowered : (j : ℕ) → j < s.count → (owes j).lowered ≢ Some task
   unlowered j below is = unowned j below ((keeps.made j below).objects.lowered task is).0
+
+  ungrouped : (j : ℕ) → j < s.count → (owes j).uncounted ≢ Some task
+  ungrouped j below is = unowned j below (keeps.groups.uncounted j task below is)
 
   -- this thread alone gives it back
   ungiven : (j : ℕ) → j < s.count → j ≢ i → (owes j).gives ≢ Some task
@@ -184,11 +189,11 @@ module _ (w : List ℕ) (m : Memory) (s : State) (owes : ℕ → Owed) (i : ℕ)
   pub task_frees : ((j : ℕ) → j < s.count → (owes j).raised ≢ Some task)
       → KeepsWords w (with_task_emptied m task) after other
   task_frees unraised =
-      task_gone w m s owes other task old keeps within spent alike unlowered references_counted gives_counted
+      task_gone w m s owes other task old keeps within spent alike unlowered unraised ungrouped references_counted gives_counted
       (λ q x is deferred.
       ap
       (λ b. slots_of m (slot_word w q) task.0.creator task.0.slot (record old { implicit = b })) explicit)
-      unraised on_tasks
+      on_tasks
 
 pub task_frees_keep : TaskFreesKeep
 task_frees_keep =

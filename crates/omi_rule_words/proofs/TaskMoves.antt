@@ -15,6 +15,8 @@ use Rattle.omi_model.specs.Changes.{on_task}
 use Rattle.omi_model.specs.Put.{changed, named}
 use Rattle.omi_model.specs.State.{State, task_of}
 use Rattle.omi_model.proofs.Slots.{each_slot, found_live, on_empty, on_generations, on_other, on_same, same_or_not, some_same}
+use Rattle.omi_model.specs.Groups.{group_within, innermost_or}
+use Rattle.omi_model.specs.declared.group.Group.{Group}
 use Rattle.omi_numbers.specs.declared.limits.TheConstants.{OWN_SLOTS}
 use Rattle.omi_layout.specs.declared.field.Field.TheVariants.{RegionLife, TaskChildren, TaskLife, TaskReferences, TaskSlots}
 use Rattle.omi_layout.specs.Field.{regions, tasks, threads}
@@ -34,6 +36,9 @@ use Rattle.omi_rule_words.proofs.OwedTasks.{TasksStay, owed_on_tasks, owes_tasks
 use Rattle.omi_rule_words.proofs.Shown.{found_generations}
 use Rattle.omi_rule_words.proofs.Sums.{sum_changed, sum_same}
 use Rattle.omi_rule_words.proofs.TaskWords.{task_name}
+use Rattle.omi_rule_words.proofs.GroupCounts.{count_same, groups_counted}
+use Rattle.omi_rule_words.specs.Groups.{KeepsGroups, count_owed, group_of, group_of_new, unfinished_members}
+use Rattle.omi_rule_words.proofs.PendingWords.{live_of}
 
 -- a task goes on as another, which no thread has met or lowered anything for
 pub record GoesTo (t u : Task) : Type 0 where
@@ -41,6 +46,8 @@ pub record GoesTo (t u : Task) : Type 0 where
   pub implicit : u.implicit ≡ t.implicit
   pub region : u.region ≡ t.region
   pub generating : u.generating ≡ t.generating
+  pub group : u.group ≡ t.group
+  pub open_groups : u.open_groups ≡ t.open_groups
   pub unmet : t.progress ≢ progress.NotBegun
   pub unfinished : t.progress ≢ progress.Finished
   pub started : u.progress ≢ progress.Deferred
@@ -110,6 +117,17 @@ module _ (w : List ℕ) (s : State) (k : Tid) (t : Task) (g : Task → Task) (li
       each_name
       (λ q o p. option_and_then (λ (x : Task). x.generating) p ≡ option_and_then (λ (x : Task). x.generating) o) goes.generating
       (λ q o _. refl)
+
+  group_same : (q : Tid) → group_of after q ≡ group_of s q
+  group_same =
+      each_name
+      (λ q o p. option_and_then (λ (x : Task). x.group) p ≡ option_and_then (λ (x : Task). x.group) o) goes.group
+      (λ q o _. refl)
+
+  new_group_same : (q : Tid) → group_of_new after q ≡ group_of_new s q
+  new_group_same =
+      each_name (λ q o p. option_and_then (group_within q) p ≡ option_and_then (group_within q) o)
+      (ap₂ (λ x n. innermost_or x k n) goes.group goes.open_groups) (λ q o _. refl)
 
   -- what is found under another name, as it was
   stays_after : (q : Tid) (x : Task) → task_of s q ≡ Some x → (q.0 ≡ k.0 → ⊥) → task_of after q ≡ Some x
@@ -217,7 +235,10 @@ module _ (w : List ℕ) (s : State) (k : Tid) (t : Task) (g : Task → Task) (li
       (gives_same : (q : Tid) → gives_owed q p ≡ gives_owed q (owes i)) (below : i < s.count)
       (children_counted : (q : Tid) → unfinished_children w after q + sum_of_owed s (replace_at owes i p) (children_owed s q) ≡ unfinished_children w s q + sum_of_owed s owes (children_owed s q))
       (unslotted : (c j : ℕ) → c < s.count → j < per_thread w tasks → (row : Task) → (s.tasks c j).live ≡ Some row → row.implicit ≡ true → (place : ℕ) → place < OWN_SLOTS
-      → IsDeferredIn s row place k → m c tasks j (number TaskSlots) place ≡ slot_word w k → ⊥) where
+      → IsDeferredIn s row place k → m c tasks j (number TaskSlots) place ≡ slot_word w k → ⊥)
+      (members_counted : (x : Group) → unfinished_members w after x + sum_of_owed s (replace_at owes i p) (count_owed s x) ≡ unfinished_members w s x + sum_of_owed s owes (count_owed s x))
+      (counted_raised : (q : Tid) → p.counted ≡ Some q → p.raised ≡ Some q)
+      (uncounted_own : (q : Tid) → p.uncounted ≡ Some q → p.own ≡ Some q) where
     abbrev other : ℕ → Owed
     other = replace_at owes i p
 
@@ -408,6 +429,24 @@ module _ (w : List ℕ) (s : State) (k : Tid) (t : Task) (g : Task → Task) (li
         none = λ nobody. o.none (λ q waits. nobody q (waits_after j q waits));
       }
 
+      groups_kept : KeepsGroups w (λ c. m c tasks) after other
+      groups_kept =
+          groups_counted w (λ c. m c tasks) s after owes other refl
+          (λ q x is. live_of (task_of s q) (some_before q (subst (λ o. IsSome o) (sym is) refl)))
+          (λ x.
+          let change = members_counted x in
+          let owed : sum_of_owed s other (count_owed after x) ≡ sum_of_owed s other (count_owed s x)
+          = sum_same s.count (λ j. count_owed after x (other j)) (λ j. count_owed s x (other j))
+          (λ j. count_same s after x (other j) new_group_same group_same) in
+          omega (arith, change, owed))
+          (λ j q below.
+          each_put (λ c (o : Owed). c < s.count → o.counted ≡ Some q → o.raised ≡ Some q) owes i p (λ _. counted_raised q) j
+          (λ _ there. keeps.groups.counted j q there) below)
+          (λ j q below.
+          each_put (λ c (o : Owed). c < s.count → o.uncounted ≡ Some q → o.own ≡ Some q) owes i p (λ _. uncounted_own q) j
+          (λ _ there. keeps.groups.uncounted j q there) below)
+          keeps.groups
+
       -- it is in no hand from then on
       pub task_moved : OwesOnLive after p → p.hand ≡ None
           → ((q : Tid) → (q.0 ≡ k.0 → ⊥) → start_owed q p ≡ start_owed q (owes i))
@@ -415,6 +454,7 @@ module _ (w : List ℕ) (s : State) (k : Tid) (t : Task) (g : Task → Task) (li
           → KeepsWords w m after (replace_at owes i p)
       task_moved objects empty hands_same unheld = record {
         runtime_record = keeps.runtime_record;
+        groups = groups_kept;
         made = λ j below.
             let o = keeps.made j below in
             record {

@@ -21,7 +21,7 @@ use Rattle.omi_rule_words.specs.Threads.{KeepsRuntime, KeepsThread}
 use Rattle.omi_rule_words.specs.Objects.{KeepsRegion}
 use Rattle.omi_rule_words.specs.Words.{KeepsTask, KeepsWords, region_in, task_in}
 use Rattle.omi_rule_words.specs.TaskKinds.{IsOfTask, IsSameTask, TaskStoresKeep}
-use Rattle.omi_rule_words.proofs.Alike.{IsSameRegion, on_alike, same_region, same_task, slots_same}
+use Rattle.omi_rule_words.proofs.Alike.{IsSameRegion, kind_of, on_alike, same_region, same_task, slots_same}
 use Rattle.omi_rule_words.proofs.OtherStates.{other_states, task_rewritten}
 
 -- the object of a name that is changed
@@ -92,10 +92,10 @@ task_stores_keep =
             subst
             (λ (x : Task). KeepsTask w s owes (task_in k.0.creator k.0.slot (s.tasks k.0.creator k.0.slot)) (n k.0.creator tasks k.0.slot) x)
             (sym (changed_live k.0.generation g (s.tasks k.0.creator k.0.slot) t v live is))
-            (task_rewritten w s owes (task_in k.0.creator k.0.slot (s.tasks k.0.creator k.0.slot)) (m k.0.creator tasks k.0.slot) (n k.0.creator tasks k.0.slot) t (g t) same
+            (task_rewritten w s owes (task_in k.0.creator k.0.slot (s.tasks k.0.creator k.0.slot)) (m k.0.creator tasks k.0.slot) (n k.0.creator tasks k.0.slot) t (g t) (kind_of t (g t) same)
             (word_stays m k.0.creator tasks k.0.slot (number f) at word k.0.creator tasks k.0.slot (number TaskChildren) 0 (λ _ _ _ is _. field.children (sym is)))
             (word_stays m k.0.creator tasks k.0.slot (number f) at word k.0.creator tasks k.0.slot (number TaskReferences) 0 (λ _ _ _ is _. field.references (sym is)))
-            (λ p. word_stays m k.0.creator tasks k.0.slot (number f) at word k.0.creator tasks k.0.slot (number TaskSlots) p (λ _ _ _ is _. field.slots (sym is)))
+            (λ p _. word_stays m k.0.creator tasks k.0.slot (number f) at word k.0.creator tasks k.0.slot (number TaskSlots) p (λ _ _ _ is _. field.slots (sym is)))
             (λ _ h x v _ told. now h x v told)
             (λ _ h x v _ told. now h x v told)
             (((keeps.made k.0.creator known).tasks k.0.slot within).live t (found_live k.0.generation (s.tasks k.0.creator k.0.slot) t live)))

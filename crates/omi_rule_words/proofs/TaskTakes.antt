@@ -18,8 +18,9 @@ use Rattle.omi_rule_words.specs.Threads.{KeepsAssign, KeepsRuntime, KeepsThread,
 use Rattle.omi_rule_words.specs.Objects.{KeepsDeferred, KeepsLife}
 use Rattle.omi_rule_words.specs.Words.{AreApart, IsInTheMaking, KeepsMade, KeepsMaking, KeepsRegionSlot, KeepsTaskSlot, KeepsWords}
 use Rattle.omi_rule_words.specs.Kinds.{TaskTakesKeep}
-use Rattle.omi_rule_words.proofs.OtherOwes.{OwesAlike, owes_alike, assign_owed_same, deferred_owed, objects_owed, region_owed, task_owed}
-use Rattle.omi_rule_words.proofs.Fills.{slots_stay}
+use Rattle.omi_rule_words.proofs.OtherOwes.{OwesAlike, owes_alike, assign_owed_same, deferred_owed, objects_owed, region_owed, task_owed, alike_on_groups}
+use Rattle.omi_rule_words.proofs.Fills.{slots_stay, groups_stay}
+use Rattle.omi_rule_words.proofs.GroupCounts.{groups_owed}
 
 -- one task more in the making
 has_slot_more : (k : ℕ) (ks : List Tid) (n : Tid) → n.0.slot == k ≡ false
@@ -68,7 +69,7 @@ module _ (w : List ℕ) (m : Memory) (s : State) (owes : ℕ → Owed) (i : ℕ)
   alike : (j : ℕ) → OwesAlike (other j) (owes j)
   alike j =
       each_put (λ k (x : Owed). OwesAlike x (owes k)) owes i p
-      (record { pending = refl; raised = refl; lowered = refl; referred = refl; own = refl; returned = refl; gives = refl; left = refl; hand = refl }) j
+      (record { pending = refl; raised = refl; lowered = refl; referred = refl; own = refl; returned = refl; gives = refl; left = refl; hand = refl; counted = refl; uncounted = refl }) j
       (λ _. owes_alike (owes j))
 
   assigns : (j : ℕ) → (other j).assigns ≡ (owes j).assigns
@@ -177,6 +178,9 @@ module _ (w : List ℕ) (m : Memory) (s : State) (owes : ℕ → Owed) (i : ℕ)
     runtime_record = subst (λ (r : Rec). KeepsRuntime w r s) (sym (stays 0 runtime 0 (λ kind. absurd (omega (arith, kind))))) keeps.runtime_record;
     made = made;
     deferred = deferred;
+    groups =
+        groups_stay w m s other i slot (number TaskLife) 0 (2 * n.0.generation + 1) empty
+        (groups_owed w (λ c. m c tasks) s owes other (λ j. alike_on_groups (other j) (owes j) (alike j)) keeps.groups);
   }
 
 pub task_takes_keep : TaskTakesKeep

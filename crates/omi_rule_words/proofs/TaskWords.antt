@@ -21,6 +21,7 @@ use Rattle.omi_rule_words.specs.Words.{KeepsTask, KeepsWords, OwesOnLive, region
 use Rattle.omi_rule_words.specs.CountKinds.{with_task_word, word_of_task}
 use Rattle.omi_rule_words.proofs.OtherCounts.{MakesAlike, OwesAlikeOn, counts_same, name_of_slot, other_counts, owed_put, owed_put_same, region_counted, task_counted}
 use Rattle.omi_rule_words.proofs.Sums.{part_below}
+use Rattle.omi_rule_words.proofs.GroupCounts.{OnGroupsAlike, groups_put}
 
 -- the task of a name, by the slot in which it lives
 pub task_name : (s : State) (k : Tid) (t : Task) → task_of s k ≡ Some t
@@ -39,7 +40,7 @@ not_count g children references _ References = references
 
 module _ (w : List ℕ) (m : Memory) (s : State) (owes : ℕ → Owed) (i : ℕ) (p : Owed) (k : Tid) (t : Task)
     (keeps : KeepsWords w m s owes) (known : i < s.count) (alike : MakesAlike p (owes i))
-    (live : task_of s k ≡ Some t)
+    (on_groups : OnGroupsAlike p (owes i)) (live : task_of s k ≡ Some t)
     (pending : (q : Rid) → pending_owed q p ≡ pending_owed q (owes i))
     (beside : (q : Tid) → (q.0.creator ≡ k.0.creator → q.0.slot ≡ k.0.slot → ⊥) → OwesAlikeOn s q p (owes i))
     (objects : OwesOnLive s (owes i) → OwesOnLive s p) where
@@ -68,7 +69,7 @@ module _ (w : List ℕ) (m : Memory) (s : State) (owes : ℕ → Owed) (i : ℕ)
         record_stays m k.0.creator tasks k.0.slot (number count) 0 word c tasks j
         (λ creator _ place. ne creator place) in
         task_counted w m after s owes i p keeps alike (task_in c j (s.tasks c j)) (m c tasks j)
-        (after c tasks j) x (λ g at _ _. ap (λ (r : Rec). r (number g) at) same)
+        (after c tasks j) x (λ g at _ _ _. ap (λ (r : Rec). r (number g) at) same)
         (counts_same w m after s owes i p keeps alike (task_in c j (s.tasks c j)) (m c tasks j) (after c tasks j) x (ap (λ (r : Rec). r (number TaskChildren) 0) same)
         (ap (λ (r : Rec). r (number TaskReferences) 0) same) (beside (task_in c j (s.tasks c j)) ne)) o
 
@@ -78,7 +79,8 @@ module _ (w : List ℕ) (m : Memory) (s : State) (owes : ℕ → Owed) (i : ℕ)
         other_counts w m after s owes i p keeps alike (λ c kind j _ ne. stays c kind j ne)
         (λ c j. ap (λ (r : Rec). r (number RegionLife) 0) (stays c regions j (λ kind. absurd (omega (arith, kind)))))
         (others_stay TaskLife 0 (not_count TaskLife (λ is. omega (arith, is)) (λ is. omega (arith, is)) count is_count))
-        (λ c j at. others_stay TaskSlots at (not_count TaskSlots (λ is. omega (arith, is)) (λ is. omega (arith, is)) count is_count) c j)
+        (λ c j at _. slots_stay c j at)
+        (groups_put w m after s owes i p keeps on_groups slots_stay)
         objects
         (λ c j within _ x there o.
         let same = stays c regions j (λ kind. absurd (omega (arith, kind))) in
@@ -94,6 +96,9 @@ module _ (w : List ℕ) (m : Memory) (s : State) (owes : ℕ → Owed) (i : ℕ)
         o)
         (λ c j within _ x there o. in_record c j x there o (cases_eq c k.0.creator) (cases_eq j k.0.slot))
       where
+        slots_stay : (c j at : ℕ) → after c tasks j (number TaskSlots) at ≡ m c tasks j (number TaskSlots) at
+        slots_stay c j at = others_stay TaskSlots at (not_count TaskSlots (λ is. omega (arith, is)) (λ is. omega (arith, is)) count is_count) c j
+
         own : (x : Task) → (s.tasks k.0.creator k.0.slot).live ≡ Some x
             → KeepsTask w s owes (task_in k.0.creator k.0.slot (s.tasks k.0.creator k.0.slot)) (m k.0.creator tasks k.0.slot) x
             → KeepsTask w s other (task_in k.0.creator k.0.slot (s.tasks k.0.creator k.0.slot))
@@ -102,7 +107,7 @@ module _ (w : List ℕ) (m : Memory) (s : State) (owes : ℕ → Owed) (i : ℕ)
             subst (λ (q : Tid). KeepsTask w s other q (after k.0.creator tasks k.0.slot) x)
             (sym (task_name s k t live))
             (task_counted w m after s owes i p keeps alike k (m k.0.creator tasks k.0.slot)
-            (after k.0.creator tasks k.0.slot) x (λ g at ne nr. others_stay g at (not_count g ne nr count is_count) k.0.creator k.0.slot)
+            (after k.0.creator tasks k.0.slot) x (λ g at ne nr _. others_stay g at (not_count g ne nr count is_count) k.0.creator k.0.slot)
             (subst (λ (y : Task). KeepsCounts w s owes k (m k.0.creator tasks k.0.slot) y → KeepsCounts w s other k (after k.0.creator tasks k.0.slot) y) same counts)
             (subst (λ (q : Tid). KeepsTask w s owes q (m k.0.creator tasks k.0.slot) x) (task_name s k t live) o))
           where

@@ -1,14 +1,17 @@
 -- Kinds of steps of explicit tasks: what the stores that defer, start and finish one keep of the words, whatever thread makes them, and
 -- what is kept while a deferred task is taken from its slot.
-use Rattle.std.specs.Prelude.{◌≡◌, ℕ, ◌<◌, Bool, true, false, List, [], ◌∷◌, Some}
+use Rattle.std.specs.Prelude.{◌≡◌, ◌≢◌, ◌+◌, ℕ, ◌<◌, Bool, true, false, List, [], ◌∷◌, Some}
 use Rattle.omi_script.specs.declared.program.Program.{Program}
+use Rattle.omi_model.specs.declared.group.Group.{Group}
 use Rattle.omi_model.specs.declared.id.Tid.{Tid}
 use Rattle.omi_model.specs.declared.progress.Progress.TheVariants as progress
 use Rattle.omi_model.specs.declared.task.Task.{Task}
+use Rattle.omi_model.specs.Groups.{AreMembersFinished, with_groups}
 use Rattle.omi_model.specs.LawNames.{AreNamesLive}
 use Rattle.omi_model.specs.State.{State, task_of}
 use Rattle.omi_model.specs.Tasking.{AreChildrenFinished, deferred, deferred_task, finished, scheduled, started, started_alone, started_now}
-use Rattle.omi_numbers.specs.declared.limits.TheConstants.{OWN_SLOTS}
+use Rattle.omi_numbers.specs.declared.limits.TheConstants.{OPEN_GROUPS, OWN_SLOTS}
+use Rattle.omi_layout.specs.declared.limits.TheConstants.{COUNT_PLACE, OPEN_PLACE}
 use Rattle.omi_layout.specs.declared.field.Field.{Field}
 use Rattle.omi_layout.specs.declared.field.Field.TheVariants.{TaskChildren, TaskReferences, TaskSlots, ThreadCurrent}
 use Rattle.omi_layout.specs.Field.{tasks, threads}
@@ -23,6 +26,8 @@ use Rattle.omi_rule_words.specs.Owes.{Owed, nothing}
 use Rattle.omi_rule_words.specs.Threads.{Has}
 use Rattle.omi_rule_words.specs.Objects.{IsDeferredIn, KeepsEnvironment, KeepsPlace}
 use Rattle.omi_rule_words.specs.Words.{KeepsWords}
+use Rattle.omi_rule_words.specs.CountKinds.{count_of}
+use Rattle.omi_rule_words.specs.Groups.{AreOwnersLive}
 
 -- ---- slots
 
@@ -43,17 +48,24 @@ pub record IsRow (s : State) (i : ℕ) (row : Tid) (t : Task) : Type 0 where
 
 -- ---- a task is deferred, or starts at once
 
--- a record in the making stands filled for an explicit task that is new: it counts no children, and refers to itself
+-- a record in the making stands filled for an explicit task that is new: it counts no children and no tasks of groups, and refers to itself
 pub record IsFilledFor (w : List ℕ) (r : Rec) (t : Task) : Type 0 where
   pub environment : KeepsEnvironment w r t
   pub children : Has r TaskChildren 0 0
   pub references : Has r TaskReferences 0 1
+  pub groups : (index : ℕ) → index < OPEN_GROUPS → Has r TaskSlots (COUNT_PLACE + index) 0
 
 -- what a thread owes before the event that makes a task: its record, which is one of the layout, and the raises in its region and in
--- the task that makes it
+-- the task that makes it, with that of the new task's group
 pub record OwesNew (w : List ℕ) (s : State) (owes : ℕ → Owed) (i : ℕ) (task k : Tid) (t : Task) : Type 0 where
   pub owed : owes i
-      ≡ record nothing { tasks = task ∷ []; pending = Some t.region; raised = Some k; referred = Some k }
+      ≡ record nothing {
+        tasks = task ∷ [];
+        pending = Some t.region;
+        raised = Some k;
+        referred = Some k;
+        counted = Some k;
+      }
   pub made_by : IsSlot w tasks task.0.creator task.0.slot
   pub live : task_of s k ≡ Some t
 
@@ -61,7 +73,7 @@ pub record OwesNew (w : List ℕ) (s : State) (owes : ℕ → Owed) (i : ℕ) (t
 abbrev pub DefersKeep : Type 0
 DefersKeep = (p : Program) (w : List ℕ) (m : Memory) (s : State) (owes : ℕ → Owed) (i : ℕ) (task : Tid)
     (f : ℕ) (final : Bool) (place : ℕ) (k : Tid) (t : Task) (row : Tid)
-    → KeepsWords w m s owes → IsWithin w s → AreNamesLive s → IsValid w
+    → KeepsWords w m s owes → IsWithin w s → AreNamesLive s → AreOwnersLive s → IsValid w
     → i < s.count → OwesNew w s owes i task k t → IsRow s i row t
     → place < OWN_SLOTS → slot_of m row place ≡ 0
     → IsFilledFor w (m i tasks task.0.slot) (deferred_task p k t f final place)
@@ -72,7 +84,7 @@ DefersKeep = (p : Program) (w : List ℕ) (m : Memory) (s : State) (owes : ℕ �
 abbrev pub StartsNowKeep : Type 0
 StartsNowKeep = (p : Program) (w : List ℕ) (m : Memory) (s : State) (owes : ℕ → Owed) (i : ℕ) (task : Tid)
     (f : ℕ) (final : Bool) (k : Tid) (t : Task)
-    → KeepsWords w m s owes → IsWithin w s → AreNamesLive s → IsValid w
+    → KeepsWords w m s owes → IsWithin w s → AreNamesLive s → AreOwnersLive s → IsValid w
     → i < s.count → OwesNew w s owes i task k t
     → IsFilledFor w (m i tasks task.0.slot) (deferred_task p k t f final 0)
     → KeepsPlace w (m i tasks task.0.slot) (scheduled i k t (deferred_task p k t f final 0))
@@ -138,7 +150,23 @@ FinishesKeep = (w : List ℕ) (m : Memory) (s : State) (owes : ℕ → Owed) (i 
     → IsRunning s k t → t.generating ≡ Some g
     → KeepsWords w (with_word m i threads 0 (number ThreadCurrent) 0 (task_word w t.scheduling))
     (finished s i k t)
-    (replace_at owes i (record nothing { pending = Some t.region; lowered = Some k; own = Some k }))
+    (replace_at owes i
+    (record nothing { pending = Some t.region; lowered = Some k; uncounted = Some k; own = Some k }))
+
+-- ---- groups
+
+-- A task begins or ends a group: the number of its open groups is stored, while no thread has raised a count for one of its tasks in the making
+abbrev pub GroupStoresKeep : Type 0
+GroupStoresKeep = (w : List ℕ) (m : Memory) (s : State) (owes : ℕ → Owed) (k : Tid) (t : Task) (n : ℕ)
+    → KeepsWords w m s owes → task_of s k ≡ Some t
+    → ((j : ℕ) → j < s.count → (owes j).counted ≢ Some k)
+    → KeepsWords w (with_slot m k OPEN_PLACE n) (with_groups s n k) owes
+
+-- Where the count of a group is 0, each of its tasks has finished
+abbrev pub AllMembersFinished : Type 0
+AllMembersFinished = (w : List ℕ) (m : Memory) (s : State) (owes : ℕ → Owed) (g : Group) (t : Task)
+    → KeepsWords w m s owes → IsWithin w s → task_of s g.owner ≡ Some t → g.index < OPEN_GROUPS
+    → count_of m g ≡ 0 → AreMembersFinished s g
 
 -- ---- children
 

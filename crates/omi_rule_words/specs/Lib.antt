@@ -3,6 +3,7 @@ pub mod Owes
 pub mod Counts
 pub mod Threads
 pub mod Objects
+pub mod Groups
 pub mod Words
 -- The laws
 pub mod Opens

@@ -32,6 +32,10 @@ pub record Owed : Type 0 where
   pub lowered : Option Tid
   -- the task whose word for references was raised for one in the making
   pub referred : Option Tid
+  -- the task for whose new task the count of a group was raised: that of its innermost open group, or else of its own. And the finished
+  -- task whose group's count is to be lowered
+  pub counted : Option Tid
+  pub uncounted : Option Tid
   -- the finished task that still refers to its own record, the place of the task that generated one which was given back, and the
   -- task that is to be given back, as its last reference was lowered
   pub own : Option Tid
@@ -55,6 +59,8 @@ nothing =
       raised = None;
       lowered = None;
       referred = None;
+      counted = None;
+      uncounted = None;
       own = None;
       returned = None;
       gives = None;
@@ -105,13 +111,18 @@ with_raises c t = record nothing { tasks = t ∷ []; pending = Some c.region; ra
 abbrev pub with_reference : Context → Tid → Owed
 with_reference c t = record (with_raises c t) { referred = Some c.task }
 
+-- and the raise that counts it in its group, where it has one
+abbrev pub with_count : Context → Tid → Owed
+with_count c t = record (with_reference c t) { counted = Some c.task }
+
 abbrev pub by_task : Context → TaskCounter → Owed
 by_task c (task.Fill place t word) = in_the_making t
 by_task c (task.AddPending place t) = in_the_making t
 by_task c (task.AddChildren place t) = record (in_the_making t) { pending = Some c.region }
 by_task c (task.AddReferences place t) = with_raises c t
-by_task c (task.Defer place t) = with_reference c t
-by_task c (task.StartNow t) = with_reference c t
+by_task c (task.AddCount place t) = with_reference c t
+by_task c (task.Defer place t) = with_count c t
+by_task c (task.StartNow t) = with_count c t
 by_task c _ = nothing
 
 abbrev pub by_look : LookCounter → Owed
@@ -126,7 +137,11 @@ abbrev pub in_region : Context → Owed
 in_region c = record nothing { pending = Some c.region }
 
 abbrev pub with_lowerings : Context → Tid → Owed
-with_lowerings c t = record (in_region c) { lowered = Some t; own = Some t }
+with_lowerings c t = record (in_region c) { lowered = Some t; uncounted = Some t; own = Some t }
+
+-- the count of its group comes behind that of its generating task's children
+abbrev pub with_count_lowering : Context → Tid → Owed
+with_count_lowering c t = record (in_region c) { uncounted = Some t; own = Some t }
 
 -- a task was given back that the one at this place generated
 abbrev pub with_returned : Context → Place → Owed
@@ -136,6 +151,8 @@ abbrev pub by_finish : Context → FinishCounter → Owed
 by_finish c finish.Finish = nothing
 by_finish c (finish.LoadGenerating w t) = with_lowerings c t
 by_finish c (finish.SubtractChildren w t generating) = with_lowerings c t
+by_finish c (finish.LoadGroup w t generating) = with_count_lowering c t
+by_finish c (finish.SubtractCount w t generating group) = with_count_lowering c t
 by_finish c (finish.SubtractReferences w t generating) = record (in_region c) { own = Some t }
 by_finish c (finish.Free w t generating) = record (in_region c) { gives = Some t }
 by_finish c (finish.LoadImplicit w generating) = with_returned c generating

@@ -16,7 +16,7 @@ use Rattle.omi_rule_words.specs.Words.{KeepsWords}
 
 -- ---- tasks
 
--- a task goes on as what it is: its kind, region, thread, generating task and progress, and the slot in which it is deferred
+-- a task goes on as what it is: its kind, region, thread, generating task, progress and groups, and the slot in which it is deferred
 pub record IsSameTask (t u : Task) : Type 0 where
   pub implicit : u.implicit ≡ t.implicit
   pub region : u.region ≡ t.region
@@ -24,6 +24,8 @@ pub record IsSameTask (t u : Task) : Type 0 where
   pub generating : u.generating ≡ t.generating
   pub progress : u.progress ≡ t.progress
   pub place : u.place ≡ t.place
+  pub group : u.group ≡ t.group
+  pub open_groups : u.open_groups ≡ t.open_groups
 
 -- a field that says what its task is: no life word, no count, and no slot for a deferred task
 pub record IsOfTask (f : Field) : Type 0 where

@@ -10,7 +10,8 @@ use Rattle.omi_model.specs.Columns.{tasks_of}
 use Rattle.omi_model.specs.LawNames.{AreNamesLive}
 use Rattle.omi_model.specs.State.{State, region_of, task_of}
 use Rattle.omi_model.specs.Teams.{forked, joined, master_of, member_task, new_region, task_begun, task_ended}
-use Rattle.omi_numbers.specs.declared.limits.TheConstants.{OWN_SLOTS}
+use Rattle.omi_numbers.specs.declared.limits.TheConstants.{OPEN_GROUPS, OWN_SLOTS}
+use Rattle.omi_layout.specs.declared.limits.TheConstants.{COUNT_PLACE}
 use Rattle.omi_layout.specs.declared.field.Field.TheVariants.{ThreadCurrent, RegionPending, RegionLeft, TaskChildren, TaskReferences, TaskSlots}
 use Rattle.omi_layout.specs.Field.{threads, regions, tasks}
 use Rattle.omi_layout.specs.Memory.{Rec, MadeRecords, Memory, replace_at, with_word}
@@ -21,6 +22,7 @@ use Rattle.omi_rep.specs.Codes.{HasCodes, region_code, region_told, task_code, t
 use Rattle.omi_rep.specs.Records.{task_address, task_word}
 use Rattle.omi_rule_words.specs.Owes.{Owed, nothing}
 use Rattle.omi_rule_words.specs.Counts.{ended_members}
+use Rattle.omi_rule_words.specs.Groups.{AreOwnersLive}
 use Rattle.omi_rule_words.specs.Threads.{Has, WaitsFor}
 use Rattle.omi_rule_words.specs.Words.{KeepsWords}
 
@@ -40,12 +42,13 @@ pub record RegionIsFilled (w : List ℕ) (r : Rec) (region : Region) : Type 0 wh
   pub pending : Has r RegionPending 0 0
   pub left : Has r RegionLeft 0 0
 
--- and for a member's task that is new: it counts nothing, and its slots for deferred tasks are empty
+-- and for a member's task that is new: it counts nothing, nor do its groups, and its slots for deferred tasks are empty
 pub record MemberIsFilled (w : List ℕ) (r : Rec) (task : Task) : Type 0 where
   pub codes : HasCodes (task_code w (task_told task)) r
   pub children : Has r TaskChildren 0 0
   pub references : Has r TaskReferences 0 0
   pub slots : (place : ℕ) → place < OWN_SLOTS → Has r TaskSlots place 0
+  pub groups : (index : ℕ) → index < OPEN_GROUPS → Has r TaskSlots (COUNT_PLACE + index) 0
 
 -- all records of a fork: task k, which is t, in region r, encounters a parallel construct of this function and gets this team
 pub record ForkIsFilled (p : Program) (w : List ℕ) (made : MadeRecords) (region : Rid) (team : List (Tid × ℕ))
@@ -67,7 +70,7 @@ ForksKeep = (p : Program) (w : List ℕ) (m : Memory) (s : State) (owes : ℕ �
     → KeepsWords w m s owes → i < s.count
     → owes i ≡ record nothing { region = Some region; tasks = tasks_of team }
     → ForkIsFilled p w (m i) region team f k t r
-    → All (λ x. HasNoTask s owes x.1) (drop 1 team) → AreNamesLive s → IsValid w
+    → All (λ x. HasNoTask s owes x.1) (drop 1 team) → AreNamesLive s → AreOwnersLive s → IsValid w
     → KeepsWords w
     (with_word m i threads 0 (number ThreadCurrent) 0 (task_word w (master_of team)))
     (forked p s i region team f k t r) (replace_at owes i (record nothing { assigns = drop 1 team }))

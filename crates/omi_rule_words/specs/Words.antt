@@ -18,6 +18,7 @@ use Rattle.omi_rule_words.specs.Owes.{Owed}
 use Rattle.omi_rule_words.specs.Counts.{has_slot, has_region_slot, is_at, generating_of}
 use Rattle.omi_rule_words.specs.Threads.{KeepsRuntime, KeepsThread, WaitsFor, KeepsAssign}
 use Rattle.omi_rule_words.specs.Objects.{KeepsLife, KeepsRegion, HasPlace, KeepsEnvironment, KeepsPlace, KeepsCounts, KeepsSlots, KeepsDeferred}
+use Rattle.omi_rule_words.specs.Groups.{KeepsGroups}
 
 -- ---- records in the making
 
@@ -105,3 +106,4 @@ pub record KeepsWords (w : List ℕ) (m : Memory) (s : State) (owes : ℕ → Ow
   pub runtime_record : KeepsRuntime w (m 0 runtime 0) s
   pub made : (i : ℕ) → i < s.count → KeepsMade w s owes i (m i)
   pub deferred : KeepsDeferred w (λ creator. m creator tasks) s owes
+  pub groups : KeepsGroups w (λ creator. m creator tasks) s owes

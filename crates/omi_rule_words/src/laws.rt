@@ -2,8 +2,8 @@
 
 ghost use Rattle.omi_rule_words.specs.Opens.{OpeningKeepsWords};
 ghost use Rattle.omi_rule_words.specs.BarrierKinds.{ArrivesKeep, ReleasesKeep};
-ghost use Rattle.omi_rule_words.specs.CountKinds.{ChildrenAddsKeep, ChildrenSubtractsKeep, PendingAddsKeep, PendingSubtractsKeep, ReferencesAddKeep};
-ghost use Rattle.omi_rule_words.specs.ExplicitKinds.{AllChildrenFinished, DefersKeep, FinishesKeep, PlaceStoresKeep, SlotTakesKeep, StartsAloneKeep, StartsKeep, StartsNowKeep};
+ghost use Rattle.omi_rule_words.specs.CountKinds.{ChildrenAddsKeep, ChildrenSubtractsKeep, CountAddsKeep, CountSubtractsKeep, NoCountKeeps, PendingAddsKeep, PendingSubtractsKeep, ReferencesAddKeep, UncountedKeeps};
+ghost use Rattle.omi_rule_words.specs.ExplicitKinds.{AllChildrenFinished, AllMembersFinished, DefersKeep, FinishesKeep, GroupStoresKeep, PlaceStoresKeep, SlotTakesKeep, StartsAloneKeep, StartsKeep, StartsNowKeep};
 ghost use Rattle.omi_rule_words.specs.FreeKinds.{AllTasksGone, GivenHaveNoChild, MemberFreesKeep, OwnSubtractsKeep, RegionFreesKeep, ReturnedSubtractsKeep, TaskFreesKeep};
 ghost use Rattle.omi_rule_words.specs.Kinds.{AssignClearsKeep, AssignStoresKeep, ListMovesKeep, MovesKeep, RegionFillsKeep, RegionTakesKeep, TaskFillsKeep, TaskTakesKeep, ThreadChangesKeep, ThreadStoresKeep};
 ghost use Rattle.omi_rule_words.specs.Shown.{KeptWordsShow};
@@ -35,6 +35,13 @@ pub fn task_stores_keep_words()
     ensures { TaskStoresKeep }
 {}
 
+/// The store of the number of a task's open groups keeps the rule on words, where the task of the state has this number; and where the count
+/// of a group is 0, its tasks have finished.
+pub fn groups_keep_words()
+    ensures stored { GroupStoresKeep }
+    ensures finished { AllMembersFinished }
+{}
+
 /// A store into the runtime record keeps the rule on words, where the state has then the values whose codes the record has:
 /// max-active-levels-var, and the exchange on the word of a lock.
 pub fn runtime_stores_keep_words()
@@ -49,17 +56,22 @@ pub fn barriers_keep_words()
 {}
 
 /// The additions of 1 for an explicit task in the making keep the rule on words: from then on the thread owes one more on the
-/// region's word for unfinished tasks, on the current task's word for unfinished children, or on its word for references.
+/// region's word for unfinished tasks, on the current task's word for unfinished children, on its word for references, or on the count of
+/// the new task's group, where it has one.
 pub fn adds_keep_words()
     ensures pending { PendingAddsKeep }
     ensures children { ChildrenAddsKeep }
     ensures references { ReferencesAddKeep }
+    ensures count { CountAddsKeep }
+    ensures no_count { NoCountKeeps }
 {}
 
 /// The subtractions of 1 for an explicit task that has finished keep the rule on words: the thread owes one less on the word. Where
 /// a task's last reference is lowered, the thread is to give it back.
 pub fn subtracts_keep_words()
     ensures children { ChildrenSubtractsKeep }
+    ensures count { CountSubtractsKeep }
+    ensures uncounted { UncountedKeeps }
     ensures own { OwnSubtractsKeep }
     ensures returned { ReturnedSubtractsKeep }
     ensures pending { PendingSubtractsKeep }

@@ -9,7 +9,7 @@ use Rattle.omi_layout.specs.Place.{image_words}
 use Rattle.omi_pc.specs.declared.actor.Actor.{Actor}
 use Rattle.omi_pc.specs.Fits.{Fits}
 use Rattle.omi_pc.specs.Opening.{waiting_actor}
-use Rattle.omi_step_words.specs.Placed.{IsPlaced}
+use Rattle.omi_step_words.specs.Placed.{HasGroupWords, IsPlaced}
 use Rattle.omi_actor.specs.Steps.{next_of}
 use Rattle.omi_core.specs.declared.entry.Entry.{Entry}
 use Rattle.omi_core.specs.Found.{actor_after, entry_at}
@@ -83,6 +83,7 @@ module _ (p : Program) (l : Layout) (words others : List ℕ) (h : HasRun p l wo
         record {
           fits = subst (λ (z : Program × Actor). Fits z.0 z.1) (λ k. (sym program_is k, sym actor_is k)) here.fits;
           placed = subst (λ (z : List ℕ × Actor). IsPlaced z.0 z.1) (λ k. (sym table_is k, sym actor_is k)) here.placed;
+          groups = subst HasGroupWords (sym table_is) h.keeps.suits.groups;
           above = subst (λ o. FIRST_ADDRESS ≤ address_of o) (sym op_is) on_word_here.above;
           inside =
               subst (λ o. place_of (address_of o) < image_words x.layout.table) (sym op_is)

@@ -7,7 +7,7 @@ use Rattle.omi_layout.specs.declared.layout.Layout.{Layout}
 use Rattle.omi_layout.specs.Place.{image_words}
 use Rattle.omi_pc.specs.declared.actor.Actor.{Actor}
 use Rattle.omi_pc.specs.Fits.{Fits}
-use Rattle.omi_step_words.specs.Placed.{IsPlaced}
+use Rattle.omi_step_words.specs.Placed.{HasGroupWords, IsPlaced}
 use Rattle.omi_actor.specs.Steps.{next_of}
 use Rattle.omi_core.specs.Kept.{KeepsRun}
 use Rattle.omi_core.specs.Runs.{Run}
@@ -28,5 +28,6 @@ pub record HasRun (p : Program) (l : Layout) (words others : List ℕ) : Type 0 
 pub record CanStep (p : Program) (w : List ℕ) (a : Actor) : Type 0 where
   pub fits : Fits p a
   pub placed : IsPlaced w a
+  pub groups : HasGroupWords w
   pub above : FIRST_ADDRESS ≤ address_of (next_of p w a)
   pub inside : place_of (address_of (next_of p w a)) < image_words w

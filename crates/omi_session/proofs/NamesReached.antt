@@ -28,6 +28,7 @@ task_law p s i e y next = record {
   frees = λ k t free how h. h;
   shows = λ k t enter h. h;
   tools = λ k t x h. h;
+  groups = λ k t count is how h. h;
   sets = λ k t icv value v is at h. h;
   begins = λ k t waits mine at h. h;
   finishes = λ k t is ends h. h;

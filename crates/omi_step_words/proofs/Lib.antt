@@ -1,3 +1,4 @@
 pub mod Places
 pub mod ReadBack
 pub mod Rising
+pub mod Grouped

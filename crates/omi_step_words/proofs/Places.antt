@@ -1,5 +1,5 @@
 -- The slot of the record at an address, as index arithmetic gives it.
-use Rattle.std.proofs.Common.{◌≡◌, ℕ, ◌+◌, ◌-◌, ◌*◌, ◌/◌, ◌%◌, ◌<◌, ◌==◌, nat_lt, Bool, true, false, List, None, refl, sym, ap, ap₂, ◌∙◌, arith, eqb-true, ltb-true}
+use Rattle.std.proofs.Common.{◌≡◌, ℕ, ◌+◌, ◌-◌, ◌*◌, ◌/◌, ◌%◌, ◌<◌, ◌==◌, nat_lt, Bool, true, false, List, None, refl, sym, ap, ap₂, ◌∙◌, arith, eqb-true, ltb-true, if◌then◌else◌}
 use Rattle.std.proofs.lemmas.Nat.{div-mul-add, mod-mul-add}
 use Rattle.std.proofs.lemmas.Bool.Decides.{nat_tests}
 use Rattle.omi_layout.specs.Place.{IsSlot, IsSlotAt, slot_address}
@@ -58,3 +58,20 @@ module _ (w : List ℕ) (kind address : ℕ) where
           let no = none.all at.creator at.slot k (sym there) in
           absurd (cc)
       by false e = rw e refl
+
+  -- a place that is read back is that of a slot, whatever the address
+  pub slot_there : 0 < per_thread w kind → 0 < makers w kind
+      → IsSlot w kind (place_at w kind address).creator (place_at w kind address).slot
+  slot_there some made = by (begins_at w kind address at) refl
+    where
+      at : Place
+      at = slot_by w kind (index_by w kind address)
+
+      by : (b : Bool) → begins_at w kind address at ≡ b
+          → IsSlot w kind (if b then at else initial_place).creator (if b then at else initial_place).slot
+      by true e = record {
+        made_by = ltb-true at.creator (makers w kind)
+            (test_left (nat_lt at.creator (makers w kind)) (slot_address w kind at.creator at.slot == address) e);
+        within = omega (arith, some);
+      }
+      by false e = record { made_by = made; within = some }

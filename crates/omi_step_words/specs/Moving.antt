@@ -50,6 +50,10 @@ abbrev pub with_loaded_variable : ℕ → ℕ → Actor → Actor
 with_loaded_variable word old a =
     gathering (record a.gathered { variables = slice_set a.gathered.variables word old }) a
 
+-- the current task's own group was loaded
+abbrev pub with_loaded_group : ℕ → Actor → Actor
+with_loaded_group old a = gathering (record a.gathered { group = old }) a
+
 -- the task from which the current one is scheduled
 abbrev pub task_under : Actor → Tid
 task_under a = (closed a).context.task

@@ -110,7 +110,7 @@ IsPlacedTeam w a (team.FillRegion r word) = HasRegion w r
 IsPlacedTeam w a (team.LoadTaskLife r member slot) = HasRegion w r × Searches w tasks slot
 IsPlacedTeam w a (team.TakeTask r member t) = HasRegion w r × HasTask w t
 IsPlacedTeam w a (team.FillTask r member t word) =
-    HasRegion w r × HasTask w t × AreThreads w a.gathered.team × HasGroupWords w
+    HasRegion w r × HasTask w t × AreThreads w a.gathered.team
 IsPlacedTeam w a (team.StoreMember r member t) = HasRegion w r × HasTask w t
 IsPlacedTeam w a (team.Fork r) = HasRegion w r × HaveTasks w 1 a.gathered.team
 IsPlacedTeam w a (team.Assign member) =
@@ -130,12 +130,14 @@ IsPlacedJoin w (join.FreeRegion r size) = HasRegion w r
 abbrev pub IsPlacedTask : List ℕ → TaskCounter → Type 0
 IsPlacedTask w (task.LoadSlot place) = Unit {0}
 IsPlacedTask w (task.LoadVariable place word) = Unit {0}
+IsPlacedTask w (task.LoadGroup place) = Unit {0}
 IsPlacedTask w (task.LoadLife place slot) = Searches w tasks slot
 IsPlacedTask w (task.Take place t) = HasTask w t
-IsPlacedTask w (task.Fill place t word) = HasTask w t × HasGroupWords w
+IsPlacedTask w (task.Fill place t word) = HasTask w t
 IsPlacedTask w (task.AddPending place t) = HasTask w t
 IsPlacedTask w (task.AddChildren place t) = HasTask w t
 IsPlacedTask w (task.AddReferences place t) = HasTask w t
+IsPlacedTask w (task.AddCount place t) = HasTask w t
 IsPlacedTask w (task.Defer place t) = HasTask w t
 IsPlacedTask w (task.StartNow t) = HasTask w t
 
@@ -145,12 +147,15 @@ IsPlacedLook w (look.State v) = Unit {0}
 IsPlacedLook w (look.LoadRow v n) = Unit {0}
 IsPlacedLook w (look.LoadSlot v n row) = HasTaskPlace w row
 IsPlacedLook w (look.LoadGenerating v n row code) = HasTaskPlace w row
+IsPlacedLook w (look.LoadGroup n row code) = HasTaskPlace w row
 IsPlacedLook w (look.Take v n row code) = HasTaskPlace w row
 IsPlacedLook w (look.LoadFunction v n code t) = HasTask w t
 IsPlacedLook w (look.LoadFinal v n code t f) = HasTask w t
 IsPlacedLook w (look.Fill v n code t f final word) = HasTask w t
 IsPlacedLook w (look.Start v n code t f final) = HasTask w t
 IsPlacedLook w look.LoadChildren = Unit {0}
+IsPlacedLook w look.LoadCount = Unit {0}
+IsPlacedLook w look.GroupEnd = Unit {0}
 IsPlacedLook w (look.Yield n) = Unit {0}
 
 -- an explicit task above, or none
@@ -163,6 +168,9 @@ abbrev pub IsPlacedFinish : List ℕ → FinishCounter → Type 0
 IsPlacedFinish w finish.Finish = Unit {0}
 IsPlacedFinish w (finish.LoadGenerating v t) = HasTask w t
 IsPlacedFinish w (finish.SubtractChildren v t generating) = HasTask w t × HasTaskPlace w generating
+IsPlacedFinish w (finish.LoadGroup v t generating) = HasTask w t × HasTaskPlace w generating
+IsPlacedFinish w (finish.SubtractCount v t generating group) =
+    HasTask w t × HasTaskPlace w generating
 IsPlacedFinish w (finish.SubtractReferences v t generating) =
     HasTask w t × HasTaskPlace w generating
 IsPlacedFinish w (finish.Free v t generating) = HasTask w t × HasTaskPlace w generating

@@ -1,7 +1,8 @@
 -- What a record in the making is filled with: the word of each store, by its number.
-use Rattle.std.specs.Prelude.{◌≡◌, ℕ, ◌-◌, ◌<◌, nat_lt, List, [], ◌∷◌, slice_index, slice_index_or, Some, if◌then◌else◌}
+use Rattle.std.specs.Prelude.{◌≡◌, ℕ, ◌-◌, ◌<◌, nat_lt, List, [], ◌∷◌, slice_index, slice_index_or, Option, Some, if◌then◌else◌}
 use Rattle.omi_word.specs.declared.op.Op.{Op}
 use Rattle.omi_word.specs.declared.op.Op.TheVariants as op
+use Rattle.omi_model.specs.declared.group.Group.{Group}
 use Rattle.omi_model.specs.declared.id.Id.{Id}
 use Rattle.omi_model.specs.declared.task.Variables.{Variables}
 use Rattle.omi_layout.specs.declared.field.Field.{Field}
@@ -86,7 +87,7 @@ task_words w t =
     ∷ zero_in TaskSlots 1
     ∷ zero_in TaskSlots 2
     ∷ zero_in TaskSlots 3
-    ∷ zero_in TaskSlots 4
+    ∷ filled TaskSlots 4 t.group
     ∷ zero_in TaskSlots 5
     ∷ zero_in TaskSlots 6
     ∷ zero_in TaskSlots 7
@@ -97,9 +98,9 @@ task_words w t =
 abbrev pub task_plan : List ℕ → NewTask → ℕ → Planned
 task_plan w t word = slice_index_or (task_words w t) word (zero_in TaskSlots 9)
 
--- what these words tell of the task, where the words of its data environment are those of these variables
-abbrev pub planned_task : NewTask → Variables → TaskWords
-planned_task n v =
+-- what these words tell of the task, where the words of its data environment are those of these variables and the word of its group that of this one
+abbrev pub planned_task : NewTask → Variables → Option Group → TaskWords
+planned_task n v g =
     record {
       implicit = n.implicit;
       region = n.region;
@@ -113,6 +114,8 @@ planned_task n v =
       variables = v;
       is_final = n.is_final;
       tool = 0;
+      group = g;
+      open_groups = 0;
     }
 
 -- ---- data environments

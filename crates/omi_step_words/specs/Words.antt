@@ -1,12 +1,14 @@
 -- The words on which a step operates, by the record and the field, and what is read back from a word.
 use Rattle.std.specs.Prelude.{ℕ, ◌==◌, ◌+◌, ◌-◌, ◌*◌, ◌/◌, ◌%◌, ◌^◌, ◌&&◌, nat_lt, Bool, List, if◌then◌else◌}
+use Rattle.omi_numbers.specs.declared.limits.TheConstants.{OPEN_GROUPS}
 use Rattle.omi_numbers.specs.declared.lives.TheConstants.{LIFE_END}
 use Rattle.omi_numbers.specs.Lives.{life_word}
 use Rattle.omi_model.specs.declared.id.Id.{Id}
 use Rattle.omi_model.specs.declared.id.Rid.{Rid}
 use Rattle.omi_model.specs.declared.id.Tid.{Tid}
 use Rattle.omi_layout.specs.declared.field.Field.{Field}
-use Rattle.omi_layout.specs.declared.field.Field.TheVariants.{RegionTeam}
+use Rattle.omi_layout.specs.declared.field.Field.TheVariants.{RegionTeam, TaskSlots}
+use Rattle.omi_layout.specs.declared.limits.TheConstants.{COUNT_PLACE}
 use Rattle.omi_layout.specs.Field.{tasks, regions}
 use Rattle.omi_layout.specs.Memory.{word_address}
 use Rattle.omi_layout.specs.Named.{number}
@@ -36,6 +38,16 @@ of_task w k f = word_address w k.0.creator k.0.slot (number f) 0
 -- the word of a member in the team of a region
 abbrev pub of_member : List ℕ → Rid → ℕ → ℕ
 of_member w r member = word_address w r.0.creator r.0.slot (number RegionTeam) member
+
+-- ---- words for groups
+
+-- a word of a task for groups, behind its slots: its group, and how many groups it has open
+abbrev pub of_groups : List ℕ → Tid → ℕ → ℕ
+of_groups w k at = word_address w k.0.creator k.0.slot (number TaskSlots) at
+
+-- the count of a task's open group with this index
+abbrev pub of_count : List ℕ → Tid → ℕ → ℕ
+of_count w k index = of_groups w k (COUNT_PLACE + index)
 
 -- ---- life words
 
@@ -91,6 +103,19 @@ task_place w address = place_at w tasks address
 
 abbrev pub region_place : List ℕ → ℕ → Place
 region_place w address = place_at w regions address
+
+-- the owner of the group for which a word stands, and the group's index: the address of the owner's record is a multiple of 8
+abbrev pub group_index : ℕ → ℕ
+group_index word = word % OPEN_GROUPS
+
+abbrev pub group_owner : List ℕ → ℕ → Place
+group_owner w word = task_place w (word - word % OPEN_GROUPS)
+
+-- and the group's count
+abbrev pub of_group_count : List ℕ → ℕ → ℕ
+of_group_count w word =
+    let owner = group_owner w word in
+    word_address w owner.creator owner.slot (number TaskSlots) (COUNT_PLACE + group_index word)
 
 -- ---- sums
 

@@ -13,7 +13,8 @@ mod words;
 pub use laws::{fills_go_up, words_are_read_back};
 pub use moving::{store_under, task_under};
 pub use ops::{
-    fill, load, of_place, of_region, of_runtime, of_task, of_thread, of_variable, store,
+    fill, load, of_group_count, of_groups, of_place, of_region, of_runtime, of_task, of_thread,
+    of_variable, store,
 };
 pub use outcomes::CompactOutcome;
 pub use plan::{NewRegion, NewTask, Planned, inherited_words, region_plan, task_plan, variable_at};

@@ -4,16 +4,18 @@ ghost use Rattle.std.specs.Prelude.{◌≡◌, ◌<◌};
 ghost use Rattle.omi_layout.specs.Memory.{IsRecordWord};
 ghost use Rattle.omi_layout.specs.Named.{number};
 ghost use Rattle.omi_layout.specs.Place.{IsSlot};
-ghost use Rattle.omi_layout.specs.Field.{IsField, kind_of, tasks};
+ghost use Rattle.omi_layout.specs.Field.{IsField, kind_of, slots, tasks};
 ghost use Rattle.omi_pc.specs.declared.limits.TheConstants.{VARIABLE_WORDS};
 ghost use Rattle.omi_layout.specs.Table.{width};
 ghost use Rattle.omi_step_words.specs.Plan.{filling, of_variable};
-ghost use Rattle.omi_step_words.specs.Words.{of_place, of_region, of_runtime, of_task, of_thread};
+ghost use Rattle.omi_step_words.specs.Placed.{HasGroupWords, HasTask};
+ghost use Rattle.omi_step_words.specs.Words.{of_group_count, of_groups, of_place, of_region, of_runtime, of_task, of_thread};
 ghost use Rattle.omi_word.specs.declared.op.Op.TheVariants as op;
 
-use crate::{Planned, variable_at};
-use omi_layout::{Field, Layout};
+use crate::{Planned, task_place, variable_at};
+use omi_layout::{COUNT_PLACE, Field, Layout};
 use omi_model::{Id, Rid, Tid};
+use omi_numbers::OPEN_GROUPS;
 use omi_pc::Place;
 use omi_word::Op;
 
@@ -55,6 +57,26 @@ pub fn of_task(l: &Layout, k: Tid, f: Field) -> u64
     ensures { result ≡ of_task l.now.table k f }
 {
     l.word_at(k.0.creator, k.0.slot, f, 0)
+}
+
+/// The address of a word of a task for groups, at a place of the last field of its record.
+pub fn of_groups(l: &Layout, k: Tid, at: u8) -> u64
+    requires slot { HasTask l.now.table k }
+    requires within { at < width l.now.table slots }
+    ensures { result ≡ of_groups l.now.table k at }
+{
+    l.word_at(k.0.creator, k.0.slot, Field::TaskSlots, at)
+}
+
+/// The address of the count of the group for which a word stands.
+pub fn of_group_count(l: &Layout, word: u64) -> u64
+    requires { HasGroupWords l.now.table }
+    ensures { result ≡ of_group_count l.now.table word }
+{
+    let index = word % u64::from(OPEN_GROUPS);
+    let owner = task_place(l, word - index);
+    let at = COUNT_PLACE + index as u8;
+    l.word_at(owner.creator, owner.slot, Field::TaskSlots, at)
 }
 
 /// The address of a word of a task's data environment.

@@ -9,7 +9,7 @@ ghost use Rattle.omi_rep.specs.Records.{task_word};
 ghost use Rattle.omi_step_words.specs.Placed.{HasGroupWords, HasOptionalTask, HasRegion, HasTask};
 ghost use Rattle.omi_step_words.specs.Plan.{IsPlannedIn, filled, inherited_words, region_plan, task_plan, variable_at};
 
-use omi_layout::{Field, Layout};
+use omi_layout::{Field, GROUP_PLACE, Layout};
 use omi_model::{Rid, Tid};
 use omi_numbers::entry_address;
 use omi_pc::limits::VARIABLE_WORDS;
@@ -33,8 +33,8 @@ pub struct NewRegion {
     pub active: u64,
 }
 
-/// What the record of a new task is filled with. `exit` is a frame address, and `variables` are the words of the data
-/// environment.
+/// What the record of a new task is filled with. `exit` is a frame address, `group` is the word that stands for its group, and
+/// `variables` are the words of the data environment.
 #[derive(Clone, Copy)]
 pub struct NewTask {
     pub implicit: bool,
@@ -47,6 +47,7 @@ pub struct NewTask {
     pub exit: u64,
     pub is_final: bool,
     pub references: u64,
+    pub group: u64,
     pub variables: [u64; VARIABLE_WORDS],
 }
 
@@ -114,6 +115,9 @@ pub fn task_plan(l: &Layout, t: &NewTask, word: u8) -> Planned
     ensures planned { result ≡ task_plan l.now.table t.now word }
     ensures within { IsPlannedIn l.now.table tasks result }
 {
+    if word == FIRST_SLOT + GROUP_PLACE {
+        return filled(Field::TaskSlots, GROUP_PLACE, t.group);
+    }
     if word >= FIRST_SLOT {
         return filled(Field::TaskSlots, word - FIRST_SLOT, 0);
     }

@@ -27,6 +27,7 @@ some_body p c [] (wait.Barrier Explicit) waits = let at = waits.0 in absurd (cc)
 some_body p c [] (wait.Barrier Implicit) waits = absurd waits.0
 some_body p c [] wait.Taskwait waits = absurd (cc)
 some_body p c [] wait.Taskyield waits = absurd (cc)
+some_body p c [] wait.Taskgroup waits = let at = waits.1 in absurd (cc)
 some_body p c (f ∷ fs) v waits = omega arith
 
 -- the context of the innermost body
@@ -60,6 +61,7 @@ start_opens p a v t f final stands fits waits maker below =
       size = c.size;
       number = c.number;
       arrivals = c.arrivals;
+      groups = omega arith;
       task = maker;
       region = c.region;
       row = c.row;
@@ -88,6 +90,7 @@ module _ (p : Program) (a : Actor) (t : Tid) (stands : OpenedBodyStands) (fits :
         size = c.size;
         number = c.number;
         arrivals = c.arrivals;
+        groups = omega arith;
         task = (let own = fits.thread in omega (arith, maker, own));
         region = c.region;
         row = c.row;

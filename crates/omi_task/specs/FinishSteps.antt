@@ -6,8 +6,10 @@ use Rattle.omi_word.specs.declared.op.Op.TheVariants as op
 use Rattle.omi_script.specs.declared.program.Program.{Program}
 use Rattle.omi_model.specs.declared.event.Event.TheVariants as event
 use Rattle.omi_layout.specs.declared.field.Field.TheVariants.{RegionPending, TaskLife, TaskImplicit, TaskGenerating, TaskChildren, TaskReferences}
+use Rattle.omi_layout.specs.declared.limits.TheConstants.{GROUP_PLACE}
 use Rattle.omi_rep.specs.declared.outcome.Outcome.{Outcome}
 use Rattle.omi_rep.specs.declared.outcome.Outcome.TheVariants as outcome
+use Rattle.omi_model.specs.declared.id.Tid.{Tid}
 use Rattle.omi_pc.specs.declared.actor.Actor.{Actor}
 use Rattle.omi_pc.specs.declared.counter.Counter.{Counter}
 use Rattle.omi_pc.specs.declared.counter.Counter.TheVariants as counter
@@ -24,7 +26,7 @@ use Rattle.omi_pc.specs.declared.task_counter.FinishCounter.TheVariants as finis
 use Rattle.omi_pc.specs.declared.task_counter.LookCounter.TheVariants as look
 use Rattle.omi_pc.specs.Moves.{closed}
 use Rattle.omi_step_words.specs.Moving.{storing_under, to_finish}
-use Rattle.omi_step_words.specs.Words.{object_in, of_place, of_region, of_task, task_place, unused_word}
+use Rattle.omi_step_words.specs.Words.{object_in, of_group_count, of_groups, of_place, of_region, of_task, task_place, unused_word}
 
 -- ---- operations
 
@@ -33,6 +35,8 @@ finish_next w a finish.Finish = storing_under w a
 finish_next w a (finish.LoadGenerating v t) = op.Load (of_task w t TaskGenerating)
 finish_next w a (finish.SubtractChildren v t generating) =
     op.Sub (of_place w generating TaskChildren) 1
+finish_next w a (finish.LoadGroup v t generating) = op.Load (of_groups w t GROUP_PLACE)
+finish_next w a (finish.SubtractCount v t generating group) = op.Sub (of_group_count w group) 1
 finish_next w a (finish.SubtractReferences v t generating) = op.Sub (of_task w t TaskReferences) 1
 finish_next w a (finish.Free v t generating) = op.Store (of_task w t TaskLife) (unused_word t.0)
 finish_next w a (finish.LoadImplicit v generating) = op.Load (of_place w generating TaskImplicit)
@@ -56,6 +60,12 @@ wait_in (f ∷ fs) = wait_by f.opened
 -- the task has finished, and the one below is current again
 abbrev pub past_finish : Actor → Actor
 past_finish a = to_finish (finish.LoadGenerating (wait_in a.stack) a.context.task) (closed a)
+
+-- the group of the finished task was loaded: the count of this group is lowered next, where there is one
+abbrev pub behind_group : Option Wait → Tid → Place → ℕ → FinishCounter
+behind_group v t generating group =
+    if group == 0 then finish.SubtractReferences v t generating
+    else finish.SubtractCount v t generating group
 
 -- an explicit task above, by the life word of its record and the word that names its generating task
 abbrev pub ancestor_at : Place → ℕ → ℕ → Ancestor
@@ -81,6 +91,10 @@ finish_moved p w a finish.Finish old = past_finish a
 finish_moved p w a (finish.LoadGenerating v t) old =
     to_finish (finish.SubtractChildren v t (task_place w old)) a
 finish_moved p w a (finish.SubtractChildren v t generating) old =
+    to_finish (finish.LoadGroup v t generating) a
+finish_moved p w a (finish.LoadGroup v t generating) old =
+    to_finish (behind_group v t generating old) a
+finish_moved p w a (finish.SubtractCount v t generating group) old =
     to_finish (finish.SubtractReferences v t generating) a
 finish_moved p w a (finish.SubtractReferences v t generating) old =
     to_finish (if old == 1 then finish.Free v t generating else finish.SubtractPending v) a

@@ -1,15 +1,16 @@
 -- The steps of a wait: a thread looks at the slots of all members, takes a deferred task and starts it. The end of a taskwait
 -- construct, and that of a taskyield construct.
-use Rattle.std.specs.Prelude.{ℕ, ◌==◌, ◌+◌, ◌/◌, ◌%◌, nat_lt, Bool, not, List, Some, if◌then◌else◌}
+use Rattle.std.specs.Prelude.{ℕ, ◌==◌, ◌+◌, ◌-◌, ◌/◌, ◌%◌, nat_lt, Bool, not, List, Some, if◌then◌else◌}
 use Rattle.omi_word.specs.declared.op.Op.{Op}
 use Rattle.omi_word.specs.declared.op.Op.TheVariants as op
 use Rattle.omi_script.specs.declared.program.Program.{Program}
 use Rattle.omi_model.specs.declared.event.Event.TheVariants as event
 use Rattle.omi_model.specs.declared.id.Tid.{Tid}
-use Rattle.omi_numbers.specs.declared.states.TheConstants.{WAIT_BARRIER_EXPLICIT, WAIT_BARRIER_IMPLICIT_PARALLEL, WAIT_TASKWAIT}
+use Rattle.omi_numbers.specs.declared.states.TheConstants.{WAIT_BARRIER_EXPLICIT, WAIT_BARRIER_IMPLICIT_PARALLEL, WAIT_TASKGROUP, WAIT_TASKWAIT}
 use Rattle.omi_numbers.specs.Words.{state_word}
 use Rattle.omi_numbers.specs.Addresses.{function_at}
 use Rattle.omi_layout.specs.declared.field.Field.TheVariants.{ThreadNative, ThreadCurrent, ThreadState, TaskGenerating, TaskFunction, TaskFinal, TaskChildren, TaskSlots}
+use Rattle.omi_layout.specs.declared.limits.TheConstants.{GROUP_PLACE, OPEN_PLACE}
 use Rattle.omi_layout.specs.Memory.{word_address}
 use Rattle.omi_layout.specs.Named.{number}
 use Rattle.omi_rep.specs.declared.outcome.Outcome.{Outcome}
@@ -30,11 +31,13 @@ use Rattle.omi_pc.specs.declared.task_counter.LookCounter.{LookCounter}
 use Rattle.omi_pc.specs.declared.task_counter.LookCounter.TheVariants as look
 use Rattle.omi_pc.specs.declared.team_counter.BarrierCounter.TheVariants as barrier
 use Rattle.omi_pc.specs.Fits.{slots_of}
+use Rattle.omi_pc.specs.FitLaws.{grouped}
 use Rattle.omi_pc.specs.Moves.{begun_explicit, back_to_work}
 use Rattle.omi_pc.specs.Settle.{goes_to, settled}
 use Rattle.omi_step_words.specs.Moving.{to_look}
 use Rattle.omi_step_words.specs.Plan.{filling}
-use Rattle.omi_step_words.specs.Words.{of_member, of_task, of_thread, task_place}
+use Rattle.omi_step_words.specs.Words.{of_groups, of_member, of_task, of_thread, task_place}
+use Rattle.omi_task.specs.Groups.{innermost_word, of_innermost_count}
 use Rattle.omi_task.specs.Slots.{coded_task}
 use Rattle.omi_task.specs.Starts.{start_plan, task_context}
 
@@ -46,6 +49,7 @@ wait_state (wait.Barrier Explicit) = WAIT_BARRIER_EXPLICIT
 wait_state (wait.Barrier Implicit) = WAIT_BARRIER_IMPLICIT_PARALLEL
 wait_state wait.Taskwait = WAIT_TASKWAIT
 wait_state wait.Taskyield = 0
+wait_state wait.Taskgroup = WAIT_TASKGROUP
 
 -- the member whose slot is looked at, by the slot's number: each member has the same count of them
 abbrev pub member_at : ℕ → ℕ
@@ -62,6 +66,7 @@ look_next w a (look.LoadRow v n) = op.Load (of_member w a.context.region (member
 look_next w a (look.LoadSlot v n row) = op.Load (of_slot w row n)
 look_next w a (look.LoadGenerating v n row code) =
     op.Load (of_task w (coded_task w code) TaskGenerating)
+look_next w a (look.LoadGroup n row code) = op.Load (of_groups w (coded_task w code) GROUP_PLACE)
 look_next w a (look.Take v n row code) = op.Cas (of_slot w row n) code 0
 look_next w a (look.LoadFunction v n code t) = op.Load (of_task w t TaskFunction)
 look_next w a (look.LoadFinal v n code t f) = op.Load (of_task w t TaskFinal)
@@ -69,12 +74,15 @@ look_next w a (look.Fill v n code t f final word) = filling w t.0 (start_plan w 
 look_next w a (look.Start v n code t f final) =
     op.Store (of_thread w a.thread ThreadCurrent) (task_address w t)
 look_next w a look.LoadChildren = op.Load (of_task w a.context.task TaskChildren)
+look_next w a look.LoadCount = op.Load (of_innermost_count w a)
+look_next w a look.GroupEnd =
+    op.Store (of_groups w a.context.task OPEN_PLACE) (a.context.open_groups - 1)
 look_next w a (look.Yield n) = op.Load (of_thread w a.thread ThreadNative)
 
 -- ---- moves: the look
 
 -- behind the last slot: at a barrier member 0 waits until all have arrived, and any other member until the barrier is released;
--- a taskwait construct waits for the children of its task, and a taskyield construct ends
+-- a taskwait construct waits for the children of its task, and a taskyield construct ends; a taskgroup region waits for its tasks
 abbrev pub behind_barrier_look : ℕ → Barrier → Counter
 behind_barrier_look member b =
     counter.Barrier (if member == 0 then barrier.LoadArrived b else barrier.LoadReleased b)
@@ -83,6 +91,7 @@ abbrev pub behind_look : Actor → Wait → Counter
 behind_look a (wait.Barrier b) = behind_barrier_look a.context.number b
 behind_look a wait.Taskwait = counter.Look look.LoadChildren
 behind_look a wait.Taskyield = counter.Look (look.Yield (slots_of a))
+behind_look a wait.Taskgroup = counter.Look look.LoadCount
 
 -- the slot with this number is looked at. In front of a member's first one its task is loaded
 abbrev pub look_at : Wait → ℕ → Place → LookCounter
@@ -95,9 +104,11 @@ next_look a v n row = if nat_lt n (slots_of a) then counter.Look (look_at v n ro
 abbrev pub looking_on : Wait → ℕ → Place → Actor → Actor
 looking_on v n row a = record a { counter = next_look a v (n + 1) row }
 
--- a slot names a task: at a barrier any task may start, and elsewhere a child of the current task alone
+-- a slot names a task: at a barrier any task may start, at the end of a taskgroup region a task of its group, and elsewhere a child of the
+-- current task alone
 abbrev pub behind_code : Wait → ℕ → Place → ℕ → LookCounter
 behind_code (wait.Barrier b) n row code = look.Take (wait.Barrier b) n row code
+behind_code wait.Taskgroup n row code = look.LoadGroup n row code
 behind_code v n row code = look.LoadGenerating v n row code
 
 -- ---- moves: the start
@@ -116,6 +127,12 @@ body_begun p v a = back_to_work p a
 abbrev pub past_start : Program → Wait → Tid → ℕ → Bool → Actor → Actor
 past_start p v t f final a = body_begun p v (begun_explicit f (Some v) (task_context a t final) a)
 
+-- ---- moves: the end of a group
+
+abbrev pub past_group_end : Program → Actor → Actor
+past_group_end p a =
+    back_to_work p (record a { context = grouped (a.context.open_groups - 1) a.context })
+
 -- ---- moves
 
 -- where the step found the word `old`
@@ -127,6 +144,9 @@ look_moved p w a (look.LoadSlot v n row) old =
 look_moved p w a (look.LoadGenerating v n row code) old =
     if old == task_address w a.context.task then to_look (look.Take v n row code) a
     else looking_on v n row a
+look_moved p w a (look.LoadGroup n row code) old =
+    if old == innermost_word w a then to_look (look.Take wait.Taskgroup n row code) a
+    else looking_on wait.Taskgroup n row a
 look_moved p w a (look.Take v n row code) old =
     if old == code then to_look (look.LoadFunction v n code (coded_task w code)) a
     else looking_on v n row a
@@ -139,6 +159,9 @@ look_moved p w a (look.Fill v n code t f final word) old =
 look_moved p w a (look.Start v n code t f final) old = past_start p v t f final a
 look_moved p w a look.LoadChildren old =
     if old == 0 then back_to_work p a else to_look (look.LoadRow wait.Taskwait 0) a
+look_moved p w a look.LoadCount old =
+    if old == 0 then to_look look.GroupEnd a else to_look (look.LoadRow wait.Taskgroup 0) a
+look_moved p w a look.GroupEnd old = past_group_end p a
 look_moved p w a (look.Yield n) old = goes_to plain.Leave a
 
 -- ---- outcomes
@@ -149,5 +172,8 @@ look_outcome w a (look.Start v n code t f final) old = outcome.Event (event.Star
 look_outcome w a look.LoadChildren old =
     if old == 0 then outcome.Event event.WaitDone
     else outcome.NotReady (of_task w a.context.task TaskChildren) old
+look_outcome w a look.LoadCount old =
+    if old == 0 then outcome.Quiet else outcome.NotReady (of_innermost_count w a) old
+look_outcome w a look.GroupEnd old = outcome.Event event.GroupEnd
 look_outcome w a (look.Yield n) old = outcome.Event event.Yield
 look_outcome w a c old = outcome.Quiet

@@ -10,6 +10,7 @@ use Rattle.omi_model.specs.declared.event.Event.TheVariants as event
 use Rattle.omi_model.specs.declared.id.Tid.{Tid}
 use Rattle.omi_layout.specs.declared.field.Field.TheVariants.{ThreadCurrent, RegionPending, TaskLife, TaskChildren, TaskReferences, TaskSlots}
 use Rattle.omi_numbers.specs.Addresses.{exit_frame}
+use Rattle.omi_layout.specs.declared.limits.TheConstants.{GROUP_PLACE}
 use Rattle.omi_layout.specs.Field.{tasks}
 use Rattle.omi_layout.specs.Memory.{word_address}
 use Rattle.omi_layout.specs.Named.{number}
@@ -26,10 +27,11 @@ use Rattle.omi_pc.specs.Frames.{statement_of}
 use Rattle.omi_pc.specs.Moves.{begun_explicit}
 use Rattle.omi_pc.specs.Settle.{goes_to, settled}
 use Rattle.omi_step_words.specs.declared.plan.NewTask.{NewTask}
-use Rattle.omi_step_words.specs.Moving.{to_task, with_loaded_variable}
+use Rattle.omi_step_words.specs.Moving.{to_task, with_loaded_group, with_loaded_variable}
 use Rattle.omi_step_words.specs.Plan.{filling, of_variable, task_plan}
 use Rattle.omi_step_words.specs.Searches.{next_slot, own_place, search_outcome}
-use Rattle.omi_step_words.specs.Words.{is_free, object_in, of_place, of_region, of_task, of_thread, used_word}
+use Rattle.omi_step_words.specs.Words.{is_free, object_in, of_group_count, of_groups, of_place, of_region, of_task, of_thread, used_word}
+use Rattle.omi_task.specs.Groups.{new_group}
 use Rattle.omi_task.specs.Starts.{task_context, task_depth}
 
 -- ---- the statement
@@ -54,8 +56,8 @@ makes_final p a = final_in (statement_of p a.stack) || a.context.is_final
 
 -- The new task, as if it started now on this thread: where it is deferred, the thread that starts it stores its own place. It has
 -- the data environment of the task that makes it
-abbrev pub new_task : Program → Actor → NewTask
-new_task p a =
+abbrev pub new_task : Program → List ℕ → Actor → NewTask
+new_task p w a =
     record {
       implicit = false;
       region = a.context.region;
@@ -67,6 +69,7 @@ new_task p a =
       exit = exit_frame a.thread (task_depth a);
       is_final = makes_final p a;
       references = 1;
+      group = new_group w a;
       variables = a.gathered.variables;
     }
 
@@ -80,12 +83,14 @@ of_own_slot w a place =
 abbrev pub making_next : Program → List ℕ → Actor → TaskCounter → Op
 making_next p w a (task.LoadSlot place) = op.Load (of_own_slot w a place)
 making_next p w a (task.LoadVariable place word) = op.Load (of_variable w a.context.task.0 word)
+making_next p w a (task.LoadGroup place) = op.Load (of_groups w a.context.task GROUP_PLACE)
 making_next p w a (task.LoadLife place slot) = op.Load (of_place w (own_place a slot) TaskLife)
 making_next p w a (task.Take place t) = op.Store (of_task w t TaskLife) (used_word t.0)
-making_next p w a (task.Fill place t word) = filling w t.0 (task_plan w (new_task p a) word)
+making_next p w a (task.Fill place t word) = filling w t.0 (task_plan w (new_task p w a) word)
 making_next p w a (task.AddPending place t) = op.Add (of_region w a.context.region RegionPending) 1
 making_next p w a (task.AddChildren place t) = op.Add (of_task w a.context.task TaskChildren) 1
 making_next p w a (task.AddReferences place t) = op.Add (of_task w a.context.task TaskReferences) 1
+making_next p w a (task.AddCount place t) = op.Add (of_group_count w (new_group w a)) 1
 making_next p w a (task.Defer place t) = op.Store (of_own_slot w a place) (slot_word w t)
 making_next p w a (task.StartNow t) =
     op.Store (of_thread w a.thread ThreadCurrent) (task_address w t)
@@ -99,10 +104,14 @@ behind_slot place old =
     else (if nat_lt (place + 1) OWN_SLOTS then task.LoadSlot (place + 1)
     else task.LoadVariable None 0)
 
-abbrev pub behind_task_variable : Option ℕ → ℕ → TaskCounter
-behind_task_variable place word =
+-- the data environment is loaded. The group of a task that has none open is loaded behind it
+abbrev pub behind_variables : ℕ → Option ℕ → TaskCounter
+behind_variables groups place = if groups == 0 then task.LoadGroup place else task.LoadLife place 0
+
+abbrev pub behind_task_variable : ℕ → Option ℕ → ℕ → TaskCounter
+behind_task_variable groups place word =
     if nat_lt (word + 1) VARIABLE_WORDS then task.LoadVariable place (word + 1)
-    else task.LoadLife place 0
+    else behind_variables groups place
 
 -- the life word of an own record was looked at
 abbrev pub behind_life : List ℕ → Actor → Option ℕ → ℕ → ℕ → TaskCounter
@@ -119,6 +128,11 @@ abbrev pub behind_raises : Option ℕ → Tid → TaskCounter
 behind_raises None t = task.StartNow t
 behind_raises (Some place) t = task.Defer place t
 
+-- but for the count of the new task's group, where it has one
+abbrev pub behind_reference : List ℕ → Actor → Option ℕ → Tid → TaskCounter
+behind_reference w a place t =
+    if new_group w a == 0 then behind_raises place t else task.AddCount place t
+
 -- the new task is current, on top of the task that made it
 abbrev pub past_start_now : Program → Tid → Actor → Actor
 past_start_now p t a =
@@ -128,13 +142,15 @@ past_start_now p t a =
 abbrev pub making_moved : Program → List ℕ → Actor → TaskCounter → ℕ → Actor
 making_moved p w a (task.LoadSlot place) old = to_task (behind_slot place old) a
 making_moved p w a (task.LoadVariable place word) old =
-    to_task (behind_task_variable place word) (with_loaded_variable word old a)
+    to_task (behind_task_variable a.context.open_groups place word) (with_loaded_variable word old a)
+making_moved p w a (task.LoadGroup place) old = to_task (task.LoadLife place 0) (with_loaded_group old a)
 making_moved p w a (task.LoadLife place slot) old = to_task (behind_life w a place slot old) a
 making_moved p w a (task.Take place t) old = to_task (task.Fill place t 0) a
 making_moved p w a (task.Fill place t word) old = to_task (behind_word place t word) a
 making_moved p w a (task.AddPending place t) old = to_task (task.AddChildren place t) a
 making_moved p w a (task.AddChildren place t) old = to_task (task.AddReferences place t) a
-making_moved p w a (task.AddReferences place t) old = to_task (behind_raises place t) a
+making_moved p w a (task.AddReferences place t) old = to_task (behind_reference w a place t) a
+making_moved p w a (task.AddCount place t) old = to_task (behind_raises place t) a
 making_moved p w a (task.Defer place t) old = goes_to Leave a
 making_moved p w a (task.StartNow t) old = past_start_now p t a
 

@@ -34,4 +34,5 @@ task_context a t final =
       implicit = false;
       is_final = final;
       depth = task_depth a;
+      open_groups = 0;
     }

@@ -6,17 +6,19 @@ ghost use Rattle.omi_pc.specs.Fits.{Fits};
 ghost use Rattle.omi_pc.specs.declared.counter.Counter.TheVariants as counter;
 ghost use Rattle.omi_step_words.specs.Moving.{to_finish};
 ghost use Rattle.omi_step_words.specs.Outcomes.{outcome_of};
-ghost use Rattle.omi_step_words.specs.Placed.{IsPlaced};
-ghost use Rattle.omi_task.specs.FinishSteps.{behind_finish, behind_references, finish_moved, finish_next, finish_outcome, past_finish, wait_in};
+ghost use Rattle.omi_step_words.specs.Placed.{HasGroupWords, IsPlaced};
+ghost use Rattle.omi_task.specs.FinishSteps.{behind_finish, behind_group, behind_references, finish_moved, finish_next, finish_outcome, past_finish, wait_in};
 
-use omi_layout::{Field, Layout};
+use omi_layout::{Field, GROUP_PLACE, Layout};
 use omi_model::Tid;
-use omi_pc::{Actor, Ancestor, Counter, FinishCounter, LookCounter, Opened, PlainCounter, Wait};
+use omi_pc::{
+    Actor, Ancestor, Counter, FinishCounter, LookCounter, Opened, Place, PlainCounter, Wait,
+};
 use omi_run_lists::CompactEvent;
 use omi_script::Program;
 use omi_step_words::{
-    CompactOutcome, load, object_in, of_place, of_region, of_task, store, store_under, task_place,
-    unused_word,
+    CompactOutcome, load, object_in, of_group_count, of_groups, of_place, of_region, of_task,
+    store, store_under, task_place, unused_word,
 };
 use omi_word::Op;
 
@@ -25,6 +27,7 @@ pub fn finish_next(p: &Program, l: &Layout, a: &Actor, c: FinishCounter) -> Op
     requires fits { Fits p.now a.now }
     requires threads { p.now.threads ≡ thread_count l.now.table }
     requires placed { IsPlaced l.now.table a.now }
+    requires groups { HasGroupWords l.now.table }
     requires at { a.now.counter ≡ counter.Finish c }
     ensures { result ≡ finish_next l.now.table a.now c }
 {
@@ -33,6 +36,11 @@ pub fn finish_next(p: &Program, l: &Layout, a: &Actor, c: FinishCounter) -> Op
         FinishCounter::LoadGenerating { task, .. } => load(of_task(l, task, Field::TaskGenerating)),
         FinishCounter::SubtractChildren { generating, .. } => Op::Sub {
             at: of_place(l, generating, Field::TaskChildren),
+            by: 1,
+        },
+        FinishCounter::LoadGroup { task, .. } => load(of_groups(l, task, GROUP_PLACE)),
+        FinishCounter::SubtractCount { group, .. } => Op::Sub {
+            at: of_group_count(l, group),
             by: 1,
         },
         FinishCounter::SubtractReferences { task, .. } => Op::Sub {
@@ -89,6 +97,26 @@ fn finish(a: &mut Actor)
     to_finish(a, FinishCounter::LoadGenerating { wait, task });
 }
 
+/// The counter behind the load of a finished task's group: this word.
+fn behind_group(wait: Option<Wait>, task: Tid, generating: Place, group: u64) -> FinishCounter
+    ensures { result ≡ behind_group wait task generating group }
+{
+    if group == 0 {
+        FinishCounter::SubtractReferences {
+            wait,
+            task,
+            generating,
+        }
+    } else {
+        FinishCounter::SubtractCount {
+            wait,
+            task,
+            generating,
+            group,
+        }
+    }
+}
+
 /// The counter behind the subtraction from a generating task's references.
 fn behind_references(
     l: &Layout,
@@ -141,6 +169,21 @@ pub fn finish_move(p: &Program, l: &Layout, a: &mut Actor, c: FinishCounter, old
             wait,
             task,
             generating,
+        } => FinishCounter::LoadGroup {
+            wait,
+            task,
+            generating,
+        },
+        FinishCounter::LoadGroup {
+            wait,
+            task,
+            generating,
+        } => behind_group(wait, task, generating, old),
+        FinishCounter::SubtractCount {
+            wait,
+            task,
+            generating,
+            ..
         } => FinishCounter::SubtractReferences {
             wait,
             task,

@@ -2,6 +2,7 @@
 #![tactic(auto)]
 
 mod finish;
+mod groups;
 mod laws;
 mod look;
 mod look_moves;

@@ -6,19 +6,21 @@ ghost use Rattle.omi_layout.specs.Table.{thread_count};
 ghost use Rattle.omi_pc.specs.Fits.{Fits};
 ghost use Rattle.omi_pc.specs.declared.counter.Counter.TheVariants as counter;
 ghost use Rattle.omi_step_words.specs.Outcomes.{outcome_of};
-ghost use Rattle.omi_step_words.specs.Placed.{HasTaskPlace, IsPlaced};
+ghost use Rattle.omi_step_words.specs.Placed.{HasGroupWords, HasTaskPlace, IsPlaced};
 ghost use Rattle.omi_task.specs.LookSteps.{look_next, look_outcome, of_slot, wait_state};
 
+use crate::groups::of_innermost_count;
 use crate::slots::coded_task;
 use crate::starts::start_plan;
-use omi_layout::{Field, Layout};
+use omi_layout::{Field, GROUP_PLACE, Layout, OPEN_PLACE};
 use omi_numbers::{
-    OWN_SLOTS, WAIT_BARRIER_EXPLICIT, WAIT_BARRIER_IMPLICIT_PARALLEL, WAIT_TASKWAIT, state_word,
+    OWN_SLOTS, WAIT_BARRIER_EXPLICIT, WAIT_BARRIER_IMPLICIT_PARALLEL, WAIT_TASKGROUP,
+    WAIT_TASKWAIT, state_word,
 };
 use omi_pc::{Actor, Barrier, LookCounter, Place, Wait};
 use omi_run_lists::CompactEvent;
 use omi_script::Program;
-use omi_step_words::{CompactOutcome, fill, load, of_task, of_thread, store};
+use omi_step_words::{CompactOutcome, fill, load, of_groups, of_task, of_thread, store};
 use omi_word::Op;
 
 /// The state of a thread that waits, and 0 for a wait in which it stores none.
@@ -35,6 +37,7 @@ fn wait_state(v: Wait) -> u32
         } => WAIT_BARRIER_IMPLICIT_PARALLEL,
         Wait::Taskwait => WAIT_TASKWAIT,
         Wait::Taskyield => 0,
+        Wait::Taskgroup => WAIT_TASKGROUP,
     }
 }
 
@@ -52,6 +55,7 @@ pub fn look_next(p: &Program, l: &Layout, a: &Actor, c: LookCounter) -> Op
     requires fits { Fits p.now a.now }
     requires threads { p.now.threads ≡ thread_count l.now.table }
     requires placed { IsPlaced l.now.table a.now }
+    requires groups { HasGroupWords l.now.table }
     requires at { a.now.counter ≡ counter.Look c }
     ensures { result ≡ look_next l.now.table a.now c }
 {
@@ -69,6 +73,9 @@ pub fn look_next(p: &Program, l: &Layout, a: &Actor, c: LookCounter) -> Op
         LookCounter::LoadSlot { look, row, .. } => load(of_slot(l, row, look)),
         LookCounter::LoadGenerating { code, .. } => {
             load(of_task(l, coded_task(l, code), Field::TaskGenerating))
+        }
+        LookCounter::LoadGroup { code, .. } => {
+            load(of_groups(l, coded_task(l, code), GROUP_PLACE))
         }
         LookCounter::Take {
             look,
@@ -88,6 +95,11 @@ pub fn look_next(p: &Program, l: &Layout, a: &Actor, c: LookCounter) -> Op
             store(of_thread(l, i, Field::ThreadCurrent), record)
         }
         LookCounter::LoadChildren => load(of_task(l, a.context.task, Field::TaskChildren)),
+        LookCounter::LoadCount => load(of_innermost_count(l, a)),
+        LookCounter::GroupEnd => store(
+            of_groups(l, a.context.task, OPEN_PLACE),
+            u64::from(a.context.open_groups.saturating_sub(1)),
+        ),
         LookCounter::Yield { .. } => load(of_thread(l, i, Field::ThreadNative)),
     }
 }
@@ -97,6 +109,7 @@ pub fn look_outcome(p: &Program, l: &Layout, a: &Actor, c: LookCounter, old: u64
     requires fits { Fits p.now a.now }
     requires threads { p.now.threads ≡ thread_count l.now.table }
     requires placed { IsPlaced l.now.table a.now }
+    requires groups { HasGroupWords l.now.table }
     requires at { a.now.counter ≡ counter.Look c }
     ensures { outcome_of a.now result ≡ look_outcome l.now.table a.now c old }
 {
@@ -113,6 +126,14 @@ pub fn look_outcome(p: &Program, l: &Layout, a: &Actor, c: LookCounter, old: u64
             let addr = of_task(l, a.context.task, Field::TaskChildren);
             CompactOutcome::NotReady { addr, word: old }
         }
+        LookCounter::LoadCount => {
+            if old == 0 {
+                return CompactOutcome::Quiet;
+            }
+            let addr = of_innermost_count(l, a);
+            CompactOutcome::NotReady { addr, word: old }
+        }
+        LookCounter::GroupEnd => CompactOutcome::Event(CompactEvent::GroupEnd),
         LookCounter::Yield { .. } => CompactOutcome::Event(CompactEvent::Yield),
         _ => CompactOutcome::Quiet,
     }

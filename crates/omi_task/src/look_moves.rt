@@ -5,12 +5,13 @@ ghost use Rattle.omi_layout.specs.Table.{thread_count};
 ghost use Rattle.omi_pc.specs.declared.counter.Counter.TheVariants as counter;
 ghost use Rattle.omi_pc.specs.declared.limits.TheConstants.{START_WORDS};
 ghost use Rattle.omi_pc.specs.Fits.{Fits, slots_of};
-ghost use Rattle.omi_pc.specs.OpenBodies.{IsWaiting};
+ghost use Rattle.omi_pc.specs.OpenBodies.{AreOpen, IsWaiting};
 ghost use Rattle.omi_pc.specs.Stacks.{task_function};
 ghost use Rattle.omi_step_words.specs.Moving.{to_look};
 ghost use Rattle.omi_step_words.specs.Placed.{IsPlaced};
-ghost use Rattle.omi_task.specs.LookSteps.{behind_code, behind_look, behind_start_word, look_at, look_moved, look_outcome, looking_on, next_look, past_start};
+ghost use Rattle.omi_task.specs.LookSteps.{behind_code, behind_look, behind_start_word, look_at, look_moved, look_outcome, looking_on, next_look, past_group_end, past_start};
 
+use crate::groups::innermost_word;
 use crate::look::look_outcome;
 use crate::slots::coded_task;
 use crate::starts::task_context;
@@ -55,6 +56,7 @@ fn behind_look(a: &Actor, wait: Wait, slots: u16) -> Counter
         }),
         Wait::Taskwait => Counter::Look(LookCounter::LoadChildren),
         Wait::Taskyield => Counter::Look(LookCounter::Yield { look: slots }),
+        Wait::Taskgroup => Counter::Look(LookCounter::LoadCount),
     }
 }
 
@@ -96,6 +98,7 @@ fn behind_code(wait: Wait, look: u16, row: Place, code: u64) -> LookCounter
             row,
             code,
         },
+        Wait::Taskgroup => LookCounter::LoadGroup { look, row, code },
         _ => LookCounter::LoadGenerating {
             wait,
             look,
@@ -159,6 +162,16 @@ fn start(p: &Program, a: &mut Actor, wait: Wait, task: Tid, function: u8, is_fin
     }
 }
 
+/// The current task has ended its innermost group.
+fn end_group(p: &Program, a: &mut Actor)
+    requires { AreOpen p.now a.old.context a.old.stack }
+    ensures { a.new ≡ past_group_end p.now a.old }
+{
+    bodies_stand();
+    a.context.open_groups = a.context.open_groups.saturating_sub(1);
+    a.work(p);
+}
+
 /// Moves a thread on, behind the operation of its counter.
 pub fn look_move(p: &Program, l: &Layout, a: &mut Actor, c: LookCounter, old: u64)
     requires fits { Fits p.now a.old }
@@ -188,6 +201,22 @@ pub fn look_move(p: &Program, l: &Layout, a: &mut Actor, c: LookCounter, old: u6
         } => {
             let task = a.context.task.0;
             if old == l.task_at(task.creator, task.slot) {
+                to_look(
+                    a,
+                    LookCounter::Take {
+                        wait,
+                        look,
+                        row,
+                        code,
+                    },
+                );
+            } else {
+                look_on(p, a, wait, look, row);
+            }
+        }
+        LookCounter::LoadGroup { look, row, code } => {
+            let wait = Wait::Taskgroup;
+            if old == innermost_word(l, a) {
                 to_look(
                     a,
                     LookCounter::Take {
@@ -287,6 +316,20 @@ pub fn look_move(p: &Program, l: &Layout, a: &mut Actor, c: LookCounter, old: u6
                 );
             }
         }
+        LookCounter::LoadCount => {
+            if old == 0 {
+                to_look(a, LookCounter::GroupEnd);
+            } else {
+                to_look(
+                    a,
+                    LookCounter::LoadRow {
+                        wait: Wait::Taskgroup,
+                        look: 0,
+                    },
+                );
+            }
+        }
+        LookCounter::GroupEnd => end_group(p, a),
         LookCounter::Yield { .. } => a.go_to(PlainCounter::Leave),
     }
 }

@@ -1,12 +1,12 @@
 //! The operations and the outcomes of a `task` construct.
 
-ghost use Rattle.std.specs.Prelude.{◌≡◌, ◌<◌};
+ghost use Rattle.std.specs.Prelude.{◌≡◌, ◌<◌, ◌≤◌};
 ghost use Rattle.omi_layout.specs.Field.{tasks};
 ghost use Rattle.omi_layout.specs.Place.{IsSlot};
 ghost use Rattle.omi_layout.specs.Table.{thread_count};
 ghost use Rattle.omi_pc.specs.Fits.{Fits};
 ghost use Rattle.omi_pc.specs.declared.counter.Counter.TheVariants as counter;
-ghost use Rattle.omi_numbers.specs.declared.limits.TheConstants.{OWN_SLOTS};
+ghost use Rattle.omi_numbers.specs.declared.limits.TheConstants.{OPEN_GROUPS, OWN_SLOTS};
 ghost use Rattle.omi_pc.specs.declared.limits.TheConstants.{TASK_WORDS};
 ghost use Rattle.omi_step_words.specs.Outcomes.{outcome_of};
 ghost use Rattle.omi_step_words.specs.Placed.{HasGroupWords, HasOptionalTask, HasRegion, HasTask, IsPlaced};
@@ -14,16 +14,17 @@ ghost use Rattle.omi_step_words.specs.Plan.{filling, task_plan};
 ghost use Rattle.omi_task.specs.MakingSteps;
 ghost use Rattle.omi_task.specs.MakingSteps.{making_next, making_outcome, new_task, of_own_slot};
 
+use crate::groups::new_group;
 use crate::slots::slot_word;
-use omi_layout::{Field, Layout};
+use omi_layout::{Field, GROUP_PLACE, Layout};
 use omi_model::Id;
 use omi_numbers::exit_frame;
 use omi_pc::{Actor, TaskCounter};
 use omi_run_lists::CompactEvent;
 use omi_script::{Program, Stmt};
 use omi_step_words::{
-    CompactOutcome, NewTask, fill, load, of_place, of_region, of_task, of_thread, of_variable,
-    own_place, search_outcome, store, task_plan, used_word,
+    CompactOutcome, NewTask, fill, load, of_group_count, of_groups, of_place, of_region, of_task,
+    of_thread, of_variable, own_place, search_outcome, store, task_plan, used_word,
 };
 use omi_word::Op;
 
@@ -49,8 +50,10 @@ pub fn makes_final(p: &Program, a: &Actor) -> bool
 }
 
 /// The new task, as if it started now on this thread.
-fn new_task(p: &Program, a: &Actor) -> NewTask
-    ensures { result ≡ new_task p.now a.now }
+fn new_task(p: &Program, l: &Layout, a: &Actor) -> NewTask
+    requires task { HasTask l.now.table a.now.context.task }
+    requires few { a.now.context.open_groups ≤ OPEN_GROUPS }
+    ensures { result ≡ new_task p.now l.now.table a.now }
 {
     let task = a.context.task;
     NewTask {
@@ -64,6 +67,7 @@ fn new_task(p: &Program, a: &Actor) -> NewTask
         exit: exit_frame(a.thread, u64::from(a.context.depth) + 1),
         is_final: makes_final(p, a),
         references: 1,
+        group: new_group(l, a),
         variables: a.gathered.variables,
     }
 }
@@ -97,6 +101,7 @@ pub fn making_next(p: &Program, l: &Layout, a: &Actor, c: TaskCounter) -> Op
     requires fits { Fits p.now a.now }
     requires threads { p.now.threads ≡ thread_count l.now.table }
     requires placed { IsPlaced l.now.table a.now }
+    requires groups { HasGroupWords l.now.table }
     requires at { a.now.counter ≡ counter.Task c }
     ensures { result ≡ making_next p.now l.now.table a.now c }
 {
@@ -104,6 +109,7 @@ pub fn making_next(p: &Program, l: &Layout, a: &Actor, c: TaskCounter) -> Op
     match c {
         TaskCounter::LoadSlot { place } => load(of_own_slot(l, a, place)),
         TaskCounter::LoadVariable { word, .. } => load(of_variable(l, current.0, word)),
+        TaskCounter::LoadGroup { .. } => load(of_groups(l, current, GROUP_PLACE)),
         TaskCounter::LoadLife { slot, .. } => load(of_place(
             l,
             own_place(a, slot),
@@ -112,7 +118,7 @@ pub fn making_next(p: &Program, l: &Layout, a: &Actor, c: TaskCounter) -> Op
         TaskCounter::Take { task, .. } => {
             store(of_task(l, task, Field::TaskLife), used_word(task.0))
         }
-        TaskCounter::Fill { task, word, .. } => fill_task(l, task.0, &new_task(p, a), word),
+        TaskCounter::Fill { task, word, .. } => fill_task(l, task.0, &new_task(p, l, a), word),
         TaskCounter::AddPending { .. } => Op::Add {
             at: of_region(l, a.context.region, Field::RegionPending),
             by: 1,
@@ -123,6 +129,10 @@ pub fn making_next(p: &Program, l: &Layout, a: &Actor, c: TaskCounter) -> Op
         },
         TaskCounter::AddReferences { .. } => Op::Add {
             at: of_task(l, current, Field::TaskReferences),
+            by: 1,
+        },
+        TaskCounter::AddCount { .. } => Op::Add {
+            at: of_group_count(l, new_group(l, a)),
             by: 1,
         },
         TaskCounter::Defer { place, task } => store(of_own_slot(l, a, place), slot_word(l, task)),

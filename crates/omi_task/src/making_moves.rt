@@ -1,18 +1,19 @@
 //! How a step of a `task` construct moves a thread on.
 
-ghost use Rattle.std.specs.Prelude.{◌≡◌, ◌<◌};
+ghost use Rattle.std.specs.Prelude.{◌≡◌, ◌<◌, ◌≤◌};
 ghost use Rattle.omi_layout.specs.Field.{tasks};
 ghost use Rattle.omi_layout.specs.Table.{thread_count};
 ghost use Rattle.omi_pc.specs.declared.counter.Counter.TheVariants as counter;
-ghost use Rattle.omi_numbers.specs.declared.limits.TheConstants.{OWN_SLOTS};
+ghost use Rattle.omi_numbers.specs.declared.limits.TheConstants.{OPEN_GROUPS, OWN_SLOTS};
 ghost use Rattle.omi_pc.specs.declared.limits.TheConstants.{TASK_WORDS, VARIABLE_WORDS};
 ghost use Rattle.omi_pc.specs.declared.task_counter.TaskCounter.TheVariants as task;
 ghost use Rattle.omi_pc.specs.Fits.{Fits, HasVariables, IsTaskGot};
 ghost use Rattle.omi_step_words.specs.Moving.{to_task, with_loaded_variable};
-ghost use Rattle.omi_step_words.specs.Placed.{IsPlaced, Searches};
-ghost use Rattle.omi_task.specs.MakingSteps.{behind_life, behind_raises, behind_slot, behind_task_variable, behind_word, making_moved, making_outcome, past_start_now};
+ghost use Rattle.omi_step_words.specs.Placed.{HasTask, IsPlaced, Searches};
+ghost use Rattle.omi_task.specs.MakingSteps.{behind_life, behind_raises, behind_reference, behind_slot, behind_task_variable, behind_variables, behind_word, making_moved, making_outcome, past_start_now};
 ghost use Rattle.std.specs.Prelude.{None};
 
+use crate::groups::new_group;
 use crate::making::{made_function, makes_final, making_outcome};
 use crate::starts::task_context;
 use omi_layout::Layout;
@@ -51,16 +52,27 @@ fn behind_slot(place: u8, old: u64) -> TaskCounter
     }
 }
 
+/// The counter behind the load of a data environment, in a task that has so many groups open.
+fn behind_variables(open_groups: u8, place: Option<u8>) -> TaskCounter
+    ensures { result ≡ behind_variables open_groups place }
+{
+    if open_groups == 0 {
+        TaskCounter::LoadGroup { place }
+    } else {
+        TaskCounter::LoadLife { place, slot: 0 }
+    }
+}
+
 /// The counter behind the load of a word of a data environment.
-fn behind_variable(place: Option<u8>, word: u8) -> TaskCounter
+fn behind_variable(open_groups: u8, place: Option<u8>, word: u8) -> TaskCounter
     requires { word < VARIABLE_WORDS }
-    ensures { result ≡ behind_task_variable place word }
+    ensures { result ≡ behind_task_variable open_groups place word }
 {
     let next = word + 1;
     if (next as usize) < VARIABLE_WORDS {
         TaskCounter::LoadVariable { place, word: next }
     } else {
-        TaskCounter::LoadLife { place, slot: 0 }
+        behind_variables(open_groups, place)
     }
 }
 
@@ -118,6 +130,19 @@ fn behind_raises(place: Option<u8>, task: Tid) -> TaskCounter
     }
 }
 
+/// The counter behind the raises of all counts but that of the new task's group.
+fn behind_reference(l: &Layout, a: &Actor, place: Option<u8>, task: Tid) -> TaskCounter
+    requires current { HasTask l.now.table a.now.context.task }
+    requires few { a.now.context.open_groups ≤ OPEN_GROUPS }
+    ensures { result ≡ behind_reference l.now.table a.now place task }
+{
+    if new_group(l, a) == 0 {
+        behind_raises(place, task)
+    } else {
+        TaskCounter::AddCount { place, task }
+    }
+}
+
 /// The new task starts at once.
 fn start_now(p: &Program, a: &mut Actor, task: Tid)
     requires fits { Fits p.now a.old }
@@ -145,7 +170,11 @@ pub fn making_move(p: &Program, l: &Layout, a: &mut Actor, c: TaskCounter, old: 
         TaskCounter::LoadSlot { place } => to_task(a, behind_slot(place, old)),
         TaskCounter::LoadVariable { place, word } => {
             keep_variable(a, word, old);
-            to_task(a, behind_variable(place, word));
+            to_task(a, behind_variable(a.context.open_groups, place, word));
+        }
+        TaskCounter::LoadGroup { place } => {
+            a.gathered.group = old;
+            to_task(a, TaskCounter::LoadLife { place, slot: 0 });
         }
         TaskCounter::LoadLife { place, slot } => {
             let next = behind_life(l, a, place, slot, old);
@@ -166,7 +195,11 @@ pub fn making_move(p: &Program, l: &Layout, a: &mut Actor, c: TaskCounter, old: 
         TaskCounter::AddChildren { place, task } => {
             to_task(a, TaskCounter::AddReferences { place, task })
         }
-        TaskCounter::AddReferences { place, task } => to_task(a, behind_raises(place, task)),
+        TaskCounter::AddReferences { place, task } => {
+            let next = behind_reference(l, a, place, task);
+            to_task(a, next);
+        }
+        TaskCounter::AddCount { place, task } => to_task(a, behind_raises(place, task)),
         TaskCounter::Defer { .. } => a.go_to(PlainCounter::Leave),
         TaskCounter::StartNow { task } => start_now(p, a, task),
     }

@@ -56,6 +56,7 @@ pub fn task_context(a: &Actor, task: Tid, is_final: bool) -> Context
         implicit: false,
         is_final,
         depth: a.context.depth + 1,
+        open_groups: 0,
         ..a.context
     }
 }

@@ -18,7 +18,7 @@ use Rattle.omi_model.specs.declared.region.Region.{Region}
 use Rattle.omi_model.specs.declared.task.Task.{Task}
 use Rattle.omi_model.specs.declared.thread.Thread.{Thread}
 use Rattle.omi_model.specs.Changes.{IsCurrent, OfCurrent, encounter}
-use Rattle.omi_model.specs.Freeing.{MayFree, MayFreeMember, MayFreeRegion, freeing}
+use Rattle.omi_model.specs.Freeing.{MayFree, MayFreeMember, freeing}
 use Rattle.omi_model.specs.Freeing as freeing_rules
 use Rattle.omi_model.specs.LawFreeing.{AreRegionsFreed, IsBeingFreed, IsJoinedOf}
 use Rattle.omi_model.specs.LawMembers.{AreMembersKnown}

@@ -1,10 +1,9 @@
 -- Members of groups over every event: an unfinished task is a member of an open group, and no other task comes to a group but by its owner and its members.
-use Rattle.std.proofs.Common.{◌≡◌, ◌<◌, ◌≤◌, ◌-◌, ◌⊎◌, inl, inr, ℕ, suc, Bool, true, false, List, [], ◌∷◌, ◌++◌, Option, Some, None, refl, sym, ap, ◌∙◌, subst, arith}
+use Rattle.std.proofs.Common.{◌≡◌, ◌<◌, ◌≤◌, ◌-◌, ◌⊎◌, inl, inr, ℕ, suc, true, false, List, [], ◌∷◌, ◌++◌, Option, Some, None, refl, sym, ap, ◌∙◌, subst, arith}
 use Rattle.omi_numbers.specs.declared.limits.TheConstants.{OPEN_GROUPS}
 use Rattle.omi_script.specs.declared.program.Program.{Program}
 use Rattle.omi_model.specs.declared.event.Event.{Event}
 use Rattle.omi_model.specs.declared.event.Event.TheVariants as event
-use Rattle.omi_model.specs.declared.freeable.Freeable.{Freeable}
 use Rattle.omi_model.specs.declared.group.Group.{Group}
 use Rattle.omi_model.specs.declared.id.Id.{Id}
 use Rattle.omi_model.specs.declared.id.Tid.{Tid}

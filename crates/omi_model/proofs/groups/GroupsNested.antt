@@ -1,20 +1,19 @@
 -- The groups that each task has open, and its to-do list, over every event.
-use Rattle.std.proofs.Common.{◌≡◌, ◌+◌, ◌⊎◌, inl, inr, ℕ, Bool, true, false, List, [], ◌∷◌, Option, Some, None, refl, sym, ap, ◌∙◌, subst}
+use Rattle.std.proofs.Common.{◌≡◌, ◌+◌, ◌⊎◌, inl, inr, ℕ, true, false, List, [], ◌∷◌, Option, Some, None, refl, sym, ap, ◌∙◌, subst}
 use Rattle.omi_script.specs.declared.program.Program.{Program}
 use Rattle.omi_model.specs.declared.event.Event.{Event}
 use Rattle.omi_model.specs.declared.id.Id.{Id}
 use Rattle.omi_model.specs.declared.id.Tid.{Tid}
-use Rattle.omi_model.specs.declared.item.Item.{Item}
 use Rattle.omi_model.specs.declared.task.Task.{Task}
 use Rattle.omi_model.specs.Changes.{IsCurrent, ahead_of, encounter, in_front}
 use Rattle.omi_model.specs.LawGroups.{GroupsNest}
 use Rattle.omi_model.specs.Lists.{fits, stays, take_item}
 use Rattle.omi_model.specs.Opening.{opening}
 use Rattle.omi_model.specs.Reached.{Reached, Step}
-use Rattle.omi_model.specs.State.{State, task_of}
+use Rattle.omi_model.specs.State.{State}
 use Rattle.omi_model.proofs.EachObject.{EachTask, IsTaskLaw, task_step_from}
 use Rattle.omi_model.proofs.groups.GroupLists.{count_behind, main_nests, member_nests, start_nests, stays_nests, take_nests, task_nests}
-use Rattle.omi_model.proofs.groups.OpenCounts.{before, m, middle, new_member, new_name, own_count, same_count}
+use Rattle.omi_model.proofs.groups.OpenCounts.{before, m, middle, new_member, new_name, own_count}
 use Rattle.omi_model.proofs.ListLaws.{by_taken, take_fits}
 use Rattle.omi_model.proofs.OpenNames.{open_names}
 use Rattle.omi_model.proofs.OpeningObjects.{each_first_task}

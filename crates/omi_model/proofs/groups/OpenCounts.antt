@@ -1,5 +1,5 @@
 -- The number of a task's open groups over an event: it changes by the two events of groups, and then that of the current task alone.
-use Rattle.std.proofs.Common.{◌≡◌, ◌-◌, ◌⊎◌, inl, inr, ℕ, suc, Bool, true, false, List, ◌∷◌, slice_get, Some, refl, sym, ap, ◌∙◌, subst}
+use Rattle.std.proofs.Common.{◌≡◌, ◌-◌, inl, inr, ℕ, suc, true, List, slice_get, Some, sym, ap, ◌∙◌, subst}
 use Rattle.std.specs.Option.{option_map}
 use Rattle.std.proofs.lemmas.Option.{get_or_from_slice_get, slice_get_within}
 use Rattle.omi_script.specs.declared.program.Program.{Program}

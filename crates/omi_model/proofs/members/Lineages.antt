@@ -1,24 +1,20 @@
 -- The thread that each task is scheduled on: that of its scheduling task, which is on its chain of generating tasks or a member of its region.
-use Rattle.std.proofs.Common.{◌≡◌, ◌==◌, ◌≤◌, ◌⊎◌, inl, inr, ℕ, zero, suc, Bool, true, false, List, [], ◌∷◌, map, slice_get, Option, Some, None, if◌then◌else◌, refl, sym, ap, ◌∙◌, subst, arith, ne_eqb}
+use Rattle.std.proofs.Common.{◌≡◌, ◌==◌, ◌⊎◌, inl, inr, ℕ, zero, suc, true, false, List, [], ◌∷◌, map, slice_get, Option, Some, None, if◌then◌else◌, refl, sym, ap, ◌∙◌, subst, arith, ne_eqb}
 use Rattle.std.specs.List.{Contains}
 use Rattle.omi_script.specs.declared.program.Program.{Program}
 use Rattle.omi_model.specs.declared.event.Event.{Event}
-use Rattle.omi_model.specs.declared.freeable.Freeable.{Freeable}
-use Rattle.omi_model.specs.declared.id.Rid.{Rid}
 use Rattle.omi_model.specs.declared.id.Tid.{Tid}
 use Rattle.omi_model.specs.declared.item.Item.{Item}
-use Rattle.omi_model.specs.declared.progress.Progress.{Progress}
-use Rattle.omi_model.specs.declared.progress.Progress.TheVariants.{Begun, Deferred, Finished, NotBegun}
+use Rattle.omi_model.specs.declared.progress.Progress.TheVariants.{Begun, Deferred}
 use Rattle.omi_model.specs.declared.task.Task.{Task}
 use Rattle.omi_model.specs.Changes.{IsCurrent}
 use Rattle.omi_model.specs.LawLineage.{HasLineage, IsLineage, IsMemberOn}
 use Rattle.omi_model.specs.LawScheduling.{IsUnderOwner}
-use Rattle.omi_model.specs.LawStays.{IsNeeded, Stays, stage_of}
+use Rattle.omi_model.specs.LawStays.{Stays}
 use Rattle.omi_model.specs.Opening.{opening}
 use Rattle.omi_model.specs.Reached.{Reached, Step}
 use Rattle.omi_model.specs.State.{State, task_of}
 use Rattle.omi_model.specs.Teams.{got_threads}
-use Rattle.omi_model.specs.Visible.{HasStarted}
 use Rattle.omi_model.proofs.claims.AsksOrder.{map_at}
 use Rattle.omi_model.proofs.ChainsKept.{current_begun}
 use Rattle.omi_model.proofs.EachObject.{EachTask, IsTaskLaw, task_step}
@@ -29,8 +25,8 @@ use Rattle.omi_model.proofs.OpeningObjects.{each_first_task}
 use Rattle.omi_model.proofs.ReachedStates.{over_reached}
 use Rattle.omi_model.proofs.SchedulingChains.{scheduling_right}
 use Rattle.omi_model.proofs.Slots.{false_true, none_some, some_same}
-use Rattle.omi_model.proofs.StaysKept.{needed_generating, stays_step}
-use Rattle.omi_model.proofs.Steps.{IsRelisted, relisted_to}
+use Rattle.omi_model.proofs.StaysKept.{stays_step}
+use Rattle.omi_model.proofs.Steps.{IsRelisted}
 
 -- ---- a task runs on the thread of its scheduling task
 

@@ -98,6 +98,7 @@ module _ (p : Program) (events : List (ℕ × Event)) (s : State) (reached : Rea
   under_less n f fs c o opened.Call on body under less = less
   under_less n f fs c o (opened.Repeat left) on body under less = less
   under_less n f fs c o (opened.Critical k) on body under less = less
+  under_less n f fs c o opened.Taskgroup on body under less = less
 
   elsewhere : (n : Rid) (fs : List Frame) (c : Context) → AreOpen p c fs → KeepsBodies p s i c fs
       → level_of s c.region < level_of s n → AreElsewhere n c fs
@@ -159,6 +160,7 @@ module _ (p : Program) (z : State) (i : ℕ) (n : Rid) (j : ℕ) where
     size = o.size;
     row = o.row;
     arrivals = o.arrivals;
+    groups = o.groups;
   }
 
   suspended_stays : (c : Context) (list new : List Item) → new ≡ list → IsSuspended z c list
@@ -180,6 +182,7 @@ module _ (p : Program) (z : State) (i : ℕ) (n : Rid) (j : ℕ) where
   body_stays c d opened.Call fs same region under keeps = tt
   body_stays c d (opened.Repeat left) fs same region under keeps = tt
   body_stays c d (opened.Critical k) fs same region under keeps = tt
+  body_stays c d opened.Taskgroup fs same region under keeps = tt
 
   bodies_stay : (fs : List Frame) (c : Context) → AreElsewhere n c fs → KeepsBodies p z i c fs
       → KeepsBodies p u i c fs
@@ -221,6 +224,7 @@ module _ (p : Program) (z : State) (i : ℕ) (n : Rid) (j : ℕ) where
               ap (λ k. slice_index (arrived_once j o.region).arrivals k) number
               ∙ get_or-set_same o.region.arrivals j (slice_index o.region.arrivals j + 1) 0 below
               ∙ ap (λ k. k + 1) was;
+          groups = o.groups;
         }
 
     module _ (events : List (ℕ × Event)) (s : State) (reached : Reached p events s)
@@ -243,6 +247,7 @@ module _ (p : Program) (z : State) (i : ℕ) (n : Rid) (j : ℕ) where
       under_arrives fs f opened.Call on bodies o body was now own = own bodies was now
       under_arrives fs f (opened.Repeat left) on bodies o body was now own = own bodies was now
       under_arrives fs f (opened.Critical k) on bodies o body was now own = own bodies was now
+      under_arrives fs f opened.Taskgroup on bodies o body was now own = own bodies was now
 
       pub bodies_arrive : (fs : List Frame) → AreOpen p c fs → KeepsBodies p s i c fs → KeepsBodies p z i c fs
           → KeepsBodies p u i d fs
@@ -263,6 +268,7 @@ under_arrived P n fs c (opened.Task x saved) o own = o
 under_arrived P n fs c opened.Call o own = own o
 under_arrived P n fs c (opened.Repeat left) o own = own o
 under_arrived P n fs c (opened.Critical k) o own = own o
+under_arrived P n fs c opened.Taskgroup o own = own o
 
 -- the contexts name the same records
 pub contexts_arrive : (w : List ℕ) (n : ℕ) (fs : List Frame) (c : Context) → AreContextsPlaced w c fs

@@ -36,7 +36,7 @@ use Rattle.omi_rule_words.specs.Owes.{all_owed}
 use Rattle.omi_rule_words.specs.Words.{KeepsWords}
 use Rattle.omi_step_words.specs.Words.{of_region}
 use Rattle.omi_fork.specs.BarrierSteps.{barrier_moved, barrier_next, barrier_outcome, behind_member_end, ended_in, is_closed, looking, of_current, passed}
-use Rattle.omi_rule.specs.Ahead.{behind_barrier, last_by, last_of, leaving, passing}
+use Rattle.omi_rule.specs.Ahead.{behind_barrier, last_by, last_of, leaving}
 use Rattle.omi_rule.specs.Ahead as Ahead
 use Rattle.omi_rule.specs.Chains.{KeepsContext}
 use Rattle.omi_rule.specs.Steps.{KeepsRule, StepKeeps}
@@ -192,6 +192,7 @@ module _ (p : Program) (w : List ℕ) (m : Memory) (events : List (ℕ × Event)
           by opened.Call e member last = absurd member
           by (opened.Repeat left) e member last = absurd member
           by (opened.Critical k) e member last = absurd member
+          by opened.Taskgroup e member last = absurd member
 
   goes_from : is_closed a word ≡ false → (x : Barrier) → b ≡ x → IsAtBarrier p a.stack x → Goes (passed p x a)
   goes_from free Explicit e here_is = construct_goes free e here_is

@@ -237,6 +237,7 @@ module _ (p : Program) (events : List (ℕ × Event)) (s : State) (reached : Rea
       frees = λ k t free how h. h;
       shows = λ k t x h. h;
       tools = λ k t x h. h;
+      groups = λ k t n is how h. h;
       sets = λ k t icv value v at_set of h. h;
       begins = λ k t waits mine by h ex same. h ex same;
       finishes = λ k t is end h ex same. h ex same;

@@ -47,7 +47,7 @@ module _ (p : Program) (w : List ℕ) (m : Memory) (events : List (ℕ × Event)
   standing = counter.Finish (finish.SubtractChildren v t place)
 
   abbrev to : Counter
-  to = counter.Finish (finish.SubtractReferences v t place)
+  to = counter.Finish (finish.LoadGroup v t place)
 
   abbrev on_children : Place → RecordWord
   on_children q = record { creator = q.creator; slot = q.slot; field = TaskChildren; place = 0 }
@@ -77,7 +77,7 @@ module _ (p : Program) (w : List ℕ) (m : Memory) (events : List (ℕ × Event)
       let most = children_few w s before.valid before.rule.within.count (all_owed actors) g in
       omega (arith, count, most)
 
-  owes : owed a ≡ record nothing { pending = Some a.context.region; lowered = Some t; own = Some t }
+  owes : owed a ≡ record nothing { pending = Some a.context.region; lowered = Some t; uncounted = Some t; own = Some t }
   owes = owes_now p w m events s actors i before standing at tt
 
   words : KeepsWords w n s (all_owed (replace_at actors i (at_counter to a)))

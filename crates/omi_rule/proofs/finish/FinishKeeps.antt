@@ -15,6 +15,8 @@ use Rattle.omi_rule.proofs.finish.FinishLoads.{load_generating_keeps}
 use Rattle.omi_rule.proofs.finish.Finished.{finish_keeps}
 use Rattle.omi_rule.proofs.finish.ChildrenLowered.{subtract_children_keeps}
 use Rattle.omi_rule.proofs.finish.PendingLowered.{subtract_pending_keeps}
+use Rattle.omi_rule.proofs.finish.GroupLoads.{load_group_keeps}
+use Rattle.omi_rule.proofs.finish.CountLowered.{subtract_count_keeps}
 use Rattle.omi_rule.proofs.finish.ReferencesLowered.{subtract_references_keeps}
 use Rattle.omi_rule.proofs.finish.Freed.{free_keeps}
 use Rattle.omi_rule.proofs.finish.AboveLoads.{load_implicit_keeps, load_life_keeps, load_next_keeps}
@@ -31,6 +33,10 @@ finish_steps_keep p w m events s actors i before (finish.LoadGenerating v t) at 
     load_generating_keeps p w m events s actors i before v t at
 finish_steps_keep p w m events s actors i before (finish.SubtractChildren v t place) at =
     subtract_children_keeps p w m events s actors i before v t place at
+finish_steps_keep p w m events s actors i before (finish.LoadGroup v t place) at =
+    load_group_keeps p w m events s actors i before v t place at
+finish_steps_keep p w m events s actors i before (finish.SubtractCount v t place word) at =
+    subtract_count_keeps p w m events s actors i before v t place word at
 finish_steps_keep p w m events s actors i before (finish.SubtractPending v) at =
     subtract_pending_keeps p w m events s actors i before v at
 finish_steps_keep p w m events s actors i before (finish.SubtractReferences v t place) at =

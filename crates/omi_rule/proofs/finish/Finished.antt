@@ -214,7 +214,7 @@ module _ (p : Program) (w : List ℕ) (m : Memory) (events : List (ℕ × Event)
     stored = with_word m i threads 0 (number ThreadCurrent) 0 (task_address w (task_under a))
 
     abbrev lowers : Owed
-    lowers = record nothing { pending = Some mine.task.region; lowered = Some a.context.task; own = Some a.context.task }
+    lowers = record nothing { pending = Some mine.task.region; lowered = Some a.context.task; uncounted = Some a.context.task; own = Some a.context.task }
 
     words : KeepsWords w stored next (put (all_owed actors) i lowers)
     words =
@@ -287,7 +287,7 @@ module _ (p : Program) (w : List ℕ) (m : Memory) (events : List (ℕ × Event)
         (plain_event_keeps p w m events s actors i before (op.Store (of_thread w a.thread ThreadCurrent) v) on_current (back, outcome.Event (event.Finish a.context.task)) (event.Finish a.context.task) next
         (λ no_object. no_object) refl step (v, ap (λ j. op.Store (of_thread w j ThreadCurrent) v) o.thread)
         (none_new p w m events s actors i before x at tt (event.Finish a.context.task) item.Finish [] next taken step (λ g e. absurd (cc e)))
-        (owed_after w stored next actors i back lowers (ap (λ r. record nothing { pending = Some r; lowered = Some a.context.task; own = Some a.context.task }) (sym same_region)) words)
+        (owed_after w stored next actors i back lowers (ap (λ r. record nothing { pending = Some r; lowered = Some a.context.task; uncounted = Some a.context.task; own = Some a.context.task }) (sym same_region)) words)
         (λ j other. spares_threads m s i ThreadCurrent v j (actors j) (λ same. omega (arith, same)))
         (record {
           thread = o.thread;
@@ -320,6 +320,8 @@ module _ (p : Program) (w : List ℕ) (m : Memory) (events : List (ℕ × Event)
       by f fs is end (opened.Repeat left) how task_body on keeps under open_under placed_under below =
           absurd task_body
       by f fs is end (opened.Critical k) how task_body on keeps under open_under placed_under below =
+          absurd task_body
+      by f fs is end opened.Taskgroup how task_body on keeps under open_under placed_under below =
           absurd task_body
 
       with_bodies : Goes (FinishSteps.past_finish a)

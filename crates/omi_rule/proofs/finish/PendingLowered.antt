@@ -1,5 +1,5 @@
 -- The region's word for unfinished tasks is lowered for an explicit task that has finished, and the thread goes back to where it started.
-use Rattle.std.proofs.Common.{◌≡◌, ◌<◌, ◌^◌, inl, inr, ◌*◌, ℕ, Bool, true, false, List, ◌∷◌, Option, Some, None, refl, ap, ◌∙◌, arith, if◌then◌else◌}
+use Rattle.std.proofs.Common.{◌≡◌, ◌<◌, ◌^◌, inl, inr, ◌*◌, ℕ, Bool, true, false, List, ◌∷◌, Option, Some, None, refl, sym, ap, ◌∙◌, arith, if◌then◌else◌}
 use Rattle.omi_word.specs.declared.op.Op.TheVariants as op
 use Rattle.omi_script.specs.declared.program.Program.{Program}
 use Rattle.omi_script.specs.declared.statement.Stmt.{Stmt}
@@ -8,7 +8,8 @@ use Rattle.omi_model.specs.declared.encounter.Encounter.{Encounter}
 use Rattle.omi_model.specs.declared.event.Event.{Event}
 use Rattle.omi_model.specs.declared.item.Item.{Item}
 use Rattle.omi_model.specs.declared.item.Item.TheVariants as item
-use Rattle.omi_numbers.specs.declared.states.TheConstants.{WAIT_TASKWAIT}
+use Rattle.omi_numbers.specs.declared.states.TheConstants.{WAIT_TASKGROUP, WAIT_TASKWAIT}
+use Rattle.omi_model.specs.Rows as Rows
 use Rattle.omi_model.specs.State.{State}
 use Rattle.omi_layout.specs.declared.field.Field.TheVariants.{RegionPending}
 use Rattle.omi_layout.specs.Memory.{Memory, replace_at}
@@ -21,7 +22,7 @@ use Rattle.omi_pc.specs.declared.frame.Wait.{Wait}
 use Rattle.omi_pc.specs.declared.frame.Wait.TheVariants as wait
 use Rattle.omi_pc.specs.declared.task_counter.FinishCounter.TheVariants as finish
 use Rattle.omi_pc.specs.declared.task_counter.LookCounter.TheVariants as look
-use Rattle.omi_pc.specs.Fits.{Enters, IsBack, IsTask}
+use Rattle.omi_pc.specs.Fits.{Enters, IsBack, IsTask, StoresWait}
 use Rattle.omi_rep.specs.declared.outcome.Outcome.TheVariants as outcome
 use Rattle.omi_rule_words.specs.BarrierKinds.{with_region_word, word_of_region}
 use Rattle.omi_rule_words.specs.CountKinds.{one_less}
@@ -30,7 +31,7 @@ use Rattle.omi_rule_words.specs.Words.{KeepsWords}
 use Rattle.omi_rule_words.proofs.PendingWords.{pending_subtracts_keep}
 use Rattle.omi_step_words.specs.Words.{of_region}
 use Rattle.omi_task.specs.FinishSteps.{behind_finish, finish_moved, finish_next, finish_outcome}
-use Rattle.omi_rule.specs.Ahead.{IsAhead, resuming}
+use Rattle.omi_rule.specs.Ahead.{resuming}
 use Rattle.omi_rule.specs.Ahead as Ahead
 use Rattle.omi_rule.specs.Steps.{KeepsRule, StepKeeps}
 use Rattle.omi_rule.proofs.Assembly.{Before, quiet_keeps, spares_region}
@@ -108,19 +109,22 @@ module _ (p : Program) (w : List ℕ) (m : Memory) (events : List (ℕ × Event)
       leads (counter.Look (look.LoadRow (wait.Barrier x) 0)) refl
       (record { fits = ((back, some_slot), refl); placed = tt; ahead = is ∙ ap (λ (d : Bool). if d then item.State (Ahead.barrier_state x) 0 ∷ Ahead.arrived p At a.stack x else Ahead.arrived p At a.stack x) (sees_debug p w m events s actors i before standing at tt ∙ e); front = front_is p w m events s actors i before standing at tt; row = tt; ended = tt })
 
-  task_waits : (b : Bool) → p.env.debug ≡ b → IsBack p a (Some wait.Taskwait)
-      → list ≡ resuming p At a.stack (Some wait.Taskwait) → Goes (by_debug wait.Taskwait b)
-  task_waits true e back is =
-      leads (counter.Look (look.State wait.Taskwait)) refl
-      (record { fits = (back, tt); placed = tt; ahead = is ∙ ap (λ (d : Bool). if d then item.State WAIT_TASKWAIT 0 ∷ Ahead.waiting p At a.stack wait.Taskwait else Ahead.waiting p At a.stack wait.Taskwait) (sees_debug p w m events s actors i before standing at tt ∙ e); front = front_is p w m events s actors i before standing at tt; row = tt; ended = tt })
-  task_waits false e back is =
-      leads (counter.Look (look.LoadRow wait.Taskwait 0)) refl
-      (record { fits = ((back, some_slot), refl); placed = tt; ahead = is ∙ ap (λ (d : Bool). if d then item.State WAIT_TASKWAIT 0 ∷ Ahead.waiting p At a.stack wait.Taskwait else Ahead.waiting p At a.stack wait.Taskwait) (sees_debug p w m events s actors i before standing at tt ∙ e); front = front_is p w m events s actors i before standing at tt; row = tt; ended = tt })
+  -- for the children of the task, and for the tasks of its innermost group
+  construct_waits : (x : Wait) (state : ℕ) → StoresWait x → (b : Bool) → p.env.debug ≡ b → IsBack p a (Some x)
+      → list ≡ Rows.shown At state 0 (Ahead.waiting p At a.stack x)
+      → Ahead.showing_wait p At a.stack x ≡ item.State state 0 ∷ Ahead.waiting p At a.stack x → Goes (by_debug x b)
+  construct_waits x state stores true e back is showing =
+      leads (counter.Look (look.State x)) refl
+      (record { fits = (back, stores); placed = tt; ahead = is ∙ ap (λ (d : Bool). if d then item.State state 0 ∷ Ahead.waiting p At a.stack x else Ahead.waiting p At a.stack x) (sees_debug p w m events s actors i before standing at tt ∙ e) ∙ sym showing; front = front_is p w m events s actors i before standing at tt; row = tt; ended = tt })
+  construct_waits x state stores false e back is showing =
+      leads (counter.Look (look.LoadRow x 0)) refl
+      (record { fits = ((back, some_slot), refl); placed = tt; ahead = is ∙ ap (λ (d : Bool). if d then item.State state 0 ∷ Ahead.waiting p At a.stack x else Ahead.waiting p At a.stack x) (sees_debug p w m events s actors i before standing at tt ∙ e); front = front_is p w m events s actors i before standing at tt; row = tt; ended = tt })
 
   waits : (x : Wait) → IsBack p a (Some x) → list ≡ resuming p At a.stack (Some x)
       → Goes (behind_finish p (Some x))
   waits (wait.Barrier x) back is = barrier_waits x p.env.debug refl back is
-  waits wait.Taskwait back is = task_waits p.env.debug refl back is
+  waits wait.Taskwait back is = construct_waits wait.Taskwait WAIT_TASKWAIT tt p.env.debug refl back is refl
+  waits wait.Taskgroup back is = construct_waits wait.Taskgroup WAIT_TASKGROUP tt p.env.debug refl back is refl
   waits wait.Taskyield back is =
       leads (counter.Look (look.Yield 0)) refl
       (record { fits = (back, inl refl); placed = tt; ahead = inr is; front = front_is p w m events s actors i before standing at tt; row = tt; ended = tt })

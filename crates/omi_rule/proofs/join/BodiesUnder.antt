@@ -70,6 +70,7 @@ module _ (p : Program) (s u : State) (i : ℕ) (k : Tid) (leaves : LeavesUnder s
         size = ap length team ∙ o.size;
         row = ap (λ (t : List (Tid × ℕ)). slice_get t c.number) team ∙ o.row;
         arrivals = ap (λ (xs : List ℕ). slice_index xs c.number) arrivals ∙ o.arrivals;
+        groups = o.groups;
       }
 
   pub encounter_kept : (c : Context) → (c.task ≡ k → ⊥) → KeepsContext s i c
@@ -108,6 +109,7 @@ module _ (p : Program) (s u : State) (i : ℕ) (k : Tid) (leaves : LeavesUnder s
   under_apart c opened.Call apart below = apart
   under_apart c (opened.Repeat left) apart below = apart
   under_apart c (opened.Critical lock) apart below = apart
+  under_apart c opened.Taskgroup apart below = apart
 
   body_kept : (c : Context) (o : Opened) (fs : List Frame) → (c.task ≡ k → ⊥) → IsBelow k o
       → KeepsContext s i (context_under c o) → KeepsBody p s c o fs → KeepsBody p u c o fs
@@ -120,6 +122,7 @@ module _ (p : Program) (s u : State) (i : ℕ) (k : Tid) (leaves : LeavesUnder s
   body_kept c opened.Call fs apart below l keeps = tt
   body_kept c (opened.Repeat left) fs apart below l keeps = tt
   body_kept c (opened.Critical lock) fs apart below l keeps = tt
+  body_kept c opened.Taskgroup fs apart below l keeps = tt
 
   pub under_kept : (c : Context) (fs : List Frame) → (c.task ≡ k → ⊥) → AreBelow k fs → KeepsBodies p s i c fs
       → KeepsBodies p u i c fs
@@ -145,3 +148,4 @@ below_apart p s i k apart c (f ∷ fs) (o, body, rest) =
     of_opened opened.Call under = tt
     of_opened (opened.Repeat left) under = tt
     of_opened (opened.Critical lock) under = tt
+    of_opened opened.Taskgroup under = tt

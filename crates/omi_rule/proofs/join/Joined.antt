@@ -295,6 +295,7 @@ module _ (p : Program) (w : List ℕ) (m : Memory) (events : List (ℕ × Event)
       by f fs is opened.Call how master _ keeps under open_under placed_under below sized placed = absurd master
       by f fs is (opened.Repeat left) how master _ keeps under open_under placed_under below sized placed = absurd master
       by f fs is (opened.Critical k) how master _ keeps under open_under placed_under below sized placed = absurd master
+      by f fs is opened.Taskgroup how master _ keeps under open_under placed_under below sized placed = absurd master
 
       with_bodies : Goes (rejoined a)
       with_bodies =

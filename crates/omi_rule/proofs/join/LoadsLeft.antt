@@ -89,6 +89,7 @@ module _ (p : Program) (w : List ℕ) (m : Memory) (events : List (ℕ × Event)
       first_of f fs opened.Call master on = absurd master
       first_of f fs (opened.Repeat left) master on = absurd master
       first_of f fs (opened.Critical k) master on = absurd master
+      first_of f fs opened.Taskgroup master on = absurd master
 
   module _ (at : (actors i).counter ≡ counter.Join join.LoadLeft) where
     abbrev left_word : ℕ

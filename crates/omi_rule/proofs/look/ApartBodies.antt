@@ -29,6 +29,7 @@ module _ (p : Program) (s : State) (i : ℕ) (k : Tid) (t : Task) (is : IsDeferr
   is_below c opened.Call top = tt
   is_below c (opened.Repeat left) top = tt
   is_below c (opened.Critical lock) top = tt
+  is_below c opened.Taskgroup top = tt
 
   pub are_below : (c : Context) (fs : List Frame) → KeepsBodies p s i c fs → AreBelow k fs
   are_below c [] o = tt

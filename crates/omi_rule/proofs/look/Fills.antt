@@ -130,7 +130,7 @@ module _ (p : Program) (w : List ℕ) (m : Memory) (events : List (ℕ × Event)
   spares : (j : ℕ) → j ≢ i → Spares m after_store s j (actors j)
   spares j other =
       spares_task m s t hand.0.task Word.field Word.at Word.value j (actors j) hand.0.is.live
-      (inl (place_apart Word.field TaskSlots is_word.field refl))
+      (inl (λ same. absurd (place_apart Word.field TaskSlots is_word.field refl same)))
       (λ g of same deferred known its. one_hand p w m events s actors before.rule i j before.known known other t hand.0.task hand.0.is (ap (λ (o : Owed). o.hand) owes) its)
 
   abbrev Goes : Counter → Type 0

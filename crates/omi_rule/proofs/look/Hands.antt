@@ -1,11 +1,13 @@
 -- A task that was taken from a slot is in the thread's hand, which loads its function and its final flag.
-use Rattle.std.proofs.Common.{◌≡◌, ◌==◌, ◌<◌, ℕ, Bool, true, false, List, length, Some, refl, sym, ap, ◌∙◌, subst, arith}
+use Rattle.std.proofs.Common.{◌≡◌, ◌==◌, ◌<◌, ℕ, Bool, true, false, List, length, Some, None, refl, sym, ap, ◌∙◌, subst, arith}
 use Rattle.std.specs.Prelude.{not}
 use Rattle.omi_script.specs.declared.program.Program.{Program}
 use Rattle.omi_script.proofs.RuleLemmas.{Rules-from_accepted}
+use Rattle.omi_model.specs.declared.encounter.Encounter.{Encounter}
 use Rattle.omi_model.specs.declared.event.Event.{Event}
 use Rattle.omi_model.specs.declared.id.Tid.{Tid}
 use Rattle.omi_model.specs.declared.task.Task.{Task}
+use Rattle.omi_model.specs.Groups.{innermost_or}
 use Rattle.omi_numbers.specs.Words.{flag}
 use Rattle.omi_numbers.specs.Addresses.{function_at}
 use Rattle.omi_model.specs.State.{State, region_of}
@@ -24,19 +26,22 @@ use Rattle.omi_pc.specs.declared.frame.Wait.TheVariants as wait
 use Rattle.omi_pc.specs.declared.task_counter.LookCounter.TheVariants as look
 use Rattle.omi_pc.specs.Fits.{HasInHand, IsBack}
 use Rattle.omi_pc.specs.Stacks.{task_function}
+use Rattle.omi_rule_words.specs.Groups.{group_at}
 use Rattle.omi_rule_words.specs.Objects.{KeepsEnvironment}
 use Rattle.omi_step_words.specs.Placed.{HasTask}
 use Rattle.omi_step_words.specs.Words.{of_task}
 use Rattle.omi_step_words.proofs.ReadBack.{functions_back}
 use Rattle.omi_task.specs.LookSteps.{look_moved, look_next, look_outcome}
+use Rattle.omi_rule.specs.Ahead as Ahead
 use Rattle.omi_rule.specs.Chains.{KeepsContext}
 use Rattle.omi_rule.specs.Rows.{IsInHand, MayStartIn}
 use Rattle.omi_rule.specs.Steps.{RecordWord, StepKeeps}
 use Rattle.omi_rule.proofs.Assembly.{Before}
-use Rattle.omi_rule.proofs.Descends.{below_members, tasks_descend}
+use Rattle.omi_rule.proofs.Descends.{below_members, below_owner, tasks_descend}
+use Rattle.omi_rule.proofs.Groups.{one_open}
 use Rattle.omi_rule.proofs.KeptObjects.{task_kept}
 use Rattle.omi_rule.proofs.MemberFunctions.{member_function}
-use Rattle.omi_rule.proofs.barrier.AtCounter.{GoesTo, ahead_is, body, fits_counter, here, load_quiet, own, placed_counter, region_there, row_is, wide, front_is}
+use Rattle.omi_rule.proofs.barrier.AtCounter.{GoesTo, ahead_is, body, fits_counter, here, load_quiet, own, placed_counter, region_there, row_is, sees, wide, front_is}
 use Rattle.omi_rule.proofs.look.InHand.{hand_at}
 use Rattle.omi_rule.proofs.look.TaskFunctions.{RunsTask, runs_task}
 
@@ -83,9 +88,12 @@ module _ (p : Program) (w : List ℕ) (m : Memory) (events : List (ℕ × Event)
         (subst (λ (xs : List Frame). 0 < length xs) (sym is) (omega arith)) mine.live
 
     -- it is smaller than that of the current task
-    smaller : (x : Wait) → IsBack p a (Some x) → MayStartIn x a hand.task
-        → hand.task.function < mine.task.function
-    smaller (wait.Barrier b) waits may =
+    abbrev At : Encounter
+    At = sees p w m events s actors i before standing at tt
+
+    smaller : (x : Wait) → IsBack p a (Some x) → mine.task.list ≡ Ahead.waiting p At a.stack x
+        → MayStartIn x a hand.task → hand.task.function < mine.task.function
+    smaller (wait.Barrier b) waits list may =
         let found : region_of s hand.task.region ≡ Some mine.region =
         ap (region_of s) hand.region ∙ mine.found in
         let less =
@@ -94,13 +102,17 @@ module _ (p : Program) (w : List ℕ) (m : Memory) (events : List (ℕ × Event)
         member_function p events s before.rule.reached a.context.task mine.task mine.region mine.live
         (mine.implicit ∙ waits.1) (region_there p w m events s actors i before standing at tt) in
         omega (arith, less, same)
-    smaller wait.Taskwait waits may =
+    smaller wait.Taskwait waits list may =
         tasks_descend p events s before.rule.reached t hand.task hand.is.live hand.is.explicit a.context.task mine.task may mine.live
-    smaller wait.Taskyield waits may =
+    smaller wait.Taskyield waits list may =
         tasks_descend p events s before.rule.reached t hand.task hand.is.live hand.is.explicit a.context.task mine.task may mine.live
+    smaller wait.Taskgroup waits list may =
+        let (l, some) = one_open p events s before.rule.reached a.context.task mine.task mine.live _ _ list in
+        below_owner p events s before.rule.reached t hand.task hand.is.live (group_at a.context.task l)
+        (may ∙ ap (innermost_or None a.context.task) (sym mine.groups ∙ some)) mine.task mine.live
 
     less : hand.task.function < task_function a.stack
-    less = let below = smaller v fits.0.0 hand.may in let same = runs.function in omega (arith, below, same)
+    less = let below = smaller v fits.0.0 (ahead_is p w m events s actors i before standing at tt) hand.may in let same = runs.function in omega (arith, below, same)
 
     loaded : function_at word ≡ hand.task.function
     loaded =

@@ -24,6 +24,7 @@ still_may : (a : Actor) (x : Counter) (v : Wait) (t : Task) → MayStartIn v a t
 still_may a x (wait.Barrier b) t may = tt
 still_may a x wait.Taskwait t may = may
 still_may a x wait.Taskyield t may = may
+still_may a x wait.Taskgroup t may = may
 
 -- at another counter more may be known of it
 pub hand_at : (s : State) (a : Actor) (x : Counter) (v : Wait) (k : Tid) (known more : Task → Type 0) (o : IsInHand s a v k known)

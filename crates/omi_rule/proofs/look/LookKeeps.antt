@@ -12,6 +12,8 @@ use Rattle.omi_task.specs.LookSteps.{look_moved, look_next, look_outcome}
 use Rattle.omi_rule.specs.Steps.{StepKeeps}
 use Rattle.omi_rule.proofs.Assembly.{Before}
 use Rattle.omi_rule.proofs.look.Fills.{fill_keeps}
+use Rattle.omi_rule.proofs.look.GroupEnds.{group_end_keeps, load_count_keeps}
+use Rattle.omi_rule.proofs.look.GroupTests.{load_group_keeps}
 use Rattle.omi_rule.proofs.look.Hands.{load_final_keeps, load_function_keeps}
 use Rattle.omi_rule.proofs.look.RowLoads.{load_row_keeps}
 use Rattle.omi_rule.proofs.look.SlotLoads.{load_slot_keeps}
@@ -36,6 +38,10 @@ look_keeps p w m events s actors i before look.LoadChildren at =
 look_keeps p w m events s actors i before (look.Yield n) at = yield_keeps p w m events s actors i before n at
 look_keeps p w m events s actors i before (look.LoadGenerating v n row code) at =
     load_maker_keeps p w m events s actors i before v n row code at
+look_keeps p w m events s actors i before (look.LoadGroup n row code) at =
+    load_group_keeps p w m events s actors i before n row code at
+look_keeps p w m events s actors i before look.LoadCount at = load_count_keeps p w m events s actors i before at
+look_keeps p w m events s actors i before look.GroupEnd at = group_end_keeps p w m events s actors i before at
 look_keeps p w m events s actors i before (look.Take v n row code) at =
     take_keeps p w m events s actors i before v n row code at
 look_keeps p w m events s actors i before (look.LoadFunction v n code k) at =

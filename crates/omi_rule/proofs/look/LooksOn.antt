@@ -89,6 +89,7 @@ module _ (p : Program) (w : List ℕ) (m : Memory) (events : List (ℕ × Event)
   behind (wait.Barrier b) waits is = waits_again b waits is (a.context.number == 0) refl
   behind wait.Taskwait waits is = record { fits = waits; placed = tt; ahead = is; front = passes; owes = sym idle; row = tt; ended = tt }
   behind wait.Taskyield waits is = record { fits = (waits, inr refl); placed = tt; ahead = inl is; front = passes; owes = sym idle; row = tt; ended = tt }
+  behind wait.Taskgroup waits is = record { fits = waits; placed = tt; ahead = is; front = passes; owes = sym idle; row = tt; ended = tt }
 
   -- ---- the next slot
 

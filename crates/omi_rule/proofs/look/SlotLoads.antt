@@ -148,6 +148,7 @@ module _ (p : Program) (w : List ℕ) (m : Memory) (events : List (ℕ × Event)
   finds (wait.Barrier b) at_slot is some = record { fits = (at_slot, some); placed = has_row; ahead = is; front = front_is p w m events s actors i before standing at tt; owes = refl; row = (row_of, tt); ended = tt }
   finds wait.Taskwait at_slot is some = record { fits = (at_slot, some, tt); placed = has_row; ahead = is; front = front_is p w m events s actors i before standing at tt; owes = refl; row = (row_of, was_made some); ended = tt }
   finds wait.Taskyield at_slot is some = record { fits = (at_slot, some, tt); placed = has_row; ahead = is; front = front_is p w m events s actors i before standing at tt; owes = refl; row = (row_of, was_made some); ended = tt }
+  finds wait.Taskgroup at_slot is some = record { fits = (at_slot, some); placed = has_row; ahead = is; front = front_is p w m events s actors i before standing at tt; owes = refl; row = (row_of, was_made some); ended = tt }
 
   by_slot : (d : Bool) → code == 0 ≡ d
       → KeepsRule p w m events s actors i (op.Load (of_slot w row n)) on_slot (if d then looking_on v n row a else to_look (behind_code v n row code) a, outcome.Quiet)

@@ -1,5 +1,5 @@
 -- A task in the hand starts: it is scheduled from the current one, which waits under its body.
-use Rattle.std.proofs.Common.{◌≡◌, ◌+◌, inl, ℕ, zero, Bool, false, List, [], ◌∷◌, ◌++◌, Option, Some, refl, sym, ap, ◌∙◌, arith, subst}
+use Rattle.std.proofs.Common.{◌≡◌, ◌+◌, inl, ℕ, zero, Bool, false, List, [], ◌∷◌, ◌++◌, Option, Some, None, refl, sym, ap, ◌∙◌, arith, subst}
 use Rattle.std.specs.Option.{option_and_then, option_map}
 use Rattle.omi_numbers.specs.Addresses.{exit_below, exit_frame}
 use Rattle.omi_word.specs.declared.op.Op.TheVariants as op
@@ -17,13 +17,15 @@ use Rattle.omi_model.specs.declared.task.Task.{Task}
 use Rattle.omi_model.specs.declared.thread.Thread.{Thread}
 use Rattle.omi_model.specs.Changes.{IsCurrent, encounter, encounter_by, level_of, on_task, with_current}
 use Rattle.omi_model.specs.Lists.{stays, take_item}
-use Rattle.omi_numbers.specs.declared.states.TheConstants.{WAIT_TASKWAIT}
+use Rattle.omi_numbers.specs.declared.states.TheConstants.{WAIT_TASKGROUP, WAIT_TASKWAIT}
 use Rattle.omi_model.specs.Put.{put}
 use Rattle.omi_model.specs.Reached.{Step}
 use Rattle.omi_model.specs.Rows.{task_items, working}
 use Rattle.omi_model.specs.Rules.{effect}
 use Rattle.omi_model.specs.State.{State, task_of}
+use Rattle.omi_model.specs.Groups.{IsInInnermost, innermost_or}
 use Rattle.omi_model.specs.Tasking.{MayStartAt, scheduled, started, started_alone}
+use Rattle.omi_model.proofs.groups.GroupLaws.{groups_right}
 use Rattle.omi_model.proofs.Slots.{on_other, on_same, put_same, some_same}
 use Rattle.omi_model.proofs.StaysKept.{stays_step}
 use Rattle.omi_model.proofs.Steps.{at_current, current_moved, relisted}
@@ -52,6 +54,7 @@ use Rattle.omi_pc.specs.Settle.{settled}
 use Rattle.omi_pc.proofs.Moved.{body_opens}
 use Rattle.omi_rep.specs.declared.outcome.Outcome.TheVariants as outcome
 use Rattle.omi_rep.specs.Records.{task_address, thread_address}
+use Rattle.omi_rule_words.specs.Groups.{group_at}
 use Rattle.omi_rule_words.specs.ExplicitKinds.{IsDeferred, IsReady}
 use Rattle.omi_rep.proofs.Codes.{same_word}
 use Rattle.omi_rule_words.specs.Objects.{KeepsPlace}
@@ -68,6 +71,7 @@ use Rattle.omi_rule.specs.Chains.{IsSuspended, KeepsBodies, KeepsContext, RunsFu
 use Rattle.omi_rule.specs.Rows.{HasPlaced, MayStartIn}
 use Rattle.omi_rule.specs.Rule.{KeepsThread}
 use Rattle.omi_rule.specs.Steps.{IsOn, KeepsRule, RecordWord, StepKeeps}
+use Rattle.omi_rule.proofs.Groups.{one_open}
 use Rattle.omi_rule.proofs.OwnWords.{store_on, thread_word}
 use Rattle.omi_rule.proofs.Assembly.{Before, plain_event_keeps, spares_threads}
 use Rattle.omi_rule.proofs.Begun.{settles, settles_owing_nothing, works, works_owing_nothing}
@@ -171,17 +175,20 @@ module _ (p : Program) (w : List ℕ) (m : Memory) (events : List (ℕ × Event)
   item_of (wait.Barrier b) = item.Tasks (Ahead.barrier_state b)
   item_of wait.Taskwait = item.Tasks WAIT_TASKWAIT
   item_of wait.Taskyield = item.OneTask
+  item_of wait.Taskgroup = item.Tasks WAIT_TASKGROUP
 
   abbrev rest_of : Wait → List Item
   rest_of (wait.Barrier b) = Ahead.behind_tasks p At a.stack b
   rest_of wait.Taskwait = item.WaitDone ∷ working At (Ahead.leaving p At a.stack)
   rest_of wait.Taskyield = item.Yield ∷ Ahead.leaving p At a.stack
+  rest_of wait.Taskgroup = item.GroupEnd ∷ working At (Ahead.leaving p At a.stack)
 
   -- in front of the started task's list stands a state, but not at `taskyield`
   abbrev in_front : Wait → List Item → List Item
   in_front (wait.Barrier b) xs = working (encounter listed i) xs
   in_front wait.Taskwait xs = working (encounter listed i) xs
   in_front wait.Taskyield xs = xs
+  in_front wait.Taskgroup xs = working (encounter listed i) xs
 
   abbrev starting : (List Item → List Item) → Task → Task
   starting F u = record (scheduled i K T u) { list = F u.list }
@@ -194,6 +201,7 @@ module _ (p : Program) (w : List ℕ) (m : Memory) (events : List (ℕ × Event)
   takes (wait.Barrier b) = refl
   takes wait.Taskwait = refl
   takes wait.Taskyield = refl
+  takes wait.Taskgroup = refl
 
   taken : take_item p At (event.Start t) mine.task.list ≡ Some (item_of v, rest_of v)
   taken =
@@ -204,16 +212,30 @@ module _ (p : Program) (w : List ℕ) (m : Memory) (events : List (ℕ × Event)
   stay (wait.Barrier b) = refl
   stay wait.Taskwait = refl
   stay wait.Taskyield = refl
+  stay wait.Taskgroup = refl
 
-  allowed : (x : Wait) → MayStartIn x a U → MayStartAt (item_of x) K mine.task U
-  allowed (wait.Barrier Explicit) may = hand.0.region ∙ sym mine.region_is
-  allowed (wait.Barrier Implicit) may = hand.0.region ∙ sym mine.region_is
-  allowed wait.Taskwait may = may
-  allowed wait.Taskyield may = may
+  -- a task of the innermost open group
+  is_member : mine.task.list ≡ Ahead.waiting p At a.stack wait.Taskgroup → MayStartIn wait.Taskgroup a U
+      → IsInInnermost K mine.task U
+  is_member list may =
+      let (l, some) = one_open p events s before.rule.reached K mine.task mine.live _ _ list in (
+        group_at K l,
+        ap (innermost_or None K) some,
+        may ∙ ap (innermost_or None K) (sym mine.groups ∙ some),
+      )
+
+  allowed : (x : Wait) → mine.task.list ≡ Ahead.waiting p At a.stack x → MayStartIn x a U
+      → MayStartAt (item_of x) K mine.task U
+  allowed (wait.Barrier Explicit) list may = hand.0.region ∙ sym mine.region_is
+  allowed (wait.Barrier Implicit) list may = hand.0.region ∙ sym mine.region_is
+  allowed wait.Taskwait list may = may
+  allowed wait.Taskyield list may = may
+  allowed wait.Taskgroup list may = is_member list may
 
   effect_is : (x : Wait) → effect p listed i (event.Start t) (item_of x) ≡ Some (next_of (in_front x))
   effect_is (wait.Barrier b) = at_current listed i K T (started listed i t) current_listed
   effect_is wait.Taskwait = at_current listed i K T (started listed i t) current_listed
+  effect_is wait.Taskgroup = at_current listed i K T (started listed i t) current_listed
   effect_is wait.Taskyield = at_current listed i K T (started_alone listed i t) current_listed
 
   words_of : (x : Wait) → KeepsWords w stored (next_of (in_front x)) (λ j. put (all_owed actors) i nothing j)
@@ -221,6 +243,9 @@ module _ (p : Program) (w : List ℕ) (m : Memory) (events : List (ℕ × Event)
       starts_keep w m listed (all_owed actors) i t U K T
       (relisted_words p w m events s actors i before standing at tt waits_on) before.known ready
   words_of wait.Taskwait =
+      starts_keep w m listed (all_owed actors) i t U K T
+      (relisted_words p w m events s actors i before standing at tt waits_on) before.known ready
+  words_of wait.Taskgroup =
       starts_keep w m listed (all_owed actors) i t U K T
       (relisted_words p w m events s actors i before standing at tt waits_on) before.known ready
   words_of wait.Taskyield =
@@ -231,6 +256,7 @@ module _ (p : Program) (w : List ℕ) (m : Memory) (events : List (ℕ × Event)
   no_fork (wait.Barrier b) g e = absurd (cc e)
   no_fork wait.Taskwait g e = absurd (cc e)
   no_fork wait.Taskyield g e = absurd (cc e)
+  no_fork wait.Taskgroup g e = absurd (cc e)
 
   -- ---- the state
 
@@ -244,7 +270,7 @@ module _ (p : Program) (w : List ℕ) (m : Memory) (events : List (ℕ × Event)
   step =
       steps_to p w m events s actors i before standing at tt (event.Start t) (item_of v)
       (rest_of v) waits_on next taken
-      (K, mine.task, current, record { new = U; live = hand.0.is.live; explicit = hand.0.is.explicit; deferred = hand.0.is.progress; allowed = allowed v hand.0.may })
+      (K, mine.task, current, record { new = U; live = hand.0.is.live; explicit = hand.0.is.explicit; deferred = hand.0.is.progress; allowed = allowed v (ahead_is p w m events s actors i before standing at tt) hand.0.may })
       (stay v) (effect_is v)
 
   abbrev New : Task
@@ -311,6 +337,7 @@ module _ (p : Program) (w : List ℕ) (m : Memory) (events : List (ℕ × Event)
     size = mine.size;
     row = mine.row;
     arrivals = mine.arrivals;
+    groups = (groups_right p events s before.rule.reached t U hand.0.is.live).closed (λ is. cc (sym hand.0.is.progress, is));
   }
 
   suspended : IsSuspended next a.context (Ahead.resuming p (encounter_of next a.context) a.stack (Some v))
@@ -424,6 +451,7 @@ module _ (p : Program) (w : List ℕ) (m : Memory) (events : List (ℕ × Event)
   goes (wait.Barrier c) front = works_now front
   goes wait.Taskwait front = works_now front
   goes wait.Taskyield front = settles_now front
+  goes wait.Taskgroup front = works_now front
 
   pub start_keeps : StepKeeps p w m events s actors i (look_next w (actors i) (look.Start v n code t f final)) (λ old. (look_moved p w (actors i) (look.Start v n code t f final) old, look_outcome w (actors i) (look.Start v n code t f final) old))
   start_keeps = (on_current, is_on, goes v (λ xs. refl))

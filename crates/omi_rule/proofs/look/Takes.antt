@@ -117,6 +117,7 @@ module _ (p : Program) (w : List ℕ) (m : Memory) (events : List (ℕ × Event)
     may_start (wait.Barrier b) tested = tt
     may_start wait.Taskwait tested = tested.1 deferred.task deferred.live
     may_start wait.Taskyield tested = tested.1 deferred.task deferred.live
+    may_start wait.Taskgroup tested = tested.1 deferred.task deferred.live
 
     in_hand : IsInHand s a v k (λ u. Unit {0})
     in_hand = record { task = deferred.task; is = record { live = deferred.live; explicit = explicit; progress = deferred.progress }; region = deferred.region ∙ o.region; may = may_start v found_row.1; knows = tt }

@@ -34,6 +34,7 @@ module _ (p : Program) (s : State) where
   some_under c f opened.Call [] called (inr is) = absurd (cc is)
   some_under c f (opened.Repeat left) [] called (n, is, some, most) = absurd (cc is)
   some_under c f (opened.Critical k) [] called is = absurd (cc is)
+  some_under c f opened.Taskgroup [] called is = absurd (cc is)
 
   same_context : (c : Context) (o : Opened) → opens_task o ≡ false → context_under c o ≡ c
   same_context c opened.Main called = absurd (cc called)
@@ -43,6 +44,7 @@ module _ (p : Program) (s : State) where
   same_context c opened.Call called = refl
   same_context c (opened.Repeat left) called = refl
   same_context c (opened.Critical k) called = refl
+  same_context c opened.Taskgroup called = refl
 
   pub runs_task : (fs : List Frame) → Under fs
   runs_task [] c t bodies runs some live = absurd (omega (arith, some))

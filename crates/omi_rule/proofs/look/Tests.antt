@@ -102,6 +102,7 @@ module _ (p : Program) (w : List ℕ) (m : Memory) (events : List (ℕ × Event)
   -- a task that passes is a child of the current one, where it lives
   tested : word ≡ task_address w a.context.task → (x : Wait) → TestsChildren x → HasTested w s a x code
   tested same (wait.Barrier b) tests = absurd tests
+  tested same wait.Taskgroup tests = absurd tests
   tested same wait.Taskwait tests =
       (found_row.1, λ t live. let o = here p w m events s actors i before standing at tt in maker_told p w m events s actors before.rule before.valid k a.context.task t o.task live o.live same)
   tested same wait.Taskyield tests =

@@ -48,6 +48,7 @@ module _ (p : Program) (w : List ℕ) (m : Memory) (events : List (ℕ × Event)
   take_state (wait.Barrier Implicit) stores = refl
   take_state wait.Taskwait stores = refl
   take_state wait.Taskyield stores = absurd stores
+  take_state wait.Taskgroup stores = refl
 
   taken : take_item p At (event.State (wait_state v) 0) (here p w m events s actors i before standing at tt).task.list ≡ Some (item.State (wait_state v) 0, behind)
   taken =

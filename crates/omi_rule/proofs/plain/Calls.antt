@@ -100,6 +100,9 @@ module _ (p : Program) (at : Encounter) (c : Context) (number_is : at.number ≡
       go (bodies.Critical l) e k on =
           takes_head p at (event.Call f.function) (item.Call f.function) (ahead p at (f ∷ fs))
           (item.Call f.function) (ahead p at (f ∷ fs)) refl self
+      go bodies.Taskgroup e k on =
+          takes_head p at (event.Call f.function) (item.Call f.function) (ahead p at (f ∷ fs))
+          (item.Call f.function) (ahead p at (f ∷ fs)) refl self
 
   -- a statement that is passed over
   skip_takes : (fs : List Frame) (s : Stmt) → IsAt p fs s → Skips c.number s

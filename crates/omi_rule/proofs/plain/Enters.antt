@@ -12,13 +12,13 @@ use Rattle.omi_model.specs.declared.item.Item.TheVariants as item
 use Rattle.omi_model.specs.declared.task.Task.{Task}
 use Rattle.omi_model.specs.Changes.{encounter_by, on_task}
 use Rattle.omi_model.specs.LawOrder.{AreBarriersInOrder, HasNoBarrier}
-use Rattle.omi_model.specs.Lists.{opened, take_item}
-use Rattle.omi_numbers.specs.declared.states.TheConstants.{OVERHEAD, WAIT_BARRIER_EXPLICIT, WAIT_CRITICAL, WAIT_TASKWAIT}
+use Rattle.omi_model.specs.Lists.{take_item}
+use Rattle.omi_numbers.specs.declared.states.TheConstants.{OVERHEAD, WAIT_BARRIER_EXPLICIT, WAIT_CRITICAL, WAIT_TASKGROUP, WAIT_TASKWAIT}
 use Rattle.omi_numbers.specs.Addresses.{exit_frame, enter_frame}
 use Rattle.omi_model.specs.Opening.{opening}
 use Rattle.omi_model.specs.Reached.{Reached, Step}
 use Rattle.omi_model.specs.Rows as Rows
-use Rattle.omi_model.specs.Rows.{behind, call_items, first_of}
+use Rattle.omi_model.specs.Rows.{behind, call_items}
 use Rattle.omi_model.specs.Settings as Settings
 use Rattle.omi_model.specs.State.{State}
 use Rattle.omi_model.proofs.members.ListOrder.{barriers_ordered}
@@ -42,7 +42,7 @@ use Rattle.omi_plain.proofs.Fitting.{steps_fit}
 use Rattle.omi_plain.proofs.StayPlaced.{steps_stay_placed}
 use Rattle.omi_rule_words.specs.Owes.{nothing, owed_at}
 use Rattle.omi_rep.specs.declared.outcome.Outcome.TheVariants as outcome
-use Rattle.omi_rule.specs.Ahead.{IsAhead, ahead, behind_leave, leaving, locking_in, lock_of, plain_ahead, task_item, wanting_in}
+use Rattle.omi_rule.specs.Ahead.{IsAhead, ahead, behind_leave, entering_in, leaving, locking_in, lock_of, plain_ahead, task_item, wanting_in}
 use Rattle.omi_rule.specs.Chains.{KeepsContext, IsPassable, IsFront}
 use Rattle.omi_rule.specs.Rows.{KeepsRow}
 use Rattle.omi_rule.specs.Rule.{HasEnded}
@@ -51,7 +51,7 @@ use Rattle.omi_rule.proofs.Assembly.{Before}
 use Rattle.omi_rule.proofs.Settling.{in_work_is}
 use Rattle.omi_rule.proofs.plain.Firsts.{IsFirst, plain_first}
 use Rattle.omi_rule.proofs.plain.OwnEvents.{GoesOn, at_debug, fits_counter, steps}
-use Rattle.omi_rule.proofs.plain.Loads.{goes_to_row, on_ground, sees, takes_head}
+use Rattle.omi_rule.proofs.plain.Loads.{goes_to_row, on_ground, sees}
 use Rattle.omi_rule.proofs.plain.Leaves.{enter_of_task, enter_stored}
 use Rattle.omi_rule.proofs.plain.TaskWords.{has_codes, middle, middle_current, now_current, own_task, task_event, task_on, task_word_at, twice}
 
@@ -71,8 +71,8 @@ module _ (p : Program) (at : Encounter) (fs : List Frame) where
   abbrev of_team : ℕ → Option ℕ → List Item → List Item
   of_team f num xs = item.Want num ∷ item.Asks ∷ item.Fork f ∷ Rows.working at xs
 
-  abbrev of_wait : List Item → List Item
-  of_wait xs = item.Tasks WAIT_TASKWAIT ∷ item.WaitDone ∷ Rows.working at xs
+  abbrev of_wait : ℕ → Item → List Item → List Item
+  of_wait state end xs = item.Tasks state ∷ end ∷ Rows.working at xs
 
   abbrev of_barrier : List Item → List Item
   of_barrier xs =
@@ -80,6 +80,12 @@ module _ (p : Program) (at : Encounter) (fs : List Frame) where
 
   abbrev of_lock : ℕ → List Item → List Item
   of_lock l xs = item.Lock l ∷ Rows.working at xs
+
+  -- what is left of a construct behind its entry
+  abbrev pub entered : Stmt → List Item
+  entered (stmt.Taskgroup f) =
+      with_state at.debug WAIT_TASKGROUP 0 (of_wait WAIT_TASKGROUP item.GroupEnd (item.Leave ∷ rest))
+  entered x = behind p at x rest
 
   task_ahead : (f : ℕ) (undeferred given final : Bool) → at.is_final ≡ final
       → IsAt p fs (stmt.Task f undeferred given)
@@ -111,7 +117,7 @@ module _ (p : Program) (at : Encounter) (fs : List Frame) where
           (in_work_is p fs (stmt.Task f undeferred given) (λ y. task_item at (Some 0) y (leaving p at fs)) is)
 
   enter_ahead : (d : Bool) → at.debug ≡ d → (final : Bool) → at.is_final ≡ final → (x : Stmt) → IsAt p fs x
-      → Enters x → IsAhead p at fs (behind_enter d final (Some x)) (behind p at x rest)
+      → Enters x → IsAhead p at fs (behind_enter d final (Some x)) (entered x)
   enter_ahead true e final is_final (stmt.Parallel f num) is enters =
       ap (λ (b : Bool). with_state b OVERHEAD 0 (of_team f num (item.Leave ∷ rest))) e
       ∙ ap (λ (xs : List Item). item.State OVERHEAD 0 ∷ of_team f num xs) (leaves (stmt.Parallel f num) is)
@@ -124,11 +130,11 @@ module _ (p : Program) (at : Encounter) (fs : List Frame) where
   enter_ahead d e final is_final (stmt.Task f undeferred given) is enters =
       task_ahead f undeferred given final is_final is
   enter_ahead true e final is_final stmt.Taskwait is enters =
-      ap (λ (b : Bool). with_state b WAIT_TASKWAIT 0 (of_wait (item.Leave ∷ rest))) e
-      ∙ ap (λ (xs : List Item). item.State WAIT_TASKWAIT 0 ∷ of_wait xs) (leaves stmt.Taskwait is)
+      ap (λ (b : Bool). with_state b WAIT_TASKWAIT 0 (of_wait WAIT_TASKWAIT item.WaitDone (item.Leave ∷ rest))) e
+      ∙ ap (λ (xs : List Item). item.State WAIT_TASKWAIT 0 ∷ of_wait WAIT_TASKWAIT item.WaitDone xs) (leaves stmt.Taskwait is)
   enter_ahead false e final is_final stmt.Taskwait is enters =
-      ap (λ (b : Bool). with_state b WAIT_TASKWAIT 0 (of_wait (item.Leave ∷ rest))) e
-      ∙ ap (λ (xs : List Item). of_wait xs) (leaves stmt.Taskwait is)
+      ap (λ (b : Bool). with_state b WAIT_TASKWAIT 0 (of_wait WAIT_TASKWAIT item.WaitDone (item.Leave ∷ rest))) e
+      ∙ ap (λ (xs : List Item). of_wait WAIT_TASKWAIT item.WaitDone xs) (leaves stmt.Taskwait is)
   enter_ahead d e final is_final stmt.Taskyield is enters =
       ap (λ (xs : List Item). item.OneTask ∷ item.Yield ∷ xs) (leaves stmt.Taskyield is)
   enter_ahead true e final is_final stmt.Barrier is enters =
@@ -149,17 +155,26 @@ module _ (p : Program) (at : Encounter) (fs : List Frame) where
       (λ (b : Bool). with_state b WAIT_CRITICAL (l + 1) (of_lock l (item.Leave ∷ item.Call f ∷ call_items p f (item.Unlock l ∷ rest)))) e
       ∙ ap (λ (xs : List Item). of_lock l xs) (leaves (stmt.Critical l f) is)
       ∙ sym (in_work_is p fs (stmt.Critical l f) (locking_in p at fs) is)
+  enter_ahead true e final is_final (stmt.Taskgroup f) is enters =
+      ap (λ (b : Bool). with_state b WAIT_TASKGROUP 0 (of_wait WAIT_TASKGROUP item.GroupEnd (item.Leave ∷ rest))) e
+      ∙ ap (λ (xs : List Item). item.State WAIT_TASKGROUP 0 ∷ of_wait WAIT_TASKGROUP item.GroupEnd xs)
+      (leaves (stmt.Taskgroup f) is)
+  enter_ahead false e final is_final (stmt.Taskgroup f) is enters =
+      ap (λ (b : Bool). with_state b WAIT_TASKGROUP 0 (of_wait WAIT_TASKGROUP item.GroupEnd (item.Leave ∷ rest))) e
+      ∙ ap (λ (xs : List Item). of_wait WAIT_TASKGROUP item.GroupEnd xs) (leaves (stmt.Taskgroup f) is)
   enter_ahead d e final is_final _ is enters = absurd enters
 
-  enter_item : (x : Stmt) → Enters x
-      → ◌≡◌ {A = Item × List Item} (opened p at (item.Do x) rest) (item.Enter, behind p at x rest)
-  enter_item (stmt.Parallel f num) enters = refl
-  enter_item (stmt.Task f undeferred given) enters = refl
-  enter_item stmt.Taskwait enters = refl
-  enter_item stmt.Taskyield enters = refl
-  enter_item stmt.Barrier enters = refl
-  enter_item (stmt.Critical l f) enters = refl
-  enter_item _ enters = absurd enters
+  -- its entry is next: at its begin, and of a taskgroup region at its end
+  enter_next : (x : Stmt) → Enters x
+      → take_item p at event.Enter (entering_in p at fs x) ≡ Some (item.Enter, entered x)
+  enter_next (stmt.Parallel f num) enters = refl
+  enter_next (stmt.Task f undeferred given) enters = refl
+  enter_next stmt.Taskwait enters = refl
+  enter_next stmt.Taskyield enters = refl
+  enter_next stmt.Barrier enters = refl
+  enter_next (stmt.Critical l f) enters = refl
+  enter_next (stmt.Taskgroup f) enters = refl
+  enter_next _ enters = absurd enters
 
 -- ---- the counter
 
@@ -193,6 +208,10 @@ enter_first p a true stmt.Taskwait is enters =
     entered_first p a _ (record { owes = λ c ms. refl; row = λ q w m s i b. tt; ended = λ events i. tt; front = λ o may. may })
 enter_first p a false stmt.Taskwait is enters =
     entered_first p a _ (record { owes = λ c ms. refl; row = λ q w m s i b. tt; ended = λ events i. tt; front = λ o may. may })
+enter_first p a true (stmt.Taskgroup f) is enters =
+    entered_first p a _ (record { owes = λ c ms. refl; row = λ q w m s i b. tt; ended = λ events i. tt; front = λ o may. may })
+enter_first p a false (stmt.Taskgroup f) is enters =
+    entered_first p a _ (record { owes = λ c ms. refl; row = λ q w m s i b. tt; ended = λ events i. tt; front = λ o may. may })
 enter_first p a d stmt.Taskyield is enters =
     entered_first p a _ (record { owes = λ c ms. refl; row = λ q w m s i b. tt; ended = λ events i. tt; front = λ o may. may })
 enter_first p a true stmt.Barrier is enters =
@@ -221,7 +240,7 @@ module _ (p : Program) (w : List ℕ) (m : Memory) (events : List (ℕ × Event)
   t = (own_task p w m events s actors i before plain.Enter at_counter).task
 
   abbrev zs : Stmt → List Item
-  zs x = behind p at x (ahead p at a.stack)
+  zs x = entered p at a.stack x
 
   -- the task shows its enter frame
   abbrev shown : Task → Task
@@ -233,9 +252,8 @@ module _ (p : Program) (w : List ℕ) (m : Memory) (events : List (ℕ × Event)
   takes : (x : Stmt) → IsAt p a.stack x → Enters x
       → take_item p at event.Enter (plain_ahead p at a.stack plain.Enter) ≡ Some (item.Enter, zs x)
   takes x is enters =
-      ap (take_item p at event.Enter) (in_work_is p a.stack x (λ y. item.Do y ∷ ahead p at a.stack) is)
-      ∙ takes_head p at event.Enter (item.Do x) (ahead p at a.stack) item.Enter (zs x)
-      (enter_item p at a.stack x enters) refl
+      ap (take_item p at event.Enter) (in_work_is p a.stack x (entering_in p at a.stack) is)
+      ∙ enter_next p at a.stack x enters
 
   enter_step : (x : Stmt) → IsAt p a.stack x → Enters x → Step p s i event.Enter (after_enter x)
   enter_step x is enters =
@@ -282,7 +300,7 @@ module _ (p : Program) (w : List ℕ) (m : Memory) (events : List (ℕ × Event)
       (sym is) (enter_first p (past_enter p a) p.env.debug x is enters) in
       goes_to_row p w m events s actors i before plain.Enter at_counter (past_enter p a) (zs x)
       (record { thread = refl; context = refl; gathered = refl })
-      (steps_fit p a plain.Enter 0 own.fits at_counter implicit_at_barrier)
+      (steps_fit p a plain.Enter 0 own.fits at_counter implicit_at_barrier tt)
       (steps_stay_placed p w a plain.Enter 0 own.placed at_counter)
       (on_ground p w m events s actors i before plain.Enter at_counter)
       (first.owes a.context a.gathered.team) (λ n u o. first.row w n u i o)
@@ -305,9 +323,9 @@ module _ (p : Program) (w : List ℕ) (m : Memory) (events : List (ℕ × Event)
         task_on p w m events s actors i before plain.Enter at_counter TaskEnter word refl,
         task_event p w m events s actors i before plain.Enter at_counter
             (zs x) TaskEnter word shown refl enter_of_task
-            (λ v. record { implicit = refl; region = refl; thread = refl; number = refl; scheduling = refl; exit = refl; final = refl; progress = refl })
+            (λ v. record { implicit = refl; region = refl; thread = refl; number = refl; scheduling = refl; exit = refl; final = refl; progress = refl; groups = refl })
             (λ v. (refl, refl))
-            (record { implicit = refl; region = refl; thread = refl; generating = refl; progress = refl; place = refl })
+            (record { implicit = refl; region = refl; thread = refl; generating = refl; progress = refl; place = refl; group = refl; open_groups = refl })
             (enter_stored w (m (actors i).context.task.0.creator tasks (actors i).context.task.0.slot) t word (enter_frame t.exit) (zs x) word_is (has_codes p w m events s actors i before plain.Enter at_counter))
             (past_enter p a) (outcome.Event event.Enter) event.Enter item.Enter refl (λ q. q)
             (λ n e. absurd (cc e)) (takes x is enters)

@@ -48,6 +48,7 @@ plain_first plain.WorkState b = record { owes = λ c ms. refl; row = λ p w m s 
 plain_first plain.LockState b = record { owes = λ c ms. refl; row = λ p w m s i a. tt; ended = λ events i. tt; front = λ o may. may }
 plain_first plain.Lock b = record { owes = λ c ms. refl; row = λ p w m s i a. tt; ended = λ events i. tt; front = λ o may. may }
 plain_first plain.Unlock b = record { owes = λ c ms. refl; row = λ p w m s i a. tt; ended = λ events i. tt; front = λ o may. may }
+plain_first plain.GroupBegin b = record { owes = λ c ms. refl; row = λ p w m s i a. tt; ended = λ events i. tt; front = λ o may. may }
 plain_first plain.Done b = record { owes = λ c ms. refl; row = λ p w m s i a. tt; ended = λ events i. tt; front = λ o may. may }
 plain_first plain.Ended b = absurd b
 
@@ -105,6 +106,7 @@ some_under p c g fs opened.Call called (inl at) = some_at p fs (stmt.Call g) at
 some_under p c g fs opened.Call called (inr at) = some_at p fs (stmt.Only c.number g) at
 some_under p c g fs (opened.Repeat left) called (n, at, some, few) = some_at p fs (stmt.Repeat n g) at
 some_under p c g fs (opened.Critical k) called at = some_at p fs (stmt.Critical k g) at
+some_under p c g fs opened.Taskgroup called at = some_at p fs (stmt.Taskgroup g) at
 
 pub grounded : (p : Program) (c : Context) (fs : List Frame) → AreOpen p c fs → 0 < length fs → IsGrounded fs
 grounded p c [] bodies some = absurd (omega (arith, some))

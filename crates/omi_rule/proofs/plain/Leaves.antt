@@ -129,9 +129,9 @@ module _ (p : Program) (w : List ℕ) (m : Memory) (events : List (ℕ × Event)
           task_on p w m events s actors i before plain.Leave at_counter TaskEnter 0 refl,
           task_event p w m events s actors i before plain.Leave at_counter zs TaskEnter 0
               (λ u. record u { enter = 0 }) refl enter_of_task
-              (λ v. record { implicit = refl; region = refl; thread = refl; number = refl; scheduling = refl; exit = refl; final = refl; progress = refl })
+              (λ v. record { implicit = refl; region = refl; thread = refl; number = refl; scheduling = refl; exit = refl; final = refl; progress = refl; groups = refl })
               (λ v. (refl, refl))
-              (record { implicit = refl; region = refl; thread = refl; generating = refl; progress = refl; place = refl })
+              (record { implicit = refl; region = refl; thread = refl; generating = refl; progress = refl; place = refl; group = refl; open_groups = refl })
               (enter_stored w (m (actors i).context.task.0.creator tasks (actors i).context.task.0.slot) t 0 0 zs refl (has_codes p w m events s actors i before plain.Leave at_counter))
               (past_leave p a) (outcome.Event event.Leave) event.Leave item.Leave refl (λ q. q)
               (λ n e. absurd (cc e))
@@ -160,9 +160,9 @@ module _ (p : Program) (w : List ℕ) (m : Memory) (events : List (ℕ × Event)
         task_on p w m events s actors i before plain.Tool at_counter TaskTool word refl,
         task_event p w m events s actors i before plain.Tool at_counter zs TaskTool word
             (λ u. record u { tool = word }) refl tool_of_task
-            (λ v. record { implicit = refl; region = refl; thread = refl; number = refl; scheduling = refl; exit = refl; final = refl; progress = refl })
+            (λ v. record { implicit = refl; region = refl; thread = refl; number = refl; scheduling = refl; exit = refl; final = refl; progress = refl; groups = refl })
             (λ v. (refl, refl))
-            (record { implicit = refl; region = refl; thread = refl; generating = refl; progress = refl; place = refl })
+            (record { implicit = refl; region = refl; thread = refl; generating = refl; progress = refl; place = refl; group = refl; open_groups = refl })
             (tool_stored w (m (actors i).context.task.0.creator tasks (actors i).context.task.0.slot) t word zs (has_codes p w m events s actors i before plain.Tool at_counter))
             (settled p a) (outcome.Event (event.SetTool word)) (event.SetTool word) (item.SetTool x) refl
             (λ q. q) (λ n e. absurd (cc e))

@@ -14,6 +14,7 @@ use Rattle.omi_rule.proofs.Assembly.{Before}
 use Rattle.omi_rule.proofs.plain.Calls.{call_keeps, return_keeps, skip_keeps}
 use Rattle.omi_rule.proofs.plain.Ends.{done_keeps, ended_keeps}
 use Rattle.omi_rule.proofs.plain.Enters.{enter_keeps}
+use Rattle.omi_rule.proofs.plain.GroupBegins.{group_begin_keeps}
 use Rattle.omi_rule.proofs.plain.Leaves.{leave_keeps, tool_keeps}
 use Rattle.omi_rule.proofs.plain.Loads.{work_keeps}
 use Rattle.omi_rule.proofs.plain.Locks.{lock_keeps, unlock_keeps}
@@ -37,5 +38,6 @@ module _ (p : Program) (w : List ℕ) (m : Memory) (events : List (ℕ × Event)
   plain_keeps plain.LockState at = lock_state_keeps p w m events s actors i before at
   plain_keeps plain.Lock at = lock_keeps p w m events s actors i before at
   plain_keeps plain.Unlock at = unlock_keeps p w m events s actors i before at
+  plain_keeps plain.GroupBegin at = group_begin_keeps p w m events s actors i before at
   plain_keeps plain.Done at = done_keeps p w m events s actors i before at
   plain_keeps plain.Ended at = ended_keeps p w m events s actors i before at

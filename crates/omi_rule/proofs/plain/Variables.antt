@@ -168,9 +168,9 @@ module _ (p : Program) (w : List ℕ) (m : Memory) (events : List (ℕ × Event)
     task_on p w m events s actors i before plain.Set at_counter f value kind,
     task_event p w m events s actors i before plain.Set at_counter rest f value
         (λ u. record u { variables = v }) kind of
-        (λ q. record { implicit = refl; region = refl; thread = refl; number = refl; scheduling = refl; exit = refl; final = refl; progress = refl })
+        (λ q. record { implicit = refl; region = refl; thread = refl; number = refl; scheduling = refl; exit = refl; final = refl; progress = refl; groups = refl })
         (λ q. (refl, refl))
-        (record { implicit = refl; region = refl; thread = refl; generating = refl; progress = refl; place = refl }) codes
+        (record { implicit = refl; region = refl; thread = refl; generating = refl; progress = refl; place = refl; group = refl; open_groups = refl }) codes
         (settled p a) (outcome.Event (event.Set icv value)) (event.Set icv value) (item.Set icv value) refl
         (λ q. q) (λ n e. absurd (cc e))
         (set_takes x icv value is row)

@@ -82,7 +82,7 @@ module _ (p : Program) (w : List ℕ) (m : Memory) (events : List (ℕ × Event)
 
   -- the construct, whose task is deferred
   defers : Defers p (actors i)
-  defers = filled.0.0.0
+  defers = filled.0.0.0.0
 
   abbrev next : IsTaskNext p (actors i).stack
   next = record { function = defers.0; undeferred = false; final = defers.1; is = defers.2 }
@@ -168,8 +168,8 @@ module _ (p : Program) (w : List ℕ) (m : Memory) (events : List (ℕ × Event)
   words =
       let o = context p w m events s actors i before C at in
       defers_keep p w m Z (all_owed actors) i t f final place K Maker R
-      (words_moved p w m events s actors i before C at rest) ready.within ready.names before.valid before.known ready.owes row_moved within filled.0.0.1
-      (record_is_filled p w (actors i) f final place Maker (m i tasks t.0.slot) made_is final_is o.region_is ready.filled (task_few p w m events s actors i before C at) ready.variables)
+      (words_moved p w m events s actors i before C at rest) ready.within ready.names ready.owners before.valid before.known ready.owes row_moved within filled.0.0.0.2
+      (record_is_filled p w (actors i) f final place Maker (m i tasks t.0.slot) made_is final_is o.region_is ready.group ready.filled (task_few p w m events s actors i before C at) ready.variables)
 
   -- ---- the thread afterwards
 
@@ -213,7 +213,7 @@ module _ (p : Program) (w : List ℕ) (m : Memory) (events : List (ℕ × Event)
           (K, o.task, is_current p s i (actors i) (stands p w m events s actors i before C at), defers_here),
           (K, o.task, o.region, is_current p s i (actors i) (stands p w m events s actors i before C at), ap (region_of s) o.region_is ∙ o.found, (R, ap (slice_get o.region.team) o.number ∙ o.row, (slot_word w t, refl))),
         )
-            filled.0.0.1
+            filled.0.0.0.2
             before.rule.within.regions
             (tasks_within p w m s (all_owed actors) i (actors i) t Maker Z ready New U refl refl refl)
             (none_new p w m events s actors i before C at (event.Defer t) (item.Defer place f final) rest U taken done (λ g e. cc e))

@@ -53,17 +53,18 @@ module _ (p : Program) (w : List ℕ) (m : Memory) (events : List (ℕ × Event)
     place_stays : (q : Option ℕ) → HasPlace p m (actors i) q
         → HasPlace p (with_word m i tasks t.0.slot f k v) (actors i) q
     place_stays None o = tt
-    place_stays (Some j) (defers, none) =
+    place_stays (Some j) (defers, within, none) =
         let slots = own_slots p w m events s actors i before C at in (
           defers,
+          within,
           word_stays m i tasks t.0.slot f k v (actors i).context.row.0.creator tasks
               (actors i).context.row.0.slot (number TaskSlots) j
               (λ c _ q _ _. none_some (subst (λ x. (s.tasks x (actors i).context.row.0.slot).live ≡ None) (sym c) (subst (λ x. (s.tasks i x).live ≡ None) (sym q) empty)) (found_live (actors i).context.row.0.generation (s.tasks (actors i).context.row.0.creator (actors i).context.row.0.slot) slots.task slots.live)) ∙ none,
         )
 
-    loaded_stays : HasLoaded p m s (actors i) place
-        → HasLoaded p (with_word m i tasks t.0.slot f k v) s (actors i) place
-    loaded_stays (o, variables) = (place_stays place o, variables)
+    loaded_stays : HasLoaded p w m s (actors i) place
+        → HasLoaded p w (with_word m i tasks t.0.slot f k v) s (actors i) place
+    loaded_stays ((o, variables), group) = ((place_stays place o, variables), group)
 
   -- ---- a record is taken
 
@@ -103,8 +104,8 @@ module _ (p : Program) (w : List ℕ) (m : Memory) (events : List (ℕ × Event)
               (Then, outcome.Quiet) refl taken
               (λ j other. spares_own m s i tasks t.0.slot (number TaskLife) 0 (2 * t.0.generation + 1) j (actors j) other (λ _. fresh.empty))
               (goes_on p w m events s actors i before C at N (task.Fill place t 0) (actors i).gathered (own p w m events s actors i before C at).fits.variables refl
-              (fits p w m events s actors i before C at, omega arith) (there, before.suits.groups)
-              (loaded_goes p N s (actors i) (task.Fill place t 0) place (loaded_stays C at fresh.empty (number TaskLife) 0 (2 * t.0.generation + 1) (row p w m events s actors i before C at).0), fresh.below, λ j below. absurd (omega (arith, below)))),
+              (fits p w m events s actors i before C at, omega arith) there
+              (loaded_goes p w N s (actors i) (task.Fill place t 0) place (loaded_stays C at fresh.empty (number TaskLife) 0 (2 * t.0.generation + 1) (row p w m events s actors i before C at).0), fresh.below, λ j below. absurd (omega (arith, below)))),
         )
 
   -- ---- a word is filled
@@ -114,21 +115,21 @@ module _ (p : Program) (w : List ℕ) (m : Memory) (events : List (ℕ × Event)
     D = task.Fill place t word
 
     abbrev Word : Planned
-    Word = task_plan w (new_task p (actors i)) word
+    Word = task_plan w (new_task p w (actors i)) word
 
     abbrev Y : RecordWord
-    Y = record { creator = i; slot = t.0.slot; field = (task_plan w (new_task p (actors i)) word).field; place = (task_plan w (new_task p (actors i)) word).at }
+    Y = record { creator = i; slot = t.0.slot; field = (task_plan w (new_task p w (actors i)) word).field; place = (task_plan w (new_task p w (actors i)) word).at }
 
     abbrev After : Memory
     After =
-        with_word m i tasks t.0.slot (number (task_plan w (new_task p (actors i)) word).field)
-        (task_plan w (new_task p (actors i)) word).at (task_plan w (new_task p (actors i)) word).value
+        with_word m i tasks t.0.slot (number (task_plan w (new_task p w (actors i)) word).field)
+        (task_plan w (new_task p w (actors i)) word).at (task_plan w (new_task p w (actors i)) word).value
 
     below : word < TASK_WORDS
     below = (fits p w m events s actors i before D at).1
 
     planned : IsPlannedWord w tasks (number TaskLife) (FIELDS + 1) Word
-    planned = task_planned w (new_task p (actors i)) word before.suits.groups below
+    planned = task_planned w (new_task p w (actors i)) word before.suits.groups below
 
     making : IsInTheMaking i (s.tasks i) t.0
     making =
@@ -140,15 +141,15 @@ module _ (p : Program) (w : List ℕ) (m : Memory) (events : List (ℕ × Event)
     left : left_in m (filling w t.0 Word) Y ≡ After
     left = ap (λ kind. with_word m i kind t.0.slot (number Word.field) Word.at Word.value) planned.kind_is
 
-    words_filled : IsFilled (After t.0.creator tasks t.0.slot) (task_plan w (new_task p (actors i))) (word + 1)
+    words_filled : IsFilled (After t.0.creator tasks t.0.slot) (task_plan w (new_task p w (actors i))) (word + 1)
     words_filled =
-        subst (λ c. IsFilled (After c tasks t.0.slot) (task_plan w (new_task p (actors i))) (word + 1))
+        subst (λ c. IsFilled (After c tasks t.0.slot) (task_plan w (new_task p w (actors i))) (word + 1))
         (sym making.maker)
-        (fill_next (m i tasks t.0.slot) (After i tasks t.0.slot) (task_plan w (new_task p (actors i))) word TASK_WORDS
+        (fill_next (m i tasks t.0.slot) (After i tasks t.0.slot) (task_plan w (new_task p w (actors i))) word TASK_WORDS
         (word_read m i tasks t.0.slot (number Word.field) Word.at Word.value)
         (λ f k apart. word_stays m i tasks t.0.slot (number Word.field) Word.at Word.value i tasks t.0.slot f k (λ _ _ _ field same. apart field same))
-        (task_stores w (new_task p (actors i))) below
-        (subst (λ c. IsFilled (m c tasks t.0.slot) (task_plan w (new_task p (actors i))) word) making.maker (row p w m events s actors i before D at).2))
+        (task_stores w (new_task p w (actors i))) below
+        (subst (λ c. IsFilled (m c tasks t.0.slot) (task_plan w (new_task p w (actors i))) word) making.maker (row p w m events s actors i before D at).2))
 
     stored : (b : Actor) → owed b ≡ owed (actors i) → KeepsWords w After s (all_owed (replace_at actors i b))
     stored b same =
@@ -159,7 +160,7 @@ module _ (p : Program) (w : List ℕ) (m : Memory) (events : List (ℕ × Event)
     fill_keeps = (
       Y,
       record {
-        there = planned_there w tasks (number TaskLife) (FIELDS + 1) i t.0.slot Word (omega arith) (subst (λ j. IsSlot w tasks j t.0.slot) making.maker (placed p w m events s actors i before D at).0) planned;
+        there = planned_there w tasks (number TaskLife) (FIELDS + 1) i t.0.slot Word (omega arith) (subst (λ j. IsSlot w tasks j t.0.slot) making.maker (placed p w m events s actors i before D at)) planned;
         address = ap (λ j. word_address w j t.0.slot (number Word.field) Word.at) making.maker;
       },
       go (nat_lt (word + 1) TASK_WORDS) refl,
@@ -173,9 +174,9 @@ module _ (p : Program) (w : List ℕ) (m : Memory) (events : List (ℕ × Event)
             (λ j other. subst (λ (n : Memory). Spares m n s j (actors j)) (sym left) (spares_own m s i tasks t.0.slot (number Word.field) Word.at Word.value j (actors j) other (λ _. making.free)))
             (subst (λ (n : Memory). KeepsThread p w n events s i b) (sym left) thread)
 
-        stays_loaded : (d : TaskCounter) → HasLoaded p After s (going d (actors i).gathered (actors i)) place
+        stays_loaded : (d : TaskCounter) → HasLoaded p w After s (going d (actors i).gathered (actors i)) place
         stays_loaded d =
-            loaded_goes p After s (actors i) d place
+            loaded_goes p w After s (actors i) d place
             (loaded_stays D at making.free (number Word.field) Word.at Word.value (row p w m events s actors i before D at).0)
 
         go : (b : Bool) → nat_lt (word + 1) TASK_WORDS ≡ b
@@ -192,5 +193,5 @@ module _ (p : Program) (w : List ℕ) (m : Memory) (events : List (ℕ × Event)
             let d : TaskCounter = task.AddPending place t in
             step (to_task d (actors i)) (sym (owes p w m events s actors i before D at))
             (goes_on p w m events s actors i before D at After d (actors i).gathered (own p w m events s actors i before D at).fits.variables refl
-            (fits p w m events s actors i before D at).0 (placed p w m events s actors i before D at).0
-            (stays_loaded d, (row p w m events s actors i before D at).1, subst (IsFilled (After t.0.creator tasks t.0.slot) (task_plan w (new_task p (actors i)))) all words_filled))
+            (fits p w m events s actors i before D at).0 (placed p w m events s actors i before D at)
+            (stays_loaded d, (row p w m events s actors i before D at).1, subst (IsFilled (After t.0.creator tasks t.0.slot) (task_plan w (new_task p w (actors i)))) all words_filled))

@@ -29,26 +29,31 @@ use Rattle.omi_pc.specs.declared.task_counter.TaskCounter.{TaskCounter}
 use Rattle.omi_pc.specs.Fits.{IsAtSome, IsTask}
 use Rattle.omi_pc.specs.OpenBodies.{IsAt}
 use Rattle.omi_rep.specs.Shows.{AreWithin, IsWithin}
+use Rattle.omi_rep.specs.Records.{group_word}
 use Rattle.omi_rule_words.specs.ExplicitKinds.{OwesNew}
 use Rattle.omi_rule_words.specs.Words.{IsInTheMaking}
 use Rattle.omi_rule_words.proofs.ListedNames.{names_stay_live}
 use Rattle.omi_step_words.specs.Placed.{HasTask}
 use Rattle.omi_step_words.specs.Plan.{task_plan}
 use Rattle.omi_task.specs.MakingSteps.{final_in, explicit_function, made_function, makes_final, new_task}
+use Rattle.omi_task.specs.Groups.{new_group}
 use Rattle.omi_rule.specs.Chains.{KeepsBodies, encounter_of}
 use Rattle.omi_rule.proofs.Assembly.{Before}
-use Rattle.omi_rule.proofs.RelistedState.{within_relisted}
+use Rattle.omi_rule.proofs.RelistedState.{within_relisted, owners_relisted}
 use Rattle.omi_model.specs.declared.region.Region.{Region}
 use Rattle.omi_model.specs.Put.{Slots, made, named}
 use Rattle.omi_model.proofs.Slots.{each_made, made_same, made_stays, on_same, some_same}
 use Rattle.omi_model.proofs.StaysKept.{fresh_empty}
-use Rattle.omi_rule_words.specs.Owes.{Owed, all_owed, nothing, owed, with_reference}
-use Rattle.omi_rule.specs.Rows.{HasFilledTask, IsFilled, IsVariable, KnowsVariables}
+use Rattle.omi_model.specs.Groups.{group_within}
+use Rattle.omi_rule_words.specs.Owes.{Owed, all_owed, nothing, owed, with_count}
+use Rattle.omi_rule_words.specs.Groups.{AreOwnersLive}
+use Rattle.omi_rule.specs.Rows.{HasFilledTask, IsFilled, IsVariable, KnowsVariables, KnowsGroup}
 use Rattle.omi_rule.proofs.Own.{ChangesTask, bodies_kept, encounter_kept}
 use Rattle.omi_rule.proofs.OthersStand.{of_innermost}
 use Rattle.omi_rule.proofs.OwnTask.{list_moved, own_below, own_changes, relisted_alike}
 use Rattle.omi_rule.proofs.team.ForkBodies.{IsLarger, bodies_grow, encounter_grows}
 use Rattle.omi_rule.proofs.task.Within.{context, stands}
+use Rattle.omi_rule.proofs.Groups.{new_group_is, owners_live}
 
 -- the `task` construct in work
 pub record IsTaskNext (p : Program) (fs : List Frame) : Type 0 where
@@ -82,7 +87,9 @@ pub record IsReady (p : Program) (w : List ℕ) (m : Memory) (s : State) (owing 
   pub within : IsWithin w z
   pub names : AreNamesLive z
   pub owes : OwesNew w z owing i t a.context.task maker
-  pub filled : IsFilled (m i tasks t.0.slot) (task_plan w (new_task p a)) TASK_WORDS
+  pub filled : IsFilled (m i tasks t.0.slot) (task_plan w (new_task p w a)) TASK_WORDS
+  pub owners : AreOwnersLive z
+  pub group : new_group w a ≡ group_word w (group_within a.context.task maker)
   pub variables : (j : ℕ) → j < 8 → IsVariable maker.variables j (slice_index a.gathered.variables j)
   pub bodies : KeepsBodies p z i a.context a.stack
   pub sees : encounter_of z a.context ≡ encounter_of s a.context
@@ -102,12 +109,12 @@ module _ (p : Program) (w : List ℕ) (m : Memory) (events : List (ℕ × Event)
       own_changes p s i (actors i) (stands p w m events s actors i before c at) (relisted zs) Z
       (λ x live. relisted_alike zs x) refl refl refl refl
 
-  pub is_ready : owed (actors i) ≡ with_reference (actors i).context t → HasTask w t → (place : Option ℕ)
+  pub is_ready : owed (actors i) ≡ with_count (actors i).context t → HasTask w t → (place : Option ℕ)
       → HasFilledTask p w m s (actors i) place t TASK_WORDS
       → IsReady p w m s (all_owed actors) i (actors i) t
       (relisted zs (context p w m events s actors i before c at).task)
       (on_task s (actors i).context.task (relisted zs))
-  is_ready raises there place ((slots, variables), below, filled) =
+  is_ready raises there place (((slots, variables), group), below, filled) =
       let o = context p w m events s actors i before c at in
       let making : IsInTheMaking i (s.tasks i) t.0 =
       All-head (λ (k : Tid). IsInTheMaking i (s.tasks i) k.0) t []
@@ -121,13 +128,22 @@ module _ (p : Program) (w : List ℕ) (m : Memory) (events : List (ℕ × Event)
         current = record { name = (stands p w m events s actors i before c at).current; live = live };
         within = within_relisted s K zs w before.rule.within;
         names = subst AreNamesLive (list_moved p s i (actors i) (stands p w m events s actors i before c at) zs) (names_stay_live s i zs (names_live p events s before.rule.reached));
-        owes = record { owed = raises ∙ ap (λ (n : Rid). record nothing { tasks = t ∷ []; pending = Some n; raised = Some K; referred = Some K }) (sym o.region_is); made_by = there; live = live };
-        filled = subst (λ k. IsFilled (m k tasks t.0.slot) (task_plan w (new_task p (actors i))) TASK_WORDS) making.maker filled;
+        owes = record { owed = raises ∙ ap (λ (n : Rid). record nothing { tasks = t ∷ []; pending = Some n; raised = Some K; referred = Some K; counted = Some K }) (sym o.region_is); made_by = there; live = live };
+        filled = subst (λ k. IsFilled (m k tasks t.0.slot) (task_plan w (new_task p w (actors i))) TASK_WORDS) making.maker filled;
+        owners = owners_relisted s K zs (owners_live p events s before.rule.reached);
+        group = group_is group;
         variables = known variables;
         bodies = bodies_kept p s Z i K changes (actors i).context (actors i).stack (own_below p s i (actors i) (stands p w m events s actors i before c at) events before.rule.reached) (stands p w m events s actors i before c at).bodies;
         sees = encounter_kept p s Z i K changes (actors i).context o;
       }
     where
+      group_is : KnowsGroup w s (actors i)
+          → new_group w (actors i) ≡ group_word w (group_within (actors i).context.task (relisted zs (context p w m events s actors i before c at).task))
+      group_is (v, live, knows) =
+          let o = context p w m events s actors i before c at in
+          new_group_is w (actors i) (relisted zs o.task) o.groups
+          (λ none. knows none ∙ ap (λ (x : Task). group_word w x.group) (some_same live o.live))
+
       known : KnowsVariables s (actors i) 8 → (j : ℕ) → j < 8
           → IsVariable (context p w m events s actors i before c at).task.variables j (slice_index (actors i).gathered.variables j)
       known (v, live, are) j within =

@@ -63,9 +63,9 @@ making_is_next p at fs place (stmt.Task f undeferred final) is o =
 making_is_next p at fs place s is o = absurd o
 
 -- what was loaded is still known where the thread goes on
-pub loaded_goes : (p : Program) (m : Memory) (s : State) (a : Actor) (d : TaskCounter) (place : Option ℕ)
-    → HasLoaded p m s a place → HasLoaded p m s (going d a.gathered a) place
-loaded_goes p m s a d place (o, variables) = (place_goes p m a d a.gathered place o, variables)
+pub loaded_goes : (p : Program) (w : List ℕ) (m : Memory) (s : State) (a : Actor) (d : TaskCounter) (place : Option ℕ)
+    → HasLoaded p w m s a place → HasLoaded p w m s (going d a.gathered a) place
+loaded_goes p w m s a d place ((o, variables), group) = ((place_goes p m a d a.gathered place o, variables), group)
 
 module _ (p : Program) (w : List ℕ) (m : Memory) (events : List (ℕ × Event)) (s : State) (actors : ℕ → Actor)
     (i : ℕ) (before : Before p w m events s actors i) (place : Option ℕ) (slot : ℕ)
@@ -117,7 +117,7 @@ module _ (p : Program) (w : List ℕ) (m : Memory) (events : List (ℕ × Event)
           (to_task next (actors i)) (sym (owes p w m events s actors i before C at))
           (goes_on p w m events s actors i before C at m next (actors i).gathered (own p w m events s actors i before C at).fits.variables refl
           (fits p w m events s actors i before C at, refl) there
-          (loaded_goes p m s (actors i) next place (row p w m events s actors i before C at), fresh))
+          (loaded_goes p w m s (actors i) next place (row p w m events s actors i before C at), fresh))
       go false taken =
           let next : TaskCounter = task.LoadLife place (next_slot w tasks slot) in
           load_waits p w m events s actors i before (of_place w (own_place (actors i) slot) TaskLife) X
@@ -132,4 +132,4 @@ module _ (p : Program) (w : List ℕ) (m : Memory) (events : List (ℕ × Event)
           (sym (owes p w m events s actors i before C at))
           (goes_on p w m events s actors i before C at m next (actors i).gathered (own p w m events s actors i before C at).fits.variables refl
           (fits p w m events s actors i before C at) (next_within w tasks slot within)
-          (loaded_goes p m s (actors i) next place (row p w m events s actors i before C at)))
+          (loaded_goes p w m s (actors i) next place (row p w m events s actors i before C at)))

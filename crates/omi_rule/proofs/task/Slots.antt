@@ -103,7 +103,7 @@ module _ (p : Program) (w : List ℕ) (m : Memory) (events : List (ℕ × Event)
       (sym (owes p w m events s actors i before C at))
       (goes_on p w m events s actors i before C at m d (actors i).gathered (own p w m events s actors i before C at).fits.variables refl
       (fits p w m events s actors i before C at, omega arith) tt
-      ((defers, none), (o.task, o.live, λ j below. absurd (omega (arith, below)))))
+      ((defers, within, none), (o.task, o.live, λ j below. absurd (omega (arith, below)))))
 
   -- ---- a slot is taken
 

@@ -174,9 +174,9 @@ module _ (p : Program) (w : List ℕ) (m : Memory) (events : List (ℕ × Event)
   words =
       let o = context p w m events s actors i before C at in
       starts_now_keep p w m Z (all_owed actors) i t f final K Maker
-      (words_moved p w m events s actors i before C at rest) ready.within ready.names before.valid before.known ready.owes
-      (record_is_filled p w (actors i) f final 0 Maker (m i tasks t.0.slot) made_is final_is o.region_is ready.filled (task_few p w m events s actors i before C at) ready.variables)
-      (place_is_filled p w (actors i) f final 0 Maker (m i tasks t.0.slot) made_is final_is o.region_is ready.filled (task_few p w m events s actors i before C at) ready.variables i (own p w m events s actors i before C at).thread o.number o.exit)
+      (words_moved p w m events s actors i before C at rest) ready.within ready.names ready.owners before.valid before.known ready.owes
+      (record_is_filled p w (actors i) f final 0 Maker (m i tasks t.0.slot) made_is final_is o.region_is ready.group ready.filled (task_few p w m events s actors i before C at) ready.variables)
+      (place_is_filled p w (actors i) f final 0 Maker (m i tasks t.0.slot) made_is final_is o.region_is ready.group ready.filled (task_few p w m events s actors i before C at) ready.variables i (own p w m events s actors i before C at).thread o.number o.exit)
 
   -- ---- the state has grown
 
@@ -217,6 +217,7 @@ module _ (p : Program) (w : List ℕ) (m : Memory) (events : List (ℕ × Event)
         size = o.size;
         row = o.row;
         arrivals = o.arrivals;
+        groups = refl;
       }
 
   bodies : KeepsBodies p U i c (frame ∷ (actors i).stack)

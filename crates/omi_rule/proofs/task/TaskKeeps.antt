@@ -11,9 +11,10 @@ use Rattle.omi_pc.specs.declared.task_counter.TaskCounter.TheVariants as task
 use Rattle.omi_task.specs.MakingSteps.{making_moved, making_next, making_outcome}
 use Rattle.omi_rule.specs.Steps.{StepKeeps}
 use Rattle.omi_rule.proofs.Assembly.{Before}
+use Rattle.omi_rule.proofs.task.Counted.{count_keeps}
 use Rattle.omi_rule.proofs.task.Defers.{defer_keeps}
 use Rattle.omi_rule.proofs.task.Fills.{fill_keeps, take_keeps}
-use Rattle.omi_rule.proofs.task.Loads.{variable_keeps}
+use Rattle.omi_rule.proofs.task.Loads.{group_keeps, variable_keeps}
 use Rattle.omi_rule.proofs.task.Raises.{children_keeps, pending_keeps, references_keep}
 use Rattle.omi_rule.proofs.task.Searches.{search_keeps}
 use Rattle.omi_rule.proofs.task.Slots.{slot_keeps}
@@ -26,11 +27,13 @@ module _ (p : Program) (w : List ℕ) (m : Memory) (events : List (ℕ × Event)
   task_keeps (task.LoadSlot place) at = slot_keeps p w m events s actors i before place at
   task_keeps (task.LoadVariable place word) at =
       variable_keeps p w m events s actors i before place word at
+  task_keeps (task.LoadGroup place) at = group_keeps p w m events s actors i before place at
   task_keeps (task.LoadLife place slot) at = search_keeps p w m events s actors i before place slot at
   task_keeps (task.Take place t) at = take_keeps p w m events s actors i before place t at
   task_keeps (task.Fill place t word) at = fill_keeps p w m events s actors i before place t word at
   task_keeps (task.AddPending place t) at = pending_keeps p w m events s actors i before place t at
   task_keeps (task.AddChildren place t) at = children_keeps p w m events s actors i before place t at
   task_keeps (task.AddReferences place t) at = references_keep p w m events s actors i before place t at
+  task_keeps (task.AddCount place t) at = count_keeps p w m events s actors i before place t at
   task_keeps (task.Defer place t) at = defer_keeps p w m events s actors i before place t at
   task_keeps (task.StartNow t) at = start_now_keeps p w m events s actors i before t at

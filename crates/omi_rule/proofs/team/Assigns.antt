@@ -85,6 +85,7 @@ master_starts (f ∷ fs) (first, is) = (first, go f.opened is)
     go opened.Call o = absurd o
     go (opened.Repeat left) o = absurd o
     go (opened.Critical k) o = absurd o
+    go opened.Taskgroup o = absurd o
 
 module _ (p : Program) (w : List ℕ) (m : Memory) (events : List (ℕ × Event)) (s : State) (actors : ℕ → Actor)
     (i : ℕ) (before : Before p w m events s actors i) (member : ℕ)
@@ -147,7 +148,7 @@ module _ (p : Program) (w : List ℕ) (m : Memory) (events : List (ℕ × Event)
     regions_same = λ k e. record_stays m To threads 0 (number ThreadAssign) 0 (task_address w Task) j regions k (λ _ kind _. absurd (omega (arith, kind)));
     tasks_same = λ k e. record_stays m To threads 0 (number ThreadAssign) 0 (task_address w Task) j tasks k (λ _ kind _. absurd (omega (arith, kind)));
     assign_same = λ t is. go t is (j == To) refl;
-    slots_kept = λ row t place live im is empty. word_stays m To threads 0 (number ThreadAssign) 0 (task_address w Task) row.0.creator tasks row.0.slot (number TaskSlots) place (λ _ kind _ _ _. absurd (omega (arith, kind))) ∙ empty;
+    slots_kept = λ row t place live im is within empty. word_stays m To threads 0 (number ThreadAssign) 0 (task_address w Task) row.0.creator tasks row.0.slot (number TaskSlots) place (λ _ kind _ _ _. absurd (omega (arith, kind))) ∙ empty;
     hand_same = λ k t g h known is live deferred of. word_stays m To threads 0 (number ThreadAssign) 0 (task_address w Task) k.0.creator tasks k.0.slot (number g) h (λ _ kind _ _ _. absurd (omega (arith, kind)));
     left_kept = λ k. not_less (m j regions k) (N j regions k) (number RegionLeft) 0 (record_stays m To threads 0 (number ThreadAssign) 0 (task_address w Task) j regions k (λ _ kind _. absurd (omega (arith, kind))));
   }

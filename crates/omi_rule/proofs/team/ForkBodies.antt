@@ -42,6 +42,7 @@ module _ (p : Program) (s u : State) (i : ℕ) (larger : IsLarger s u) where
     size = o.size;
     row = o.row;
     arrivals = o.arrivals;
+    groups = o.groups;
   }
 
   pub encounter_grows : (c : Context) → KeepsContext s i c → encounter_of u c ≡ encounter_of s c
@@ -76,6 +77,7 @@ module _ (p : Program) (s u : State) (i : ℕ) (larger : IsLarger s u) where
   body_grows c opened.Call fs l keeps = tt
   body_grows c (opened.Repeat left) fs l keeps = tt
   body_grows c (opened.Critical lock) fs l keeps = tt
+  body_grows c opened.Taskgroup fs l keeps = tt
 
   pub bodies_grow : (c : Context) (fs : List Frame) → KeepsBodies p s i c fs → KeepsBodies p u i c fs
   bodies_grow c [] o = context_grows c o

@@ -1,5 +1,5 @@
 -- The records that were filled for a fork are those of the region and of the members' tasks that it makes.
-use Rattle.std.proofs.Common.{◌≡◌, ◌+◌, ◌^◌, ◌==◌, ◌<◌, ◌≤◌, nat_lt, ℕ, zero, suc, Bool, true, false, List, [], ◌∷◌, length, slice_get, Some, refl, sym, subst, ap, ◌∙◌, arith, eqb-true, if◌then◌else◌}
+use Rattle.std.proofs.Common.{◌≡◌, ◌+◌, ◌^◌, ◌==◌, ◌<◌, ◌≤◌, nat_lt, ℕ, zero, suc, Bool, true, false, List, [], ◌∷◌, length, slice_get, Some, None, refl, sym, subst, ap, ◌∙◌, arith, eqb-true, if◌then◌else◌}
 use Rattle.std.proofs.lemmas.Option.{slice_get_within}
 use Rattle.omi_script.specs.declared.program.Program.{Program}
 use Rattle.omi_model.specs.declared.id.Rid.{Rid}
@@ -24,10 +24,10 @@ use Rattle.omi_step_words.specs.Members.{member_of}
 use Rattle.omi_step_words.specs.Plan.{inherited_words, planned_task, region_plan, task_plan}
 use Rattle.omi_step_words.specs.Words.{plus}
 use Rattle.omi_fork.specs.TeamParts as TeamParts
-use Rattle.omi_fork.specs.TeamParts.{parallel_function, new_member}
+use Rattle.omi_fork.specs.TeamParts.{new_member}
 use Rattle.omi_rule.specs.Rows.{IsFilled}
 use Rattle.omi_rule.proofs.team.Inherits.{AreVariables, shortened_few}
-use Rattle.omi_rule.proofs.task.FilledTasks.{planned_codes, planned_stands}
+use Rattle.omi_rule.proofs.task.FilledTasks.{counts_stand, planned_codes, planned_stands}
 
 -- the member at a place
 pub member_is : (xs : List (Tid × ℕ)) (j : ℕ) (y : Tid × ℕ) → slice_get xs j ≡ Some y → member_of xs j ≡ y
@@ -84,10 +84,11 @@ module _ (p : Program) (w : List ℕ) (a : Actor) (n : Rid) (f : ℕ) (t : Task)
       → length t.variables.nthreads ≤ 4
       → IsFilled q (task_plan w (new_member p a n j)) TASK_WORDS → MemberIsFilled w q (member_task p n a.context.task t r f j m.1)
   member_filled q j m at first are few o = record {
-    codes = subst (λ (x : TaskWords). HasCodes (task_code w x) q) same (planned_codes w (new_member p a n j) q o (inherited t.variables) are (shortened_few t.variables.nthreads few));
+    codes = subst (λ (x : TaskWords). HasCodes (task_code w x) q) same (planned_codes w (new_member p a n j) q o (inherited t.variables) None refl are (shortened_few t.variables.nthreads few));
     children = planned_stands w (new_member p a n j) q o TaskChildren 0 0 refl;
     references = planned_stands w (new_member p a n j) q o TaskReferences 0 0 refl;
     slots = slots;
+    groups = counts_stand w (new_member p a n j) q o;
   }
     where
       slots : (place : ℕ) → place < OWN_SLOTS → Has q TaskSlots place 0
@@ -106,9 +107,9 @@ module _ (p : Program) (w : List ℕ) (a : Actor) (n : Rid) (f : ℕ) (t : Task)
           ≡ (if j == 0 then exit_below t.exit else exit_frame m.1 1)
       frame = ap (λ (y : Tid × ℕ). exit_frame y.1 (TeamParts.member_depth a j)) at ∙ go (j == 0) refl
 
-      same : planned_task (new_member p a n j) (inherited t.variables)
+      same : planned_task (new_member p a n j) (inherited t.variables) None
           ≡ task_told (member_task p n a.context.task t r f j m.1)
-      same = λ i. record (planned_task (new_member p a n j) (inherited t.variables)) {
+      same = λ i. record (planned_task (new_member p a n j) (inherited t.variables) None) {
         thread = (at i).1;
         function = function i;
         exit = frame i;

@@ -48,6 +48,7 @@ use Rattle.omi_rule_words.specs.Owes.{all_owed, nothing}
 use Rattle.omi_rule_words.specs.TeamKinds.{ForkIsFilled, HasNoTask}
 use Rattle.omi_rule_words.specs.Threads.{WaitsFor}
 use Rattle.omi_rule_words.specs.Words.{IsInTheMaking, KeepsMaking, KeepsWords}
+use Rattle.omi_rule_words.specs.Groups.{AreOwnersLive}
 use Rattle.omi_rule_words.proofs.Forks.{forks_keep}
 use Rattle.omi_rule_words.proofs.ListedNames.{names_stay_live}
 use Rattle.omi_step_words.specs.Members.{member_of}
@@ -57,6 +58,8 @@ use Rattle.omi_fork.specs.TeamParts.{parallel_function, new_member}
 use Rattle.omi_rule.specs.Ahead.{forking, leaving}
 use Rattle.omi_rule.specs.Chains.{KeepsContext, encounter_of}
 use Rattle.omi_rule.specs.Rows.{HasFilled, HasTeam, IsFilled, IsVariable}
+use Rattle.omi_rule.proofs.Groups.{owners_live}
+use Rattle.omi_rule.proofs.RelistedState.{owners_relisted}
 use Rattle.omi_rule.proofs.Assembly.{Before}
 use Rattle.omi_rule.proofs.OwnTask.{list_moved}
 use Rattle.omi_rule.proofs.RowsStay.{of_member as of_members}
@@ -270,9 +273,13 @@ module _ (p : Program) (w : List ℕ) (m : Memory) (events : List (ℕ × Event)
       subst AreNamesLive (list_moved p s i (actors i) (stands p w m events s actors i before C at) list)
       (names_stay_live s i list (names_live p events s before.rule.reached))
 
+  owners : AreOwnersLive z
+  owners =
+      owners_relisted s (actors i).context.task list (owners_live p events s before.rule.reached)
+
   pub words : KeepsWords w (with_word m i threads 0 (number ThreadCurrent) 0 (task_address w (member_of (actors i).gathered.team 0).0)) u (replace_at (all_owed actors) i (record nothing { assigns = drop 1 (actors i).gathered.team }))
   words =
       subst
       (λ v. KeepsWords w (with_word m i threads 0 (number ThreadCurrent) 0 v) u (replace_at (all_owed actors) i (record nothing { assigns = drop 1 Team })))
       (ap (task_word w) (first_master Team fit.0.1))
-      (forks_keep p w m z (all_owed actors) i r Team next.function K moved here.region (words_moved p w m events s actors i before C at list) before.known (owes p w m events s actors i before C at) records idle names before.valid)
+      (forks_keep p w m z (all_owed actors) i r Team next.function K moved here.region (words_moved p w m events s actors i before C at list) before.known (owes p w m events s actors i before C at) records idle names owners before.valid)

@@ -181,6 +181,7 @@ module _ (p : Program) (w : List ℕ) (m : Memory) (events : List (ℕ × Event)
     size = refl;
     row = there_at Members 0 (let h = some in omega (arith, h)) ∙ ap (λ j. Some (First, j)) (own_member p w m events s actors i before r at);
     arrivals = none_arrived (length Members);
+    groups = refl;
   }
 
   changes : ChangesTask s Z i (actors i).context.task

@@ -82,6 +82,7 @@ sizes_step p events s reached i e next step all =
       frees = λ k t free how q. q;
       shows = λ k t x q. q;
       tools = λ k t x q. q;
+      groups = λ k t n is how q. q;
       begins = λ k t waits mine by q. q;
       finishes = λ k t is over q. q;
       sets = λ k t icv value v f at_set q. of_set icv value t.variables v f at_set q;

@@ -141,7 +141,6 @@ module _ (p : Program) (w : List ℕ) (m : Memory) (events : List (ℕ × Event)
                     let count = before.rule.within.count in
                     let known = before.known in
                     subst (λ c. (member_of Team j).1 < c) count (threads_known i (actors i).gathered.asked s.count (s.threads i).asks Team known asks.asks.few asks.asks.asked (with_task_threads t member (actors i).gathered.team ∙ asks.asks.joined) j within),
-                before.suits.groups,
               ) (
                 team_goes s i (actors i) (team.FillTask r member t 0) Team (with_task_threads t member (actors i).gathered.team) asks,
                 filled_goes p w m N (actors i) r member (team.FillTask r member t 0) Team size

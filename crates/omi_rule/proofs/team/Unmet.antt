@@ -42,12 +42,14 @@ team_unmet members (team.Assign member) = refl
 task_unmet : (c : Context) (x : TaskCounter) → (by_task c x).met ≡ false
 task_unmet c (task.LoadSlot place) = refl
 task_unmet c (task.LoadVariable place word) = refl
+task_unmet c (task.LoadGroup place) = refl
 task_unmet c (task.LoadLife place slot) = refl
 task_unmet c (task.Take place t) = refl
 task_unmet c (task.Fill place t word) = refl
 task_unmet c (task.AddPending place t) = refl
 task_unmet c (task.AddChildren place t) = refl
 task_unmet c (task.AddReferences place t) = refl
+task_unmet c (task.AddCount place t) = refl
 task_unmet c (task.Defer place t) = refl
 task_unmet c (task.StartNow t) = refl
 
@@ -56,18 +58,23 @@ look_unmet (look.State w) = refl
 look_unmet (look.LoadRow w n) = refl
 look_unmet (look.LoadSlot w n row) = refl
 look_unmet (look.LoadGenerating w n row code) = refl
+look_unmet (look.LoadGroup n row code) = refl
 look_unmet (look.Take w n row code) = refl
 look_unmet (look.LoadFunction w n code t) = refl
 look_unmet (look.LoadFinal w n code t f) = refl
 look_unmet (look.Fill w n code t f final word) = refl
 look_unmet (look.Start w n code t f final) = refl
 look_unmet look.LoadChildren = refl
+look_unmet look.LoadCount = refl
+look_unmet look.GroupEnd = refl
 look_unmet (look.Yield n) = refl
 
 finish_unmet : (c : Context) (x : FinishCounter) → (by_finish c x).met ≡ false
 finish_unmet c finish.Finish = refl
 finish_unmet c (finish.LoadGenerating w t) = refl
 finish_unmet c (finish.SubtractChildren w t generating) = refl
+finish_unmet c (finish.LoadGroup w t generating) = refl
+finish_unmet c (finish.SubtractCount w t generating group) = refl
 finish_unmet c (finish.SubtractReferences w t generating) = refl
 finish_unmet c (finish.Free w t generating) = refl
 finish_unmet c (finish.LoadImplicit w generating) = refl

@@ -23,6 +23,7 @@ use Rattle.omi_numbers.specs.Addresses.{exit_frame}
 use Rattle.omi_model.specs.Rows.{end_of_member, function_items, member_items, working}
 use Rattle.omi_model.specs.State.{State, region_of, task_of}
 use Rattle.omi_model.specs.Teams.{task_begun}
+use Rattle.omi_model.proofs.groups.GroupLaws.{groups_right}
 use Rattle.omi_model.proofs.MembersKnown.{members_known}
 use Rattle.omi_model.proofs.Slots.{on_same, put_same, some_same}
 use Rattle.omi_model.proofs.members.ClosingItems.{lists_right}
@@ -183,6 +184,7 @@ module _ (p : Program) (w : List ℕ) (m : Memory) (events : List (ℕ × Event)
     size = sized;
     row = row;
     arrivals = arrivals;
+    groups = (groups_right p events s before.rule.reached k o.task o.live).closed (λ begun. cc (sym o.progress, begun));
   }
 
   -- what the rows of its statements see
@@ -252,6 +254,7 @@ module _ (p : Program) (w : List ℕ) (m : Memory) (events : List (ℕ × Event)
     size = (omega (arith, fit.1), fit.0.1);
     number = fit.1;
     arrivals = omega arith;
+    groups = omega arith;
     task = fit.0.0.0.0.1;
     region = fit.0.0.1;
     row = fit.0.0.0.0.1;

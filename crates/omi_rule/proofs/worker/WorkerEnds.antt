@@ -209,6 +209,7 @@ module _ (p : Program) (w : List ℕ) (m : Memory) (events : List (ℕ × Event)
       go opened.Call is on e = absurd is
       go (opened.Repeat left) is on e = absurd is
       go (opened.Critical lock) is on e = absurd is
+      go opened.Taskgroup is on e = absurd is
 
   implicit : t.implicit ≡ true
   implicit = ctx.implicit ∙ last.1.implicit

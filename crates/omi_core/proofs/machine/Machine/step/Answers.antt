@@ -1,7 +1,7 @@
 use Rattle.std.proofs.Common.{◌≡◌, ◌∙◌, refl, sym, ap}
 use Rattle.omi_pc.specs.declared.actor.Actor.{Actor}
 use Rattle.omi_actor.specs.Steps.{resumed_at}
-use Rattle.omi_core.proofs.RecordedRuns.{actor_there, fits_now, placed_now, stepped_on, word_found}
+use Rattle.omi_core.proofs.RecordedRuns.{actor_there, fits_now, groups_now, placed_now, stepped_on, word_found}
 use Rattle.omi_core.proofs.machine.Machine.step.Goals as goal
 
 pub next-op-requires-clause-fits : goal.next-op-requires-clause-fits
@@ -23,6 +23,16 @@ next-op-requires-clause-placed g c =
     let actor = c.index-actor.result.now in
     let here = c.index-actor.ensures ∙ actor_there m steps a at i c.requires.thread actor in
     placed_now m steps a at i c.requires.thread c.requires.below actor here
+
+pub next-op-requires-clause-groups : goal.next-op-requires-clause-groups
+next-op-requires-clause-groups g c =
+    let m = c.args.self.now in
+    let i = c.args.i in
+    let steps = c.args.steps in
+    let (a, at) = c.requires.at in
+    let actor = c.index-actor.result.now in
+    let here = c.index-actor.ensures ∙ actor_there m steps a at i c.requires.thread actor in
+    groups_now m steps a at i c.requires.thread c.requires.below actor here
 
 pub apply-found-requires : goal.apply-found-requires
 apply-found-requires g c =
@@ -53,6 +63,16 @@ outcome-came-requires-clause-placed g c =
     let actor = c.index-actor.result.now in
     let here = c.index-actor.ensures ∙ actor_there m steps a at i c.requires.thread actor in
     placed_now m steps a at i c.requires.thread c.requires.below actor here
+
+pub outcome-came-requires-clause-groups : goal.outcome-came-requires-clause-groups
+outcome-came-requires-clause-groups g c =
+    let m = c.args.self.now in
+    let i = c.args.i in
+    let steps = c.args.steps in
+    let (a, at) = c.requires.at in
+    let actor = c.index-actor.result.now in
+    let here = c.index-actor.ensures ∙ actor_there m steps a at i c.requires.thread actor in
+    groups_now m steps a at i c.requires.thread c.requires.below actor here
 
 pub advance-requires-clause-fits : goal.advance-requires-clause-fits
 advance-requires-clause-fits g c =

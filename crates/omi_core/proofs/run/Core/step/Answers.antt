@@ -39,6 +39,9 @@ next-op-requires-clause-placed c =
     let thread = subst (λ (z : Run). c.args.i < z.program.threads) (sym c.self.view_is) c.requires.thread in
     placed_read _ c.self.invariant c.args.i thread c.index-actor.result.now c.index-actor.ensures
 
+pub next-op-requires-clause-groups : goal.next-op-requires-clause-groups
+next-op-requires-clause-groups c = c.self.invariant.suits.groups
+
 pub apply-found-requires : goal.apply-found-requires
 apply-found-requires c =
     let thread = subst (λ (z : Run). c.args.i < z.program.threads) (sym c.self.view_is) c.requires.thread in
@@ -57,6 +60,9 @@ pub outcome-came-requires-clause-placed : goal.outcome-came-requires-clause-plac
 outcome-came-requires-clause-placed c =
     let thread = subst (λ (z : Run). c.args.i < z.program.threads) (sym c.self.view_is) c.requires.thread in
     placed_read _ c.self.invariant c.args.i thread c.index-actor.result.now c.index-actor.ensures
+
+pub outcome-came-requires-clause-groups : goal.outcome-came-requires-clause-groups
+outcome-came-requires-clause-groups c = c.self.invariant.suits.groups
 
 pub advance-requires-clause-fits : goal.advance-requires-clause-fits
 advance-requires-clause-fits c =

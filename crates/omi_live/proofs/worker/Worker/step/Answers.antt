@@ -1,5 +1,5 @@
 -- One step of a running thread: its operation keeps the rule of the table, and what it lists is what its seat knows.
-use Rattle.std.proofs.Common.{◌≡◌, ◌+◌, sym, ap, ◌∙◌}
+use Rattle.std.proofs.Common.{◌+◌, sym, ap, ◌∙◌}
 use Rattle.omi_layout.specs.declared.layout.Layout.{Layout}
 use Rattle.omi_layout.specs.Place.{image_words}
 use Rattle.omi_seat.proofs.Logged.{can_step, next_is}
@@ -15,6 +15,11 @@ pub next-op-requires-clause-placed : goal.next-op-requires-clause-placed
 next-op-requires-clause-placed c =
     let ready = c.requires.ready in
     (can_step c.args.p.now c.args.l.now ready.0.known c.args.self.now.log ready.1.work.log ready.1.able).placed
+
+pub next-op-requires-clause-groups : goal.next-op-requires-clause-groups
+next-op-requires-clause-groups c =
+    let ready = c.requires.ready in
+    (can_step c.args.p.now c.args.l.now ready.0.known c.args.self.now.log ready.1.work.log ready.1.able).groups
 
 pub apply-old-requires-clause-may : goal.apply-old-requires-clause-may
 apply-old-requires-clause-may c =

@@ -17,6 +17,11 @@ next-op-requires-clause-placed c =
     let ready = c.requires.ready in
     (can_step c.args.p.now c.args.l.now ready.0.known c.args.self.now.log ready.1.work.log ready.1.may.able).placed
 
+pub next-op-requires-clause-groups : goal.next-op-requires-clause-groups
+next-op-requires-clause-groups c =
+    let ready = c.requires.ready in
+    (can_step c.args.p.now c.args.l.now ready.0.known c.args.self.now.log ready.1.work.log ready.1.may.able).groups
+
 pub apply-old-requires-clause-may : goal.apply-old-requires-clause-may
 apply-old-requires-clause-may c =
     let ready = c.requires.ready in
