@@ -18,8 +18,8 @@ use Rattle.omi_audit.specs.Search.{Place, places_of, elements_of, named_at, thre
 use Rattle.omi_audit.specs.Verdicts.{refused_at}
 use Rattle.omi_audit.specs.Judged.{OverKept, Asks, IsFine, IsFound, IsJudged, has_begun, place_at, refused_among}
 use Rattle.omi_audit.proofs.Asking.{asks_front, asks_on, asks_then}
-use Rattle.omi_audit.proofs.JudgedPlaces.{named_next}
-use Rattle.omi_audit.proofs.JudgedRecords.{all_places, begun_places, both_fine, first_places, one_fine, places_by}
+use Rattle.omi_audit.proofs.JudgedPlaces.{AreFine, named_next}
+use Rattle.omi_audit.proofs.JudgedRecords.{knows_then, all_places, begun_places, both_fine, first_places, one_fine, places_by}
 use Rattle.omi_audit.proofs.NamedWords.{still_knows_named}
 
 -- places of places
@@ -89,6 +89,18 @@ module _ {C F : Type 0} (told : C → Told) (asked : C → ℕ) (s t : Opened C 
       (λ m tells known. (fine m tells known).known.met)
       (λ m tells known. still_knows_named s.layout m k n (first_places a) known (fine m tells known).known)
       behind
+
+-- words that are judged one after the other
+module _ {C F : Type 0} (told : C → Told) (asked : C → ℕ) (s t u : Opened C F) (stays : StaysWhole told s t) (a b : Search)
+    (xs ys : List ℕ → Words → List Place) (first : OverKept told s a (λ m. AreFine s.layout m 0 (xs s.layout m) a b)) where
+  pub asks_both : (more : ℕ)
+      → OverKept told s a (λ m. Asks s.layout m (asked s.table.calls) (asked t.table.calls) a (xs s.layout m) 0)
+      → OverKept told t b (λ m. Asks t.layout m (asked t.table.calls) (asked u.table.calls) b (ys t.layout m) more)
+      → OverKept told s a (λ m. Asks s.layout m (asked s.table.calls) (asked u.table.calls) a (xs s.layout m ++ ys s.layout m) more)
+  asks_both more asks behind =
+      asks_on told asked s t u stays a b xs ys more asks
+      (λ m tells known. (first m tells known).known.met)
+      (knows_then told s t stays a b b xs ys first) behind
 
 -- the fields of a record, and the elements behind them
 module _ {C F : Type 0} (told : C → Told) (asked : C → ℕ) (s t u : Opened C F) (stays : StaysWhole told s t) (a b : Search)

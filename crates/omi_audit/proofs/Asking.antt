@@ -23,7 +23,7 @@ use Rattle.omi_word.specs.Words.{Words}
 use Rattle.omi_rep.specs.Look.{slot_at, live_at}
 use Rattle.omi_audit.specs.declared.search.Search.{Search}
 use Rattle.omi_audit.specs.declared.stop.Stop.{Stop}
-use Rattle.omi_audit.specs.Clauses.{leads_to}
+use Rattle.omi_audit.specs.Clauses.{leads_to, led_to}
 use Rattle.omi_audit.specs.Search.{Place, word_at, named_at}
 use Rattle.omi_audit.specs.Judged.{OverKept, Asks, Knows, MeetsNamed, one_if_stopped, spare_at, named_by_word}
 use Rattle.omi_audit.proofs.Chained.{none_at}
@@ -122,10 +122,10 @@ module _ (w : List ℕ) (words : Words) where
 
   -- what the word at a place names
   pub named_one : (p : Place) (found : ℕ) → word_at w words p ≡ Some found
-      → flat_map (named_at w words) (p ∷ []) ≡ named_by_word w words p.field found
+      → flat_map (named_at w words) (p ∷ []) ≡ named_by_word w words p.field p.at found
   named_one p found word =
       append-nil (named_at w words p)
-      ∙ ap (λ o. option_map_or (λ kind. cond (kind == threads) [] (filter (λ one. is_some (live_at w words kind one)) (option_map_or (λ one. one ∷ []) o []))) (leads_to p.field) []) word
+      ∙ ap (λ o. option_map_or (λ kind. cond (kind == threads) [] (filter (λ one. is_some (live_at w words kind one)) (option_map_or (λ one. led_to p.field one ∷ []) o []))) (leads_to p.field p.at) []) word
 
 -- the kinds of objects
 pub kind_known : (kind : Kind) → IsKind (record_kind kind)

@@ -1,16 +1,18 @@
 -- The state that the words of the reached records show: each of these records is that of a live object, and no other object lives.
-use Rattle.std.proofs.Common.{◌≡◌, ◌⊎◌, inl, inr, ℕ, ◌+◌, ◌&&◌, Bool, true, false, cond, List, [], map, Option, Some, None, refl, sym, ap, ◌∙◌, arith, eqb-true, eq-eqb}
+use Rattle.std.proofs.Common.{◌≡◌, ◌⊎◌, inl, inr, ℕ, ◌+◌, ◌&&◌, Bool, true, false, cond, List, [], map, Option, Some, None, refl, sym, ap, ◌∙◌, arith, eqb-true, eq-eqb, ◌%◌}
 use Rattle.std.specs.Prelude.{◌==◌}
 use Rattle.std.specs.Option.{option_map, option_map_or}
 use Rattle.std.specs.List.{range_with_len}
 use Rattle.omi_numbers.specs.Addresses.{function_at}
 use Rattle.omi_numbers.specs.declared.states.TheConstants.{IDLE}
 use Rattle.omi_numbers.specs.Words.{state_of, wait_of}
+use Rattle.omi_numbers.specs.declared.limits.TheConstants.{OPEN_GROUPS}
 use Rattle.omi_script.specs.Schedules.{kind_in, chunk_in}
-use Rattle.omi_layout.specs.declared.field.Field.TheVariants.{RuntimeProcs, RuntimeDebug, RuntimeMaxActive, ThreadLife, ThreadCurrent, ThreadState, RegionFunction, RegionEnclosing, RegionEncountering, RegionSize, RegionLevels, RegionActive, RegionTeam, TaskImplicit, TaskRegion, TaskThread, TaskNumber, TaskGenerating, TaskScheduling, TaskFunction, TaskExit, TaskEnter, TaskDynamic, TaskNthreadsLength, TaskSchedule, TaskDevice, TaskFinal, TaskTool, TaskNthreads}
+use Rattle.omi_layout.specs.declared.field.Field.TheVariants.{RuntimeProcs, RuntimeDebug, RuntimeMaxActive, ThreadLife, ThreadCurrent, ThreadState, RegionFunction, RegionEnclosing, RegionEncountering, RegionSize, RegionLevels, RegionActive, RegionTeam, TaskImplicit, TaskRegion, TaskThread, TaskNumber, TaskGenerating, TaskScheduling, TaskFunction, TaskExit, TaskEnter, TaskDynamic, TaskNthreadsLength, TaskSchedule, TaskDevice, TaskFinal, TaskTool, TaskNthreads, TaskSlots}
 use Rattle.omi_layout.specs.Field.{threads, regions, tasks}
 use Rattle.omi_layout.specs.Place.{slot_address}
-use Rattle.omi_layout.specs.Table.{thread_count}
+use Rattle.omi_layout.specs.Table.{thread_count, version}
+use Rattle.omi_layout.specs.declared.limits.TheConstants.{GROUP_PLACE, GROUP_VERSION, OPEN_PLACE}
 use Rattle.omi_model.specs.declared.claim.Claim.TheVariants.{Own}
 use Rattle.omi_model.specs.declared.id.Id.{Id}
 use Rattle.omi_model.specs.declared.id.Rid.{Rid}
@@ -22,12 +24,14 @@ use Rattle.omi_model.specs.declared.task.Task.{Task}
 use Rattle.omi_model.specs.declared.thread.Thread.{Thread}
 use Rattle.omi_model.specs.Put.{Slots, unused, found, named}
 use Rattle.omi_model.specs.State.{State}
+use Rattle.omi_model.specs.declared.group.Group.{Group}
 use Rattle.omi_word.specs.Words.{Words}
 use Rattle.omi_rep.specs.Look.{slot_at, live_at}
 use Rattle.omi_rep.specs.Records.{runtime_address, thread_address}
 use Rattle.omi_audit.specs.Search.{reached}
 use Rattle.omi_audit.proofs.FirstOnes.{has}
 use Rattle.omi_audit.proofs.Passes.{word_in, lives_at}
+use Rattle.omi_audit.specs.Clauses.{led_to}
 
 module _ (w : List ℕ) (words : Words) where
   -- ---- what is named
@@ -52,6 +56,11 @@ module _ (w : List ℕ) (words : Words) where
   abbrev pub member_at : ℕ → Tid × ℕ
   member_at address =
       (record { 0 = id_or tasks address }, thread_of (word_in w words address TaskThread 0))
+
+  -- the group that a word stands for: one of the live task to whose record it leads
+  abbrev pub group_named : ℕ → Option Group
+  group_named word =
+      option_map (λ (n : Id). record { owner = record { 0 = n }; index = word % OPEN_GROUPS }) (live_at w words tasks (led_to TaskSlots word))
 
   -- ---- objects, by the addresses of their records
 
@@ -95,6 +104,8 @@ module _ (w : List ℕ) (words : Words) where
         tool = word_in w words a TaskTool 0;
         progress = Begun;
         place = 0;
+        group = cond (version w == GROUP_VERSION) (group_named (word_in w words a TaskSlots GROUP_PLACE)) None;
+        open_groups = cond (version w == GROUP_VERSION) (word_in w words a TaskSlots OPEN_PLACE) 0;
         frees = None;
         list = [];
       }

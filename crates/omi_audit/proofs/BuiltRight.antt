@@ -1,5 +1,5 @@
 -- Where no clause fails, the state that the words of the reached records show is well-formed: all that a reached record names is reached.
-use Rattle.std.proofs.Common.{◌≡◌, ◌⊎◌, inl, inr, ℕ, zero, suc, ◌<◌, ◌≤◌, ◌&&◌, Bool, true, false, cond, List, [], ◌∷◌, ◌++◌, map, Option, Some, None, refl, sym, ap, subst, ◌∙◌, arith, eqb-true}
+use Rattle.std.proofs.Common.{◌≡◌, ◌⊎◌, inl, inr, ℕ, zero, suc, ◌<◌, ◌≤◌, ◌&&◌, Bool, true, false, cond, List, [], ◌∷◌, ◌++◌, map, Option, Some, None, refl, sym, ap, subst, ◌∙◌, arith, eqb-true, ◌+◌, ◌%◌, length}
 use Rattle.std.specs.Prelude.{◌==◌, nat_le, slice_get, is_some, IsSome, All, Contains, MatchBool}
 use Rattle.std.specs.Option.{option_map, option_map_or, option_and_then}
 use Rattle.std.specs.List.{range_with_len}
@@ -10,14 +10,16 @@ use Rattle.omi_numbers.specs.declared.schedules.TheConstants.{STATIC, AUTO}
 use Rattle.omi_numbers.specs.declared.states.TheConstants.{IDLE}
 use Rattle.omi_numbers.specs.States.{state_numbers}
 use Rattle.omi_numbers.specs.Words.{state_of}
+use Rattle.omi_numbers.specs.declared.limits.TheConstants.{OPEN_GROUPS}
 use Rattle.omi_script.specs.Schedules.{kind_in}
 use Rattle.omi_layout.specs.declared.field.Field.{Field}
-use Rattle.omi_layout.specs.declared.field.Field.TheVariants.{ThreadLife, ThreadNative, ThreadCurrent, ThreadState, RegionEnclosing, RegionEncountering, RegionSize, RegionTeam, TaskRegion, TaskThread, TaskGenerating, TaskScheduling, TaskNthreadsLength, TaskSchedule, TaskNthreads}
+use Rattle.omi_layout.specs.declared.field.Field.TheVariants.{ThreadLife, ThreadNative, ThreadCurrent, ThreadState, RegionEnclosing, RegionEncountering, RegionSize, RegionTeam, TaskRegion, TaskThread, TaskGenerating, TaskScheduling, TaskNthreadsLength, TaskSchedule, TaskNthreads, TaskSlots}
 use Rattle.omi_layout.specs.Field.{threads, regions, tasks}
 use Rattle.omi_layout.specs.Place.{slot_address}
-use Rattle.omi_layout.specs.Table.{thread_count}
+use Rattle.omi_layout.specs.Table.{thread_count, version}
 use Rattle.omi_layout.specs.Valid.{IsValid}
 use Rattle.omi_layout.proofs.Arenas.{test_left, test_right}
+use Rattle.omi_layout.specs.declared.limits.TheConstants.{GROUP_PLACE, GROUP_VERSION}
 use Rattle.omi_model.specs.declared.id.Id.{Id}
 use Rattle.omi_model.specs.declared.id.Rid.{Rid}
 use Rattle.omi_model.specs.declared.id.Tid.{Tid}
@@ -26,22 +28,23 @@ use Rattle.omi_model.specs.declared.progress.Progress.TheVariants.{Begun}
 use Rattle.omi_model.specs.State.{State, region_of, task_of, scheduling_of, enclosing_of}
 use Rattle.omi_model.specs.Visible.{IsVisibleRegion, IsVisibleTask, HasStarted}
 use Rattle.omi_model.specs.WellFormed.{IsWellFormed, IsRegionRight, IsTaskRight, IsMember, HasBegun, along}
+use Rattle.omi_model.specs.declared.group.Group.{Group}
 use Rattle.omi_word.specs.Words.{Words}
 use Rattle.omi_rep.specs.Look.{slot_at, live_at, was_met}
 use Rattle.omi_rep.specs.Records.{thread_address}
-use Rattle.omi_audit.specs.Clauses.{leads_to}
-use Rattle.omi_audit.specs.Search.{Place, word_at, is_region, places_of, runtime_places, thread_places, region_places, task_places, record_places, named_at, reached}
+use Rattle.omi_audit.specs.Clauses.{leads_to, led_to}
+use Rattle.omi_audit.specs.Search.{Place, word_at, is_region, places_of, runtime_places, thread_places, region_places, value_places, task_places, record_places, named_at, reached}
 use Rattle.omi_audit.specs.Verdicts.{next_in_chain, refused_chain, refusals}
-use Rattle.omi_audit.specs.Judged.{place_at, EndsIn, refused_thread, refused_record}
-use Rattle.omi_audit.proofs.Built.{built, rid_at, tid_at, id_or, thread_of, member_at, region_in, task_in, thread_in, lives_here, IsBuilt, built_only}
-use Rattle.omi_audit.proofs.Chained.{each_clear, named_there}
+use Rattle.omi_audit.specs.Judged.{place_at, named_of, EndsIn, refused_thread, refused_record}
+use Rattle.omi_audit.proofs.Built.{built, group_named, rid_at, tid_at, id_or, thread_of, member_at, region_in, task_in, thread_in, lives_here, IsBuilt, built_only}
+use Rattle.omi_audit.proofs.Chained.{chain_led, each_clear, named_there}
 use Rattle.omi_audit.proofs.ChainsEnd.{chain_ends, met_has}
 use Rattle.omi_audit.proofs.FirstOnes.{has, or_cases}
 use Rattle.omi_audit.proofs.JudgedAll.{of_runtime, of_threads, of_records, of_chains}
 use Rattle.omi_audit.proofs.JudgedRecords.{range_at}
 use Rattle.omi_audit.proofs.LivesThere.{apart_some}
 use Rattle.omi_audit.proofs.NamedWords.{named_live}
-use Rattle.omi_audit.proofs.Passes.{word_in, Passes, pass_each, points, reached_by, reached_from, lives_at, region_member, member_place}
+use Rattle.omi_audit.proofs.Passes.{word_in, Passes, pass_each, points, reached_by, reached_from, lives_at, region_member, member_place, task_group}
 use Rattle.omi_audit.proofs.Reaches.{some_first, has_contains}
 
 -- ---- lists
@@ -129,8 +132,8 @@ module _ (w : List ℕ) (words : Words) (valid : IsValid w) (clear : IsClear w w
 
     -- what a region names is reached
     pub region_names : (k kind : ℕ) (f : Field) (at : ℕ) → slice_get (region_places w words a) k ≡ Some (place_at a f at)
-        → leads_to f ≡ Some kind → (kind == threads) ≡ false → is_some (live_at w words kind (word_in w words a f at)) ≡ true
-        → has (reached w words) (word_in w words a f at) ≡ true
+        → leads_to f at ≡ Some kind → (kind == threads) ≡ false → is_some (live_at w words kind (led_to f (word_in w words a f at))) ≡ true
+        → has (reached w words) (led_to f (word_in w words a f at)) ≡ true
     region_names k kind f at is leads other live =
         reached_by w words a k (place_at a f at) kind (word_in w words a f at) among (in_region k (place_at a f at) is) leads other
         (region_passes k (place_at a f at) is).mapped live
@@ -157,11 +160,21 @@ module _ (w : List ℕ) (words : Words) (valid : IsValid w) (clear : IsClear w w
     task_passes k p is = record_passes a k p among (in_task k p is)
 
     pub task_names : (k kind : ℕ) (f : Field) → slice_get (task_places w words a) k ≡ Some (place_at a f 0)
-        → leads_to f ≡ Some kind → (kind == threads) ≡ false → is_some (live_at w words kind (word_in w words a f 0)) ≡ true
-        → has (reached w words) (word_in w words a f 0) ≡ true
+        → leads_to f 0 ≡ Some kind → (kind == threads) ≡ false → is_some (live_at w words kind (led_to f (word_in w words a f 0))) ≡ true
+        → has (reached w words) (led_to f (word_in w words a f 0)) ≡ true
     task_names k kind f is leads other live =
         reached_by w words a k (place_at a f 0) kind (word_in w words a f 0) among (in_task k (place_at a f 0) is) leads other
         (task_passes k (place_at a f 0) is).mapped live
+
+    -- and the owner of its group is
+    pub owner_reached : version w == GROUP_VERSION ≡ true
+        → is_some (live_at w words tasks (led_to TaskSlots (word_in w words a TaskSlots GROUP_PLACE))) ≡ true
+        → has (reached w words) (led_to TaskSlots (word_in w words a TaskSlots GROUP_PLACE)) ≡ true
+    owner_reached known live =
+        let p = place_at a TaskSlots GROUP_PLACE in
+        let k = length (value_places w words a) + 0 in
+        let there = task_group w words a 0 p known refl in
+        reached_by w words a k p tasks (word_in w words a TaskSlots GROUP_PLACE) among (in_task k p there) refl refl (task_passes k p there).mapped live
 
     -- its region and its thread live
     pub region_lives_of : is_some (live_at w words regions (word_in w words a TaskRegion 0)) ≡ true
@@ -278,12 +291,13 @@ module _ (w : List ℕ) (words : Words) (valid : IsValid w) (clear : IsClear w w
   -- ---- chains
 
   -- the next record of a chain is the one that its field leads to
-  next_is : (a kind v : ℕ) (b : Bool) → is_region w words a ≡ b → leads_to (cond b RegionEnclosing TaskScheduling) ≡ Some kind
+  next_is : (a kind v : ℕ) (b : Bool) → is_region w words a ≡ b → leads_to (cond b RegionEnclosing TaskScheduling) 0 ≡ Some kind
       → (kind == threads) ≡ false → word_at w words (place_at a (cond b RegionEnclosing TaskScheduling) 0) ≡ Some v
       → is_some (live_at w words kind v) ≡ true → next_in_chain w words a ≡ Some v
   next_is a kind v b region leads other word live =
       ap (λ c. slice_get (named_at w words (place_at a (cond c RegionEnclosing TaskScheduling) 0)) 0) region
-      ∙ ap (λ l. slice_get l 0) (named_there w words (place_at a (cond b RegionEnclosing TaskScheduling) 0) kind v leads word ∙ named_live w words kind v other live)
+      ∙ ap (λ l. slice_get l 0) (named_there w words (place_at a (cond b RegionEnclosing TaskScheduling) 0) kind v leads word
+      ∙ ap (named_of w words kind) (chain_led w words b v) ∙ named_live w words kind v other live)
 
   along_none : {A : Type 0} (next : A → Option A) (d : ℕ) → along next d None ≡ None
   along_none next zero = refl
@@ -405,6 +419,7 @@ module _ (w : List ℕ) (words : Words) (valid : IsValid w) (clear : IsClear w w
         region = region_visible v (id_or w words regions v) (task_names a among other 1 regions TaskRegion refl refl refl region) (some_id w words regions v region);
         generating = λ m is. names_task (word_in w words a TaskGenerating 0) m is (task_names a among other 4 tasks TaskGenerating refl refl refl);
         scheduling = λ m is. names_task (word_in w words a TaskScheduling 0) m is (task_names a among other 5 tasks TaskScheduling refl refl refl);
+        owner = λ g is. owner_visible g (version w == GROUP_VERSION) refl is;
         begun = (thread_named (word_in w words a TaskThread 0) (thread_lives_of a among other)).begun;
         ends = (let chain = chain_clear a among in (chain.0, along_ends (scheduling_of s) (λ b. (task_in w words b).scheduling) IsTask task_step chain.0 a (among, other) chain.1));
         variables = record {
@@ -414,6 +429,20 @@ module _ (w : List ℕ) (words : Words) (valid : IsValid w) (clear : IsClear w w
           kind_to = grind (arith, nat_tests, test_right (nat_le STATIC kind) (nat_le kind AUTO) between);
         };
       }
+    where
+      named_owner : (g : Group) (index : ℕ) (o : Option Id)
+          → option_map (λ (m : Id). record { owner = record { 0 = m }; index = index }) o ≡ Some g → o ≡ Some g.owner.0
+      named_owner g index None is = absurd (cc)
+      named_owner g index (Some m) is =
+          let same : record { owner = record { 0 = m }; index = index } ≡ g = cc in ap (λ (h : Group). Some h.owner.0) same
+
+      owner_visible : (g : Group) (b : Bool) → version w == GROUP_VERSION ≡ b
+          → cond b (group_named w words (word_in w words a TaskSlots GROUP_PLACE)) None ≡ Some g → IsVisibleTask s g.owner
+      owner_visible g false e is = absurd (cc)
+      owner_visible g true e is =
+          let v = led_to TaskSlots (word_in w words a TaskSlots GROUP_PLACE) in
+          let live_there = named_owner g (word_in w words a TaskSlots GROUP_PLACE % OPEN_GROUPS) (live_at w words tasks v) is in
+          task_visible v g.owner.0 (owner_reached a among (is_of_task a n live) e (is_some_of (live_at w words tasks v) g.owner.0 live_there)) live_there
 
   -- ---- threads
 

@@ -1,5 +1,5 @@
 -- Where no clause fails, the words show the state that is built of them: each word that is shown is the code of what is built.
-use Rattle.std.proofs.Common.{◌≡◌, ◌⊎◌, inl, inr, ℕ, zero, suc, ◌+◌, ◌*◌, ◌/◌, ◌%◌, ◌^◌, ◌<◌, ◌≤◌, ◌&&◌, true, cond, List, map, Option, Some, None, refl, sym, ap, subst, ◌∙◌, arith, eqb-true, eq-eqb}
+use Rattle.std.proofs.Common.{◌≡◌, ◌⊎◌, inl, inr, ℕ, zero, suc, ◌+◌, ◌*◌, ◌/◌, ◌%◌, ◌^◌, ◌<◌, ◌≤◌, ◌&&◌, true, cond, List, map, Option, Some, None, refl, sym, ap, subst, ◌∙◌, arith, eqb-true, eq-eqb, ltb-true, ◌-◌, Bool, false, [], ◌∷◌, length}
 use Rattle.std.specs.Prelude.{◌==◌, nat_lt, slice_get, is_some}
 use Rattle.std.specs.Option.{option_map}
 use Rattle.std.specs.List.{range_with_len}
@@ -12,34 +12,37 @@ use Rattle.omi_numbers.specs.declared.lives.TheConstants.{LIFE_END}
 use Rattle.omi_numbers.specs.declared.states.TheConstants.{IDLE}
 use Rattle.omi_numbers.specs.Addresses.{entry_address, function_at}
 use Rattle.omi_numbers.specs.Words.{flag, native_id, state_of, wait_of, state_word}
+use Rattle.omi_numbers.specs.declared.limits.TheConstants.{OPEN_GROUPS, OWN_SLOTS}
 use Rattle.omi_layout.specs.declared.field.Field.{Field}
-use Rattle.omi_layout.specs.declared.field.Field.TheVariants.{RuntimeVersion, RuntimeThreads, RuntimeProcs, RuntimeDebug, RuntimeMaxActive, ThreadLife, ThreadNative, ThreadCurrent, ThreadState, RegionLife, RegionFunction, RegionEnclosing, RegionEncountering, RegionSize, RegionLevels, RegionActive, RegionTeam, TaskLife, TaskImplicit, TaskRegion, TaskThread, TaskNumber, TaskGenerating, TaskScheduling, TaskFunction, TaskExit, TaskEnter, TaskDynamic, TaskNthreadsLength, TaskSchedule, TaskDevice, TaskFinal, TaskTool, TaskNthreads}
+use Rattle.omi_layout.specs.declared.field.Field.TheVariants.{RuntimeVersion, RuntimeThreads, RuntimeProcs, RuntimeDebug, RuntimeMaxActive, ThreadLife, ThreadNative, ThreadCurrent, ThreadState, RegionLife, RegionFunction, RegionEnclosing, RegionEncountering, RegionSize, RegionLevels, RegionActive, RegionTeam, TaskLife, TaskImplicit, TaskRegion, TaskThread, TaskNumber, TaskGenerating, TaskScheduling, TaskFunction, TaskExit, TaskEnter, TaskDynamic, TaskNthreadsLength, TaskSchedule, TaskDevice, TaskFinal, TaskTool, TaskNthreads, TaskSlots}
 use Rattle.omi_layout.specs.Field.{regions, tasks, IsKind}
 use Rattle.omi_layout.specs.Given.{GivesLayout}
 use Rattle.omi_layout.specs.Place.{slot_address}
-use Rattle.omi_layout.specs.Table.{thread_count, makers}
+use Rattle.omi_layout.specs.Table.{thread_count, makers, version}
 use Rattle.omi_layout.specs.Valid.{IsValid}
 use Rattle.omi_layout.proofs.Arenas.{test_left, test_right}
 use Rattle.omi_layout.proofs.Frame.{kind_3, kind_4}
+use Rattle.omi_layout.specs.declared.limits.TheConstants.{GROUP_PLACE, GROUP_VERSION, GROUP_WORDS, OPEN_PLACE}
 use Rattle.omi_model.specs.declared.id.Id.{Id}
 use Rattle.omi_model.specs.declared.id.Tid.{Tid}
 use Rattle.omi_model.specs.declared.slot.Slot.{Slot}
 use Rattle.omi_model.specs.Put.{found}
 use Rattle.omi_model.specs.State.{State}
+use Rattle.omi_model.specs.declared.task.Task.{Task}
 use Rattle.omi_word.specs.Words.{Words}
-use Rattle.omi_rep.specs.Codes.{single, runtime_code, runtime_told, thread_code, thread_told, region_code, region_told, task_code, task_told, shown, shown_unbegun}
+use Rattle.omi_rep.specs.Codes.{single, group_code, runtime_code, runtime_told, thread_code, thread_told, region_code, region_told, task_code, task_told, shown, shown_unbegun}
 use Rattle.omi_rep.specs.Look.{slot_at, live_at}
-use Rattle.omi_rep.specs.Records.{Seen, record_at, runtime_address, thread_address, region_word, task_word, task_address}
+use Rattle.omi_rep.specs.Records.{Seen, record_at, runtime_address, thread_address, region_word, task_word, task_address, group_word}
 use Rattle.omi_rep.specs.Shows.{Stands, CodesStand, ShowsSlot, AreWithin, LiveAreNamed}
-use Rattle.omi_audit.specs.Search.{Place, region_places, task_places, reached}
+use Rattle.omi_audit.specs.Search.{Place, word_at, region_places, value_places, task_places, reached}
 use Rattle.omi_audit.specs.Judged.{place_at}
 use Rattle.omi_audit.specs.Promise.{ShowSome}
-use Rattle.omi_audit.specs.Clauses.{is_flag, is_entry, leads_to}
-use Rattle.omi_audit.proofs.Built.{built, rid_at, tid_at, id_or, member_at, region_in, task_in, thread_in, slots_by, built_only, slot_kinds}
+use Rattle.omi_audit.specs.Clauses.{is_flag, is_entry, leads_to, led_to}
+use Rattle.omi_audit.proofs.Built.{built, group_named, rid_at, tid_at, id_or, member_at, region_in, task_in, thread_in, slots_by, built_only, slot_kinds}
 use Rattle.omi_audit.proofs.BuiltRight.{IsClear, some_id, runtime_passes, thread_passes, region_passes, task_passes, current_passes, state_passes, member_lives, region_lives_of, thread_lives_of, thread_named, is_of_region, is_of_task, region_built, task_built, built_well_formed}
 use Rattle.omi_audit.proofs.Chained.{none_at}
 use Rattle.omi_audit.proofs.FirstOnes.{has}
-use Rattle.omi_audit.proofs.Passes.{word_in, Passes, points, lives_at, region_member, task_element, member_place, element_place}
+use Rattle.omi_audit.proofs.Passes.{word_in, Passes, points, lives_at, region_member, task_element, member_place, element_place, task_group}
 use Rattle.omi_audit.proofs.Reaches.{some_first}
 
 -- ---- values and their words
@@ -102,9 +105,19 @@ module _ (w : List ℕ) (words : Words) (valid : IsValid w) (clear : IsClear w w
       let is = some_id w words tasks v live in
       ap (λ o. task_word w (option_map (λ (n : Id). record { 0 = n }) o)) is ∙ id_address tasks v (id_or w words tasks v) is
 
+  group_pointer : (v : ℕ) → (v ≡ 0) ⊎ (is_some (live_at w words tasks (led_to TaskSlots v)) ≡ true) → group_word w (group_named w words v) ≡ v
+  group_pointer v (inl none) =
+      ap (λ o. group_word w (option_map (λ (n : Id). record { owner = record { 0 = n }; index = v % OPEN_GROUPS }) o))
+      (none_live tasks (led_to TaskSlots v) kind_4 (let zero_at : v - v % OPEN_GROUPS ≡ 0 = omega (arith, none) in zero_at) (live_at w words tasks (led_to TaskSlots v)) refl) ∙ sym none
+  group_pointer v (inr live) =
+      let is = some_id w words tasks (led_to TaskSlots v) live in
+      ap (λ o. group_word w (option_map (λ (n : Id). record { owner = record { 0 = n }; index = v % OPEN_GROUPS }) o)) is
+      ∙ ap (λ x. x + v % OPEN_GROUPS) (id_address tasks (led_to TaskSlots v) (id_or w words tasks (led_to TaskSlots v)) is)
+      ∙ (let whole : v - v % OPEN_GROUPS + v % OPEN_GROUPS ≡ v = omega arith in whole)
+
   -- a pointer that may be 0
-  led : (i : ℕ) (p : Place) (kind : ℕ) → leads_to p.field ≡ Some kind → Passes w words i p
-      → (word_in w words p.address p.field p.at ≡ 0) ⊎ (is_some (live_at w words kind (word_in w words p.address p.field p.at)) ≡ true)
+  led : (i : ℕ) (p : Place) (kind : ℕ) → leads_to p.field p.at ≡ Some kind → Passes w words i p
+      → (word_in w words p.address p.field p.at ≡ 0) ⊎ (is_some (live_at w words kind (led_to p.field (word_in w words p.address p.field p.at))) ≡ true)
   led i p kind leads pass = elim (points w words i p kind leads pass) [
     | inl none ↦ inl none.1
     | inr live ↦ inr live
@@ -249,6 +262,59 @@ module _ (w : List ℕ) (words : Words) (valid : IsValid w) (clear : IsClear w w
     task_shown TaskNthreads at word kept is =
         let made = made_at (word_in w words a TaskNthreads) (word_in w words a TaskNthreadsLength 0) at word is in
         (task_pass (element_place at) (place_at a TaskNthreads at) (task_element w words a at made.0)).mapped ∙ ap (λ (x : ℕ). Some x) made.1
+    task_shown TaskSlots at word kept is = slots (version w == GROUP_VERSION) refl is
+      where
+        -- one of the words for groups
+        group_pass : (k : ℕ) (p : Place) → version w == GROUP_VERSION ≡ true
+            → slice_get (place_at a TaskSlots GROUP_PLACE ∷ place_at a TaskSlots OPEN_PLACE ∷ []) k ≡ Some p → Passes w words 0 p
+        group_pass k p known there = task_pass (length (value_places w words a) + k) p (task_group w words a k p known there)
+
+        first : version w == GROUP_VERSION ≡ true
+            → word_at w words (place_at a TaskSlots GROUP_PLACE) ≡ Some (group_word w (task_in w words a).group)
+        first known =
+            let pass = group_pass 0 (place_at a TaskSlots GROUP_PLACE) known refl in
+            let v = word_in w words a TaskSlots GROUP_PLACE in
+            let same : group_word w (task_in w words a).group ≡ v =
+            ap (λ c. group_word w (cond c (group_named w words v) None)) known ∙ group_pointer v (led 0 (place_at a TaskSlots GROUP_PLACE) tasks refl pass) in
+            pass.mapped ∙ ap (λ (x : ℕ). Some x) (sym same)
+
+        second : version w == GROUP_VERSION ≡ true
+            → word_at w words (place_at a TaskSlots OPEN_PLACE) ≡ Some (task_in w words a).open_groups
+        second known =
+            (group_pass 1 (place_at a TaskSlots OPEN_PLACE) known refl).mapped
+            ∙ ap (λ (c : Bool). Some (cond c (word_in w words a TaskSlots OPEN_PLACE) 0)) (sym known)
+
+        codes : version w == GROUP_VERSION ≡ true → (g o : Bool) → at == GROUP_PLACE ≡ g → at == OPEN_PLACE ≡ o
+            → cond g (Some (group_word w (task_in w words a).group)) (cond o (Some (task_in w words a).open_groups) None) ≡ Some word
+            → Stands (record_at w words a) TaskSlots at word
+        codes known true o e f some =
+            ap (λ n. word_at w words (place_at a TaskSlots n)) (eqb-true at GROUP_PLACE e) ∙ first known ∙ some
+        codes known false true e f some =
+            ap (λ n. word_at w words (place_at a TaskSlots n)) (eqb-true at OPEN_PLACE f) ∙ second known ∙ some
+        codes known false false e f some = absurd (cc)
+
+        inside : version w == GROUP_VERSION ≡ true → (b : Bool)
+            → cond b (group_code w (task_told (task_in w words a)) at) None ≡ Some word → Stands (record_at w words a) TaskSlots at word
+        inside known true some = codes known (at == GROUP_PLACE) (at == OPEN_PLACE) refl refl some
+        inside known false some = absurd (cc)
+
+        -- in front of these stand no codes
+        no_code : (g o : Bool) → at == GROUP_PLACE ≡ g → at == OPEN_PLACE ≡ o → at < OWN_SLOTS
+            → cond g (Some (group_word w (task_in w words a).group)) (cond o (Some (task_in w words a).open_groups) None) ≡ Some word → ⊥
+        no_code true o e f low some = let same = eqb-true at GROUP_PLACE e in omega (arith, same, low)
+        no_code false true e f low some = let same = eqb-true at OPEN_PLACE f in omega (arith, same, low)
+        no_code false false e f low some = cc
+
+        outside : (b : Bool) → nat_lt at OWN_SLOTS ≡ b
+            → cond b (group_code w (task_told (task_in w words a)) at) None ≡ Some word → ⊥
+        outside true e some = no_code (at == GROUP_PLACE) (at == OPEN_PLACE) refl refl (ltb-true at OWN_SLOTS e) some
+        outside false e some = cc
+
+        slots : (v : Bool) → version w == GROUP_VERSION ≡ v
+            → cond (nat_lt at (cond v (OWN_SLOTS + GROUP_WORDS) OWN_SLOTS)) (group_code w (task_told (task_in w words a)) at) None ≡ Some word
+            → Stands (record_at w words a) TaskSlots at word
+        slots true known some = inside known (nat_lt at (OWN_SLOTS + GROUP_WORDS)) some
+        slots false known some = absurd (outside (nat_lt at OWN_SLOTS) refl some)
     task_shown _ at word kept is = absurd (cc)
 
   -- ---- slots
@@ -327,6 +393,14 @@ module _ (w : List ℕ) (words : Words) (valid : IsValid w) (clear : IsClear w w
         regions_named = slot_named regions (region_in w words);
         tasks_named = slot_named tasks (task_in w words);
       };
+      groups = λ first k t live.
+          let b = built_only w words tasks (task_in w words) k.0.creator k.0.slot k.0.generation t live in
+          let a = slot_address w tasks k.0.creator k.0.slot in
+          let none : version w == GROUP_VERSION ≡ false = ap (λ v. v == GROUP_VERSION) first in
+          record {
+            member = ap (λ (u : Task). u.group) (sym b.is) ∙ ap (λ c. cond c (group_named w words (word_in w words a TaskSlots GROUP_PLACE)) None) none;
+            open_groups = ap (λ (u : Task). u.open_groups) (sym b.is) ∙ ap (λ c. cond c (word_in w words a TaskSlots OPEN_PLACE) 0) none;
+          };
       records = record {
         globals = globals;
         lives = λ i known. thread_unbegun i known;

@@ -12,7 +12,7 @@ use Rattle.omi_layout.proofs.Arenas.{test_right}
 use Rattle.omi_layout.proofs.Frame.{kind_3, kind_4, none_is_null}
 use Rattle.omi_rep.specs.Look.{slot_at, live_at}
 use Rattle.omi_rep.proofs.Slots.{slot_is}
-use Rattle.omi_audit.specs.Clauses.{leads_to, may_be_none, clause_4, failing}
+use Rattle.omi_audit.specs.Clauses.{leads_to, led_to, may_be_none, clause_4, failing, pointer_clause}
 use Rattle.omi_audit.specs.Search.{Place, word_at, is_region, region_places, task_places, record_places, named_at, named_by, current_tasks, reached}
 use Rattle.omi_audit.specs.Verdicts.{refused_at, failing_at, chain_field, next_in_chain}
 use Rattle.omi_audit.specs.Judged.{place_at, lives, named_of, link_of, refused_record, AreClear}
@@ -103,9 +103,13 @@ module _ (w : List ℕ) (words : Words) where
   abbrev pub chain_kind : ℕ → ℕ
   chain_kind a = cond (is_region w words a) regions tasks
 
-  chain_leads : (b : Bool) → leads_to (cond b RegionEnclosing TaskScheduling) ≡ Some (cond b regions tasks)
+  chain_leads : (b : Bool) → leads_to (cond b RegionEnclosing TaskScheduling) 0 ≡ Some (cond b regions tasks)
   chain_leads true = refl
   chain_leads false = refl
+
+  pub chain_led : (b : Bool) (v : ℕ) → led_to (cond b RegionEnclosing TaskScheduling) v ≡ v
+  chain_led true v = refl
+  chain_led false v = refl
 
   chain_may : (b : Bool) → may_be_none (cond b RegionEnclosing TaskScheduling) ≡ true
   chain_may true = refl
@@ -124,15 +128,17 @@ module _ (w : List ℕ) (words : Words) where
       go false = (5, refl)
 
   -- what a word that points to a record names
-  pub named_there : (p : Place) (kind v : ℕ) → leads_to p.field ≡ Some kind → word_at w words p ≡ Some v
-      → named_at w words p ≡ named_of w words kind v
+  pub named_there : (p : Place) (kind v : ℕ) → leads_to p.field p.at ≡ Some kind → word_at w words p ≡ Some v
+      → named_at w words p ≡ named_of w words kind (led_to p.field v)
   named_there p kind v leads word =
-      ap (λ o. option_map_or (λ one. cond (one == threads) [] (filter (λ x. is_some (live_at w words one x)) (option_map_or (λ x. x ∷ []) (word_at w words p) []))) o []) leads
-      ∙ ap (λ o. cond (kind == threads) [] (filter (λ x. is_some (live_at w words kind x)) (option_map_or (λ x. x ∷ []) o []))) word
+      ap (λ o. option_map_or (λ one. cond (one == threads) [] (filter (λ x. is_some (live_at w words one x)) (option_map_or (λ x. led_to p.field x ∷ []) (word_at w words p) []))) o []) leads
+      ∙ ap (λ o. cond (kind == threads) [] (filter (λ x. is_some (live_at w words kind x)) (option_map_or (λ x. led_to p.field x ∷ []) o []))) word
 
   link_names : (a v : ℕ) → word_at w words (link_place a) ≡ Some v
       → named_at w words (link_place a) ≡ named_of w words (chain_kind a) v
-  link_names a v word = named_there (link_place a) (chain_kind a) v (chain_leads (is_region w words a)) word
+  link_names a v word =
+      named_there (link_place a) (chain_kind a) v (chain_leads (is_region w words a)) word
+      ∙ ap (named_of w words (chain_kind a)) (chain_led (is_region w words a) v)
 
   -- where no clause fails there
   link_right : (a v : ℕ) → word_at w words (link_place a) ≡ Some v → refused_at w words 0 (link_place a) ≡ []
@@ -140,17 +146,17 @@ module _ (w : List ℕ) (words : Words) where
   link_right a v word none =
       let f = chain_field w words a in
       let leads = chain_leads (is_region w words a) in
-      let all : failing w words 0 f v ≡ [] =
-      ap (λ o. option_map_or (failing w words 0 f) o (1 ∷ [])) (sym word) ∙ map_none _ (failing_at w words 0 (link_place a)) none in
-      let holds = passes (clause_4 w words f v) (sym (pointer_fails w words 0 f (chain_kind a) v leads) ∙ all) in
-      elim (or_cases (may_be_none f && v == 0) (is_some (live_at w words (chain_kind a) v)) (sym (clause_of w words 0 f (chain_kind a) v leads) ∙ holds)) [
+      let all : failing w words 0 f 0 v ≡ [] =
+      ap (λ o. option_map_or (failing w words 0 f 0) o (1 ∷ [])) (sym word) ∙ map_none _ (failing_at w words 0 (link_place a)) none in
+      let holds = passes (pointer_clause f) (clause_4 w words f 0 v) (sym (pointer_fails w words 0 f 0 (chain_kind a) v leads) ∙ all) in
+      elim (or_cases (may_be_none f && v == 0) (is_some (live_at w words (chain_kind a) (led_to f v))) (sym (clause_of w words 0 f 0 (chain_kind a) v leads) ∙ holds)) [
         | inl none ↦ inl (eqb-true v 0 (test_right (may_be_none f) (v == 0) none))
-        | inr live ↦ inr live
+        | inr live ↦ inr (ap (λ x. is_some (live_at w words (chain_kind a) x)) (sym (chain_led (is_region w words a) v)) ∙ live)
       ]
     where
-      passes : (b : Bool) → cond {A = List ℕ} b [] (4 ∷ []) ≡ [] → b ≡ true
-      passes true e = refl
-      passes false e = absurd (cc)
+      passes : (n : ℕ) (b : Bool) → cond {A = List ℕ} b [] (n ∷ []) ≡ [] → b ≡ true
+      passes n true e = refl
+      passes n false e = absurd (cc)
 
   link_mapped : (a : ℕ) → refused_at w words 0 (link_place a) ≡ [] → (v : ℕ) × (word_at w words (link_place a) ≡ Some v)
   link_mapped a none = go (word_at w words (link_place a)) refl
@@ -159,7 +165,7 @@ module _ (w : List ℕ) (words : Words) where
       go (Some v) e = (v, e)
       go None e =
           let all = map_none _ (failing_at w words 0 (link_place a)) none in
-          absurd (let failed : 1 ∷ [] ≡ [] = ap (λ o. option_map_or (failing w words 0 (chain_field w words a)) o (1 ∷ [])) (sym e) ∙ all in cc)
+          absurd (let failed : 1 ∷ [] ≡ [] = ap (λ o. option_map_or (failing w words 0 (chain_field w words a) 0) o (1 ∷ [])) (sym e) ∙ all in cc)
 
   -- the next record of a chain lives, as one of the same kind
   pub next_lives : (a x : ℕ) → next_in_chain w words a ≡ Some x → is_some (live_at w words (chain_kind a) x) ≡ true
@@ -179,9 +185,9 @@ module _ (w : List ℕ) (words : Words) where
       go : (o : Option ℕ) → word_at w words (link_place a) ≡ o → is_some (live_at w words (chain_kind a) x) ≡ true
       go None e =
           absurd (let none : slice_get (cond (chain_kind a == threads) [] []) 0 ≡ Some x =
-          ap (λ o. slice_get (cond (chain_kind a == threads) [] (filter (λ one. is_some (live_at w words (chain_kind a) one)) (option_map_or (λ one. one ∷ []) o []))) 0) (sym e)
+          ap (λ o. slice_get (cond (chain_kind a == threads) [] (filter (λ one. is_some (live_at w words (chain_kind a) one)) (option_map_or (λ one. led_to (chain_field w words a) one ∷ []) o []))) 0) (sym e)
           ∙ ap (λ o. slice_get (option_map_or
-          (λ kind. cond (kind == threads) [] (filter (λ one. is_some (live_at w words kind one)) (option_map_or (λ one. one ∷ []) (word_at w words (link_place a)) []))) o []) 0)
+          (λ kind. cond (kind == threads) [] (filter (λ one. is_some (live_at w words kind one)) (option_map_or (λ one. led_to (chain_field w words a) one ∷ []) (word_at w words (link_place a)) []))) o []) 0)
           (sym (chain_leads (is_region w words a)))
           ∙ is in never (chain_kind a == threads) none)
         where

@@ -12,7 +12,7 @@ use Rattle.omi_script.specs.declared.program.Program.{Program}
 use Rattle.omi_script.specs.declared.statement.Stmt.{Stmt}
 use Rattle.omi_script.specs.declared.statement.Stmt.TheVariants as stmt
 use Rattle.omi_numbers.specs.Holders.{lock_wait}
-use Rattle.omi_numbers.specs.declared.states.TheConstants.{IDLE, OVERHEAD, WAIT_BARRIER_EXPLICIT, WAIT_BARRIER_IMPLICIT_PARALLEL, WAIT_CRITICAL, WAIT_TASKWAIT}
+use Rattle.omi_numbers.specs.declared.states.TheConstants.{IDLE, OVERHEAD, WAIT_BARRIER_EXPLICIT, WAIT_BARRIER_IMPLICIT_PARALLEL, WAIT_CRITICAL, WAIT_TASKGROUP, WAIT_TASKWAIT}
 use Rattle.omi_numbers.specs.declared.variables.TheConstants.{DYN_VAR, DEFAULT_DEVICE_VAR, MAX_ACTIVE_LEVELS_VAR, NTHREADS_VAR, RUN_SCHED_VAR}
 use Rattle.omi_model.specs.declared.encounter.Encounter.{Encounter}
 use Rattle.omi_model.specs.declared.event.Event.{Event}
@@ -24,7 +24,7 @@ use Rattle.omi_model.specs.declared.shape.Shape.{Shape}
 use Rattle.omi_model.specs.declared.shape.Shape.TheVariants as shape
 use Rattle.omi_model.specs.Changes.{in_front}
 use Rattle.omi_model.specs.Lists.{stays, take_item}
-use Rattle.omi_model.specs.Rows.{barrier_items, body_items, call_items, end_of_member, last_of_member, main_items, member_items, task_items, worker_items, shown, work_state, working, first_item, items_behind}
+use Rattle.omi_model.specs.Rows.{barrier_items, body_items, call_items, end_of_group, end_of_member, last_of_member, main_items, member_items, task_items, worker_items, shown, work_state, working, first_item, items_behind}
 use Rattle.omi_model.specs.Shapes.{shape_of}
 use Rattle.omi_model.proofs.ListLaws.{take_keeps}
 
@@ -62,6 +62,7 @@ module _ (p : Program) where
     IsShapeIn (shape.Parallel f num) = record { known : f < length p.funcs; nests : depth f + 1 ≤ d }
     IsShapeIn (shape.Task f undeferred final) = IsFunction d f
     IsShapeIn (shape.Critical k f) = record { lock : k ≤ MAX_LOCK; function : IsFunction d f }
+    IsShapeIn (shape.Taskgroup f) = IsFunction d f
     IsShapeIn (shape.Call f) = IsFunction d f
     IsShapeIn (shape.Only m f) = IsFunction d f
     IsShapeIn (shape.Repeat n f) = IsFunction d f
@@ -142,6 +143,8 @@ module _ (p : Program) where
       lock = (Rules-from_accepted p).ranges f (stmt.Critical l g) (k, at);
       function = record { known = named_function f k (stmt.Critical l g) at is g refl; nests = nested f k (stmt.Critical l g) at is };
     }
+    stmt_in f k (stmt.Taskgroup g) at is =
+        record { known = named_function f k (stmt.Taskgroup g) at is g refl; nests = nested f k (stmt.Taskgroup g) at is }
     stmt_in f k (stmt.Call g) at is =
         record { known = named_function f k (stmt.Call g) at is g refl; nests = nested f k (stmt.Call g) at is }
     stmt_in f k (stmt.Only m g) at is =
@@ -193,6 +196,10 @@ module _ (p : Program) where
 
     -- ---- rows
 
+    group_end_in : (at : Encounter) (rest : List Item) → AreIn rest → AreIn (end_of_group at rest)
+    group_end_in at rest h =
+        (tt, shown_in at WAIT_TASKGROUP 0 (item.Tasks WAIT_TASKGROUP ∷ item.GroupEnd ∷ working at (item.Leave ∷ rest)) (omega arith) (tt, (tt, working_in at (item.Leave ∷ rest) (tt, h))))
+
     row_in : (at : Encounter) (q : Shape) (rest : List Item) → IsShapeIn q × AreIn rest
         → AreIn (first_item at q ∷ items_behind p at q rest)
     row_in at (shape.Parallel f num) rest (is, h) =
@@ -215,6 +222,7 @@ module _ (p : Program) where
               (item.Lock k ∷ working at (item.Leave ∷ item.Call f ∷ call_items p f (item.Unlock k ∷ rest))) (omega (arith, lock))
               (tt, working_in at (item.Leave ∷ item.Call f ∷ call_items p f (item.Unlock k ∷ rest)) (tt, (tt, call_in f (item.Unlock k ∷ rest) is.function (tt, h)))),
         )
+    row_in at (shape.Taskgroup f) rest (is, h) = (tt, (tt, call_in f (end_of_group at rest) is (group_end_in at rest h)))
     row_in at (shape.Call f) rest (is, h) = (tt, call_in f rest is h)
     row_in at (shape.Only m f) rest (is, h) = go (at.number == m)
       where
@@ -283,6 +291,7 @@ module _ (p : Program) where
   stmt_nests f k (stmt.Parallel g num) at below = (let low = (Rules-from_accepted p).depth f g num (k, at) in omega (arith, low))
   stmt_nests f k (stmt.Task g undeferred final) at below = below g ((Rules-from_accepted p).above f g (stmt.Task g undeferred final) (k, at) refl)
   stmt_nests f k (stmt.Critical l g) at below = below g ((Rules-from_accepted p).above f g (stmt.Critical l g) (k, at) refl)
+  stmt_nests f k (stmt.Taskgroup g) at below = below g ((Rules-from_accepted p).above f g (stmt.Taskgroup g) (k, at) refl)
   stmt_nests f k (stmt.Call g) at below = below g ((Rules-from_accepted p).above f g (stmt.Call g) (k, at) refl)
   stmt_nests f k (stmt.Only m g) at below = below g ((Rules-from_accepted p).above f g (stmt.Only m g) (k, at) refl)
   stmt_nests f k (stmt.Repeat n g) at below = below g ((Rules-from_accepted p).above f g (stmt.Repeat n g) (k, at) refl)

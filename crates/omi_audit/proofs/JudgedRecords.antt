@@ -108,6 +108,25 @@ module _ {C F : Type 0} (told : C → Told) (s t : Opened C F) (stays : StaysWho
       (kept_on told s t b (λ l m. IsFirst (refused_among l m 0 (elements_of address last found.count)) stop)
       stays behind memory tells (still_knows_named s.layout memory a b (places_of address fields) known fine.known.meets))
 
+-- calls that judge words one after the other
+module _ {C F : Type 0} (told : C → Told) (s t : Opened C F) (stays : StaysWhole told s t) (a b c : Search)
+    (xs ys : List ℕ → Words → List Place) (first : OverKept told s a (λ m. AreFine s.layout m 0 (xs s.layout m) a b)) where
+  pub knows_then : OverKept told s a (λ m. Knows s.layout m b)
+  knows_then memory tells known =
+      still_knows_named s.layout memory a b (xs s.layout memory) known (first memory tells known).known
+
+  pub fine_both : OverKept told t b (λ m. AreFine t.layout m 0 (ys t.layout m) b c)
+      → OverKept told s a (λ m. AreFine s.layout m 0 (xs s.layout m ++ ys s.layout m) a c)
+  fine_both second memory tells known =
+      fine_then s.layout memory 0 (xs s.layout memory) (ys s.layout memory) a b c (first memory tells known)
+      (kept_on told s t b (λ l m. AreFine l m 0 (ys l m) b c) stays second memory tells (knows_then memory tells known))
+
+  pub stops_both : (stop : Stop) → OverKept told t b (λ m. IsFirst (refused_among t.layout m 0 (ys t.layout m)) stop)
+      → OverKept told s a (λ m. IsFirst (refused_among s.layout m 0 (xs s.layout m ++ ys s.layout m)) stop)
+  stops_both stop second memory tells known =
+      stops_then s.layout memory 0 (xs s.layout memory) (ys s.layout memory) stop (first memory tells known).none
+      (kept_on told s t b (λ l m. IsFirst (refused_among l m 0 (ys l m)) stop) stays second memory tells (knows_then memory tells known))
+
 -- ---- what is kept
 
 pub grows_then : {a b c : Search} {xs ys : List ℕ} {ms ns : List ℕ} {fs gs : List Bool} → Grows xs ms fs a b → Grows ys ns gs b c

@@ -29,6 +29,7 @@ pub mod BuiltShows
 pub mod ItemRanges
 pub mod RangesKept
 pub mod ReachedRanges
+pub mod GroupWords
 pub mod ReachedRecords
 pub mod ReachedClear
 -- What is answered, and what the verdict gives.

@@ -1,12 +1,13 @@
 -- What a word names and how it is judged: of a word that points to a record the clause of pointers alone is asked, and of a list of clauses that fail the first is told.
 use Rattle.std.proofs.Common.{◌≡◌, ◌==◌, inl, inr, ℕ, ◌+◌, ◌*◌, ◌||◌, ◌&&◌, not, Bool, true, false, cond, List, [], ◌∷◌, ◌++◌, map, Option, Some, None, refl, sym, ap, subst, ◌∙◌}
-use Rattle.std.specs.Prelude.{is_some, slice_get, filter, nat_eq}
+use Rattle.std.specs.Prelude.{is_some, slice_get, filter, nat_eq, nat_le}
 use Rattle.std.specs.Option.{option_map_or}
 use Rattle.std.specs.List.{flat_map}
 use Rattle.indexmap.specs.IndexSet.{insert_all}
 use Rattle.omi_layout.specs.declared.field.Field.{Field}
-use Rattle.omi_layout.specs.declared.field.Field.TheVariants.{ThreadCurrent, RegionEnclosing, RegionEncountering, RegionTeam, TaskRegion, TaskThread, TaskGenerating, TaskScheduling}
-use Rattle.omi_layout.specs.Field.{threads}
+use Rattle.omi_layout.specs.declared.field.Field.TheVariants.{ThreadCurrent, RegionEnclosing, RegionEncountering, RegionTeam, TaskRegion, TaskThread, TaskGenerating, TaskScheduling, TaskSlots}
+use Rattle.omi_layout.specs.declared.limits.TheConstants.{GROUP_PLACE}
+use Rattle.omi_layout.specs.Field.{threads, tasks}
 use Rattle.omi_layout.specs.Named.{number}
 use Rattle.omi_layout.specs.Table.{offset}
 use Rattle.omi_word.specs.Words.{Words}
@@ -16,12 +17,13 @@ use Rattle.omi_audit.specs.declared.stop.Stop.{Stop}
 use Rattle.omi_audit.specs.declared.stop.Stop.TheVariants.{Fails}
 use Rattle.omi_audit.specs.declared.verdict.Verdict.{Verdict}
 use Rattle.omi_audit.specs.declared.verdict.Verdict.TheVariants.{No}
-use Rattle.omi_audit.specs.Clauses.{leads_to, may_be_none, failing, clause_4}
+use Rattle.omi_audit.specs.Clauses.{leads_to, led_to, may_be_none, failing, clause_4, pointer_clause}
 use Rattle.omi_audit.specs.Search.{Place, word_at, named_at}
 use Rattle.omi_audit.specs.Verdicts.{failing_at, refused_at}
 use Rattle.omi_audit.specs.Judged.{named_of, Knows, Meets, MeetsNamed, IsFirst, IsFine, IsFailing, IsJudged, lives}
 use Rattle.omi_audit.proofs.FirstOnes.{has, or_cases, has_with_all, with_all_then}
 use Rattle.omi_audit.proofs.Reaches.{places_live}
+use Rattle.omi_numbers.specs.declared.limits.TheConstants.{OPEN_GROUPS}
 
 -- ---- what is met
 
@@ -78,35 +80,53 @@ module _ (w : List ℕ) (words : Words) where
 
 -- ---- the clauses of a word that points to a record
 
-pick : (b : Bool) → map (λ (clause : ℕ × Bool). clause.0) (filter (λ (clause : ℕ × Bool). not clause.1) ((4, b) ∷ [])) ≡ cond b [] (4 ∷ [])
-pick true = refl
-pick false = refl
+pick : (n : ℕ) (b : Bool) → map (λ (clause : ℕ × Bool). clause.0) (filter (λ (clause : ℕ × Bool). not clause.1) ((n, b) ∷ [])) ≡ cond b [] (n ∷ [])
+pick n true = refl
+pick n false = refl
+
+-- behind a test that holds
+pick_held : (n : ℕ) (b c : Bool) → c ≡ true
+    → map (λ (clause : ℕ × Bool). clause.0) (filter (λ (clause : ℕ × Bool). not clause.1) ((n, b) ∷ (6, c) ∷ [])) ≡ cond b [] (n ∷ [])
+pick_held n true true holds = refl
+pick_held n false true holds = refl
+pick_held n b false holds = absurd (cc)
+
+-- of a task's words behind its slots the one for its group leads to a task
+pub group_leads : (at kind : ℕ) → leads_to TaskSlots at ≡ Some kind → (at == GROUP_PLACE ≡ true) × (kind ≡ tasks)
+group_leads at kind is = go (at == GROUP_PLACE) refl is
+  where
+    go : (b : Bool) → at == GROUP_PLACE ≡ b → cond b (Some tasks) None ≡ Some kind → (at == GROUP_PLACE ≡ true) × (kind ≡ tasks)
+    go true e some = (e, let same : kind ≡ 4 = cc in same)
+    go false e some = absurd (cc)
 
 module _ (w : List ℕ) (words : Words) (i : ℕ) where
-  -- clause 4 alone may fail there
-  pub pointer_fails : (f : Field) (kind word : ℕ) → leads_to f ≡ Some kind
-      → failing w words i f word ≡ cond (clause_4 w words f word) [] (4 ∷ [])
-  pointer_fails ThreadCurrent kind word is = pick (clause_4 w words ThreadCurrent word)
-  pointer_fails RegionEnclosing kind word is = pick (clause_4 w words RegionEnclosing word)
-  pointer_fails RegionEncountering kind word is = pick (clause_4 w words RegionEncountering word)
-  pointer_fails RegionTeam kind word is = pick (clause_4 w words RegionTeam word)
-  pointer_fails TaskRegion kind word is = pick (clause_4 w words TaskRegion word)
-  pointer_fails TaskThread kind word is = pick (clause_4 w words TaskThread word)
-  pointer_fails TaskGenerating kind word is = pick (clause_4 w words TaskGenerating word)
-  pointer_fails TaskScheduling kind word is = pick (clause_4 w words TaskScheduling word)
-  pointer_fails _ kind word is = absurd (cc)
+  -- the clause of pointers alone may fail there
+  pub pointer_fails : (f : Field) (at kind word : ℕ) → leads_to f at ≡ Some kind
+      → failing w words i f at word ≡ cond (clause_4 w words f at word) [] (pointer_clause f ∷ [])
+  pointer_fails ThreadCurrent at kind word is = pick 4 (clause_4 w words ThreadCurrent at word)
+  pointer_fails RegionEnclosing at kind word is = pick 4 (clause_4 w words RegionEnclosing at word)
+  pointer_fails RegionEncountering at kind word is = pick 4 (clause_4 w words RegionEncountering at word)
+  pointer_fails RegionTeam at kind word is = pick 4 (clause_4 w words RegionTeam at word)
+  pointer_fails TaskRegion at kind word is = pick 4 (clause_4 w words TaskRegion at word)
+  pointer_fails TaskThread at kind word is = pick 4 (clause_4 w words TaskThread at word)
+  pointer_fails TaskGenerating at kind word is = pick 4 (clause_4 w words TaskGenerating at word)
+  pointer_fails TaskScheduling at kind word is = pick 4 (clause_4 w words TaskScheduling at word)
+  pointer_fails TaskSlots at kind word is =
+      pick_held 6 (clause_4 w words TaskSlots at word) (at == GROUP_PLACE || nat_le word OPEN_GROUPS)
+      (ap (λ b. b || nat_le word OPEN_GROUPS) (group_leads at kind is).0)
+  pointer_fails _ at kind word is = absurd (cc)
 
-  pub pointer_passes : (f : Field) (kind word : ℕ) → leads_to f ≡ Some kind → clause_4 w words f word ≡ true
-      → slice_get (failing w words i f word) 0 ≡ None
-  pointer_passes f kind word is holds = rw (pointer_fails f kind word is, holds) refl
+  pub pointer_passes : (f : Field) (at kind word : ℕ) → leads_to f at ≡ Some kind → clause_4 w words f at word ≡ true
+      → slice_get (failing w words i f at word) 0 ≡ None
+  pointer_passes f at kind word is holds = rw (pointer_fails f at kind word is, holds) refl
 
-  pub pointer_refused : (f : Field) (kind word : ℕ) → leads_to f ≡ Some kind
-      → clause_4 w words f word ≡ false → slice_get (failing w words i f word) 0 ≡ Some 4
-  pointer_refused f kind word is fails = rw (pointer_fails f kind word is, fails) refl
+  pub pointer_refused : (f : Field) (at kind word : ℕ) → leads_to f at ≡ Some kind
+      → clause_4 w words f at word ≡ false → slice_get (failing w words i f at word) 0 ≡ Some (pointer_clause f)
+  pointer_refused f at kind word is fails = rw (pointer_fails f at kind word is, fails) refl
 
-  pub clause_of : (f : Field) (kind word : ℕ) → leads_to f ≡ Some kind
-      → clause_4 w words f word ≡ ((may_be_none f && word == 0) || is_some (live_at w words kind word))
-  clause_of f kind word is = rw is refl
+  pub clause_of : (f : Field) (at kind word : ℕ) → leads_to f at ≡ Some kind
+      → clause_4 w words f at word ≡ ((may_be_none f && word == 0) || is_some (live_at w words kind (led_to f word)))
+  clause_of f at kind word is = rw is refl
 
 -- ---- a word is judged
 
@@ -129,8 +149,8 @@ module _ (w : List ℕ) (words : Words) (i : ℕ) (p : Place) where
   abbrev named_word : Option ℕ → List ℕ
   named_word word =
       option_map_or
-      (λ kind. cond (kind == threads) [] (filter (λ one. is_some (live_at w words kind one)) (option_map_or (λ one. one ∷ []) word [])))
-      (leads_to p.field) []
+      (λ kind. cond (kind == threads) [] (filter (λ one. is_some (live_at w words kind one)) (option_map_or (λ one. led_to p.field one ∷ []) word [])))
+      (leads_to p.field p.at) []
 
   refused_by : (l : List ℕ) (clause : ℕ) (stop : Stop) → failing_at w words i p ≡ l → slice_get l 0 ≡ Some clause
       → stop ≡ fails_at clause → IsFirst (refused_at w words i p) stop
@@ -141,22 +161,22 @@ module _ (w : List ℕ) (words : Words) (i : ℕ) (p : Place) where
   pub judged_unmapped : (stop : Stop) → word_at w words p ≡ None → stop ≡ fails_at 1
       → IsFirst (refused_at w words i p) stop
   judged_unmapped stop none at =
-      refused_by (1 ∷ []) 1 stop (ap (λ o. option_map_or (failing w words i p.field) o (1 ∷ [])) none) refl at
+      refused_by (1 ∷ []) 1 stop (ap (λ o. option_map_or (failing w words i p.field p.at) o (1 ∷ [])) none) refl at
 
   pub judged_refused : (a b : Search) (found clause : ℕ) (stop : Stop) → word_at w words p ≡ Some found
-      → IsFailing w words i p.field found a b (Some clause) → stop ≡ fails_at clause
+      → IsFailing w words i p.field p.at found a b (Some clause) → stop ≡ fails_at clause
       → IsFirst (refused_at w words i p) stop
   judged_refused a b found clause stop word failed at =
-      refused_by (failing w words i p.field found) clause stop
-      (ap (λ o. option_map_or (failing w words i p.field) o (1 ∷ [])) word) (sym failed.is) at
+      refused_by (failing w words i p.field p.at found) clause stop
+      (ap (λ o. option_map_or (failing w words i p.field p.at) o (1 ∷ [])) word) (sym failed.is) at
 
   pub judged_fine : (a b : Search) (found : ℕ) → word_at w words p ≡ Some found
-      → IsFailing w words i p.field found a b None
+      → IsFailing w words i p.field p.at found a b None
       → IsFine (refused_at w words i p) (IsJudged w words p a b found)
   judged_fine a b found word fine =
       let meets = fine.meets refl in
       record {
-        none = ap (map refusal) (ap (λ o. option_map_or (failing w words i p.field) o (1 ∷ [])) word ∙ first_none (failing w words i p.field found) (sym fine.is));
+        none = ap (map refusal) (ap (λ o. option_map_or (failing w words i p.field p.at) o (1 ∷ [])) word ∙ first_none (failing w words i p.field p.at found) (sym fine.is));
         known = record {
           word = word;
           meets = record {

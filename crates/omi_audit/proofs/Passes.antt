@@ -1,22 +1,23 @@
 -- Words at which no clause fails: each is mapped, every clause holds of it, and what it names is reached.
-use Rattle.std.proofs.Common.{◌≡◌, ◌⊎◌, inl, inr, ℕ, suc, ◌/◌, ◌<◌, ◌&&◌, not, Bool, true, false, cond, List, [], ◌∷◌, map, Option, Some, None, refl, sym, ap, subst, ◌∙◌, eqb-true, eq-eqb}
+use Rattle.std.proofs.Common.{◌≡◌, ◌⊎◌, inl, inr, ℕ, suc, ◌/◌, ◌<◌, ◌&&◌, not, Bool, true, false, cond, List, [], ◌∷◌, map, Option, Some, None, refl, sym, ap, subst, ◌∙◌, eqb-true, eq-eqb, zero, ◌+◌, ◌++◌, length, arith}
 use Rattle.std.specs.Prelude.{◌==◌, is_some, filter, slice_get}
 use Rattle.std.specs.Option.{option_map_or, option_and_then}
 use Rattle.std.specs.List.{flat_map, range_with_len}
 use Rattle.omi_layout.specs.declared.field.Field.{Field}
-use Rattle.omi_layout.specs.declared.field.Field.TheVariants.{RegionSize, RegionTeam, TaskNthreadsLength, TaskNthreads}
+use Rattle.omi_layout.specs.declared.field.Field.TheVariants.{RegionSize, RegionTeam, TaskNthreadsLength, TaskNthreads, TaskSlots}
 use Rattle.omi_layout.specs.Field.{threads}
 use Rattle.omi_layout.specs.Named.{number}
 use Rattle.omi_layout.specs.Place.{slot_address, IsSlot}
-use Rattle.omi_layout.specs.Table.{thread_count}
+use Rattle.omi_layout.specs.Table.{thread_count, version}
 use Rattle.omi_layout.proofs.Arenas.{test_left, test_right}
+use Rattle.omi_layout.specs.declared.limits.TheConstants.{GROUP_PLACE, GROUP_VERSION, OPEN_PLACE}
 use Rattle.omi_model.specs.declared.id.Id.{Id}
 use Rattle.omi_word.specs.Words.{Words}
 use Rattle.omi_rep.specs.Look.{slot_at, live_at, life_of, is_live}
 use Rattle.omi_rep.specs.Records.{record_at}
 use Rattle.omi_rep.proofs.Slots.{slot_is}
-use Rattle.omi_audit.specs.Clauses.{leads_to, may_be_none, clause_2, clause_3, clause_4, clause_5, clause_6, failing}
-use Rattle.omi_audit.specs.Search.{Place, word_at, region_places, task_places, record_places, thread_places, number_in, named_at, named_by, current_tasks, reached}
+use Rattle.omi_audit.specs.Clauses.{leads_to, led_to, may_be_none, clause_2, clause_3, clause_4, clause_5, clause_6, failing, pointer_clause}
+use Rattle.omi_audit.specs.Search.{Place, word_at, region_places, value_places, group_places, task_places, record_places, thread_places, number_in, named_at, named_by, current_tasks, reached}
 use Rattle.omi_audit.specs.Verdicts.{refused_at, failing_at}
 use Rattle.omi_audit.specs.Judged.{place_at, named_by_thread, refused_among}
 use Rattle.omi_audit.proofs.Chained.{all_has, each_clear, map_none, reached_next, named_there}
@@ -28,15 +29,32 @@ use Rattle.omi_audit.proofs.Reaches.{reached_whole}
 use Rattle.omi_audit.proofs.Rounds.{has_first}
 
 -- all of five tests pass where none of them is kept
-all_pass : (a b c d e : Bool)
-    → map (λ (clause : ℕ × Bool). clause.0) (filter (λ (clause : ℕ × Bool). not clause.1) ((2, a) ∷ (3, b) ∷ (4, c) ∷ (5, d) ∷ (6, e) ∷ [])) ≡ []
+all_pass : (n : ℕ) (a b c d e : Bool)
+    → map (λ (clause : ℕ × Bool). clause.0) (filter (λ (clause : ℕ × Bool). not clause.1) ((2, a) ∷ (3, b) ∷ (n, c) ∷ (5, d) ∷ (6, e) ∷ [])) ≡ []
     → record { second : a ≡ true; third : b ≡ true; fourth : c ≡ true; fifth : d ≡ true; sixth : e ≡ true }
-all_pass true true true true true none = record { second = refl; third = refl; fourth = refl; fifth = refl; sixth = refl }
-all_pass false b c d e none = absurd (cc)
-all_pass true false c d e none = absurd (cc)
-all_pass true true false d e none = absurd (cc)
-all_pass true true true false e none = absurd (cc)
-all_pass true true true true false none = absurd (cc)
+all_pass n true true true true true none = record { second = refl; third = refl; fourth = refl; fifth = refl; sixth = refl }
+all_pass n false b c d e none = absurd (cc)
+all_pass n true false c d e none = absurd (cc)
+all_pass n true true false d e none = absurd (cc)
+all_pass n true true true false e none = absurd (cc)
+all_pass n true true true true false none = absurd (cc)
+
+-- the places of two lists
+pub in_front : {A : Type 0} (xs ys : List A) (k : ℕ) (x : A) → slice_get xs k ≡ Some x → slice_get (xs ++ ys) k ≡ Some x
+in_front [] ys k x is = absurd (cc)
+in_front (y ∷ xs) ys zero x is = is
+in_front (y ∷ xs) ys (suc k) x is = in_front xs ys k x is
+
+pub in_back : {A : Type 0} (xs ys : List A) (k : ℕ) (x : A) → slice_get ys k ≡ Some x → slice_get (xs ++ ys) (length xs + k) ≡ Some x
+in_back [] ys k x is = ap (slice_get ys) (let same : 0 + k ≡ k = omega arith in same) ∙ is
+in_back (y ∷ xs) ys k x is =
+    ap (slice_get (y ∷ (xs ++ ys))) (let same : suc (length xs) + k ≡ suc (length xs + k) = omega arith in same) ∙ in_back xs ys k x is
+
+pub in_either : {A : Type 0} (xs ys : List A) (k : ℕ) (x : A) → slice_get (xs ++ ys) k ≡ Some x
+    → (slice_get xs k ≡ Some x) ⊎ ((j : ℕ) × (slice_get ys j ≡ Some x))
+in_either [] ys k x is = inr (k, is)
+in_either (y ∷ xs) ys zero x is = inl is
+in_either (y ∷ xs) ys (suc k) x is = in_either xs ys k x is
 
 -- behind the fields of a region and of a task
 abbrev pub member_place : ℕ → ℕ
@@ -55,28 +73,28 @@ module _ (w : List ℕ) (words : Words) where
     pub mapped : word_at w words p ≡ Some (word_in p.address p.field p.at)
     pub second : clause_2 w p.field (word_in p.address p.field p.at) ≡ true
     pub third : clause_3 i p.field (word_in p.address p.field p.at) ≡ true
-    pub fourth : clause_4 w words p.field (word_in p.address p.field p.at) ≡ true
+    pub fourth : clause_4 w words p.field p.at (word_in p.address p.field p.at) ≡ true
     pub fifth : clause_5 w p.field (word_in p.address p.field p.at) ≡ true
-    pub sixth : clause_6 w p.field (word_in p.address p.field p.at) ≡ true
+    pub sixth : clause_6 w p.field p.at (word_in p.address p.field p.at) ≡ true
 
   pub passes : (i : ℕ) (p : Place) → refused_at w words i p ≡ [] → Passes i p
   passes i p none = go (word_at w words p) refl
     where
       go : (o : Option ℕ) → word_at w words p ≡ o → Passes i p
       go None e =
-          absurd (let failed : 1 ∷ [] ≡ [] = ap (λ o. option_map_or (failing w words i p.field) o (1 ∷ [])) (sym e) ∙ map_none _ (failing_at w words i p) none in cc)
+          absurd (let failed : 1 ∷ [] ≡ [] = ap (λ o. option_map_or (failing w words i p.field p.at) o (1 ∷ [])) (sym e) ∙ map_none _ (failing_at w words i p) none in cc)
       go (Some v) e =
           let is : word_in p.address p.field p.at ≡ v = ap (λ o. option_map_or (λ word. word) o 0) e in
           let all =
-          all_pass (clause_2 w p.field v) (clause_3 i p.field v) (clause_4 w words p.field v) (clause_5 w p.field v) (clause_6 w p.field v)
-          (ap (λ o. option_map_or (failing w words i p.field) o (1 ∷ [])) (sym e) ∙ map_none _ (failing_at w words i p) none) in
+          all_pass (pointer_clause p.field) (clause_2 w p.field v) (clause_3 i p.field v) (clause_4 w words p.field p.at v) (clause_5 w p.field v)
+          (clause_6 w p.field p.at v) (ap (λ o. option_map_or (failing w words i p.field p.at) o (1 ∷ [])) (sym e) ∙ map_none _ (failing_at w words i p) none) in
           record {
             mapped = e ∙ ap (λ (x : ℕ). Some x) (sym is);
             second = ap (clause_2 w p.field) is ∙ all.second;
             third = ap (clause_3 i p.field) is ∙ all.third;
-            fourth = ap (clause_4 w words p.field) is ∙ all.fourth;
+            fourth = ap (clause_4 w words p.field p.at) is ∙ all.fourth;
             fifth = ap (clause_5 w p.field) is ∙ all.fifth;
-            sixth = ap (clause_6 w p.field) is ∙ all.sixth;
+            sixth = ap (clause_6 w p.field p.at) is ∙ all.sixth;
           }
 
   -- none at each of some places
@@ -85,39 +103,41 @@ module _ (w : List ℕ) (words : Words) where
   pass_each i places none k p is = passes i p (each_clear (refused_at w words i) places k p none is)
 
   -- a pointer is 0, where it may be, or leads to a live record
-  pub points : (i : ℕ) (p : Place) (kind : ℕ) → leads_to p.field ≡ Some kind → Passes i p
+  pub points : (i : ℕ) (p : Place) (kind : ℕ) → leads_to p.field p.at ≡ Some kind → Passes i p
       → ((may_be_none p.field ≡ true) × (word_in p.address p.field p.at ≡ 0))
-      ⊎ (is_some (live_at w words kind (word_in p.address p.field p.at)) ≡ true)
+      ⊎ (is_some (live_at w words kind (led_to p.field (word_in p.address p.field p.at))) ≡ true)
   points i p kind leads pass =
       let v = word_in p.address p.field p.at in
-      elim (or_cases (may_be_none p.field && v == 0) (is_some (live_at w words kind v)) (sym (clause_of w words i p.field kind v leads) ∙ pass.fourth)) [
+      elim (or_cases (may_be_none p.field && v == 0) (is_some (live_at w words kind (led_to p.field v))) (sym (clause_of w words i p.field p.at kind v leads) ∙ pass.fourth)) [
         | inl none ↦ inl (test_left (may_be_none p.field) (v == 0) none, eqb-true v 0 (test_right (may_be_none p.field) (v == 0) none))
         | inr live ↦ inr live
       ]
 
   -- ---- what is named is reached
 
-  named_among : (places : List Place) (k : ℕ) (p : Place) (kind v : ℕ) → slice_get places k ≡ Some p → leads_to p.field ≡ Some kind
-      → (kind == threads) ≡ false → word_at w words p ≡ Some v → is_some (live_at w words kind v) ≡ true
-      → has (flat_map (named_at w words) places) v ≡ true
+  named_among : (places : List Place) (k : ℕ) (p : Place) (kind v : ℕ) → slice_get places k ≡ Some p → leads_to p.field p.at ≡ Some kind
+      → (kind == threads) ≡ false → word_at w words p ≡ Some v → is_some (live_at w words kind (led_to p.field v)) ≡ true
+      → has (flat_map (named_at w words) places) (led_to p.field v) ≡ true
   named_among places k p kind v at leads other word live =
-      all_has (named_at w words) places k p v at
-      (ap (λ l. has l v) (named_there w words p kind v leads word ∙ named_live w words kind v other live) ∙ or_first (v == v) false (eq-eqb v v refl))
+      let x = led_to p.field v in
+      all_has (named_at w words) places k p x at
+      (ap (λ l. has l x) (named_there w words p kind v leads word ∙ named_live w words kind x other live) ∙ or_first (x == x) false (eq-eqb x x refl))
 
   pub reached_by : (a k : ℕ) (p : Place) (kind v : ℕ) → has (reached w words) a ≡ true → slice_get (record_places w words a) k ≡ Some p
-      → leads_to p.field ≡ Some kind → (kind == threads) ≡ false → word_at w words p ≡ Some v
-      → is_some (live_at w words kind v) ≡ true → has (reached w words) v ≡ true
+      → leads_to p.field p.at ≡ Some kind → (kind == threads) ≡ false → word_at w words p ≡ Some v
+      → is_some (live_at w words kind (led_to p.field v)) ≡ true → has (reached w words) (led_to p.field v) ≡ true
   reached_by a k p kind v among at leads other word live =
-      reached_next w words a v among (named_among (record_places w words a) k p kind v at leads other word live)
+      reached_next w words a (led_to p.field v) among (named_among (record_places w words a) k p kind v at leads other word live)
 
   pub reached_from : (i k : ℕ) (p : Place) (kind v : ℕ) → i < thread_count w → slice_get (thread_places w words i) k ≡ Some p
-      → leads_to p.field ≡ Some kind → (kind == threads) ≡ false → word_at w words p ≡ Some v
-      → is_some (live_at w words kind v) ≡ true → has (reached w words) v ≡ true
+      → leads_to p.field p.at ≡ Some kind → (kind == threads) ≡ false → word_at w words p ≡ Some v
+      → is_some (live_at w words kind (led_to p.field v)) ≡ true → has (reached w words) (led_to p.field v) ≡ true
   reached_from i k p kind v within at leads other word live =
-      let current : has (current_tasks w words) v ≡ true =
-      all_has (named_by_thread w words) (range_with_len 0 (thread_count w)) i i v (range_at (thread_count w) i within)
+      let x = led_to p.field v in
+      let current : has (current_tasks w words) x ≡ true =
+      all_has (named_by_thread w words) (range_with_len 0 (thread_count w)) i i x (range_at (thread_count w) i within)
       (named_among (thread_places w words i) k p kind v at leads other word live) in
-      ap (λ l. has l v) (sym (reached_whole w words)) ∙ has_first (current_tasks w words) (named_by w words) (reached w words) v current
+      ap (λ l. has l x) (sym (reached_whole w words)) ∙ has_first (current_tasks w words) (named_by w words) (reached w words) x current
 
   -- ---- a live record
 
@@ -172,4 +192,14 @@ module _ (w : List ℕ) (words : Words) where
 
   pub task_element : (a at : ℕ) → at < number_in w words a TaskNthreadsLength
       → slice_get (task_places w words a) (element_place at) ≡ Some (place_at a TaskNthreads at)
-  task_element a at within = element_at a TaskNthreads (number_in w words a TaskNthreadsLength) at within
+  task_element a at within =
+      in_front (value_places w words a) (group_places w words a) (element_place at) (place_at a TaskNthreads at)
+      (element_at a TaskNthreads (number_in w words a TaskNthreadsLength) at within)
+
+  -- the words for groups stand behind the values
+  pub task_group : (a k : ℕ) (p : Place) → version w == GROUP_VERSION ≡ true
+      → slice_get (place_at a TaskSlots GROUP_PLACE ∷ place_at a TaskSlots OPEN_PLACE ∷ []) k ≡ Some p
+      → slice_get (task_places w words a) (length (value_places w words a) + k) ≡ Some p
+  task_group a k p known is =
+      in_back (value_places w words a) (group_places w words a) k p
+      (ap (λ b. slice_get (cond b (place_at a TaskSlots GROUP_PLACE ∷ place_at a TaskSlots OPEN_PLACE ∷ []) []) k) known ∙ is)

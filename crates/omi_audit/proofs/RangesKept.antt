@@ -22,6 +22,7 @@ use Rattle.omi_model.specs.declared.thread.Thread.{Thread}
 use Rattle.omi_model.specs.Barriers.{arrived, released}
 use Rattle.omi_model.specs.Changes.{IsCurrent, ahead_of, by_current, by_region, encounter, in_front, on_task, with_list}
 use Rattle.omi_model.specs.Freeing.{above, freed}
+use Rattle.omi_model.specs.Groups.{group_begun, group_ended}
 use Rattle.omi_model.specs.LawStays.{Stays}
 use Rattle.omi_model.specs.Lists.{fits, stays, take_item}
 use Rattle.omi_model.specs.Opening.{opening, opening_region}
@@ -200,6 +201,8 @@ module _ (p : Program) (s : State) (i : ℕ) where
   leaves (event.Start task) y = tt
   leaves (event.Finish task) y = at_current (event.Finish task) (finished s i) (λ k t. (refl, inl refl))
   leaves event.WaitDone y = (refl, inl refl)
+  leaves event.GroupBegin y = at_current event.GroupBegin (group_begun s) (λ k t. (refl, inl refl))
+  leaves event.GroupEnd y = at_current event.GroupEnd (group_ended s) (λ k t. (refl, inl refl))
   leaves event.Yield y = (refl, inl refl)
   leaves (event.Set icv value) y = leaves_set icv value
   leaves (event.SetTool x) y = at_current (event.SetTool x) (λ k t. with_tool s x k) (λ k t. (refl, inl refl))
@@ -308,6 +311,7 @@ module _ (p : Program) (s : State) (i : ℕ) (e : Event) (next : State) (step : 
     frees = λ k t free how q. q;
     shows = λ k t x q. q;
     tools = λ k t x q. q;
+    groups = λ k t n is how q. q;
     begins = λ k t waits mine by q. q;
     finishes = λ k t is over q. q;
     sets = λ k t icv value v f at_set q.

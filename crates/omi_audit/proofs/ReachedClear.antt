@@ -1,6 +1,6 @@
 -- Over words that show a reached state no word is refused, and each chain ends.
-use Rattle.std.proofs.Common.{◌≡◌, inl, inr, ℕ, zero, suc, ◌/◌, ◌%◌, ◌<◌, ◌≤◌, ◌&&◌, Bool, true, false, cond, List, [], ◌∷◌, ◌++◌, length, Option, Some, None, refl, sym, ap, subst, ◌∙◌, arith, eq-eqb}
-use Rattle.std.specs.Prelude.{◌==◌, nat_le, slice_get, slice_index, MatchBool}
+use Rattle.std.proofs.Common.{◌≡◌, inl, inr, ℕ, zero, suc, ◌/◌, ◌%◌, ◌<◌, ◌≤◌, ◌&&◌, Bool, true, false, cond, List, [], ◌∷◌, ◌++◌, length, Option, Some, None, refl, sym, ap, subst, ◌∙◌, arith, eq-eqb, ◌+◌}
+use Rattle.std.specs.Prelude.{◌==◌, nat_le, slice_get, slice_index, MatchBool, is_some, nat_lt}
 use Rattle.std.specs.Option.{option_map, option_map_or, option_and_then}
 use Rattle.std.specs.List.{flat_map, range_with_len}
 use Rattle.std.proofs.lemmas.Bool.{le-leb}
@@ -13,12 +13,14 @@ use Rattle.omi_script.specs.declared.statement.Sched.{Sched}
 use Rattle.omi_numbers.specs.declared.schedules.TheConstants.{STATIC, AUTO}
 use Rattle.omi_numbers.specs.declared.words.TheConstants.{OPENMP_VERSION, CHUNK_PLACE}
 use Rattle.omi_numbers.specs.Words.{flag, native_id}
+use Rattle.omi_numbers.specs.declared.limits.TheConstants.{OPEN_GROUPS, OWN_SLOTS}
 use Rattle.omi_layout.specs.declared.field.Field.{Field}
-use Rattle.omi_layout.specs.declared.field.Field.TheVariants.{RuntimeVersion, RuntimeThreads, RuntimeProcs, RuntimeDebug, RuntimeMaxActive, ThreadLife, ThreadNative, ThreadCurrent, ThreadState, RegionFunction, RegionEnclosing, RegionEncountering, RegionSize, RegionLevels, RegionActive, RegionTeam, TaskImplicit, TaskRegion, TaskThread, TaskNumber, TaskGenerating, TaskScheduling, TaskFunction, TaskExit, TaskEnter, TaskDynamic, TaskNthreadsLength, TaskSchedule, TaskDevice, TaskFinal, TaskTool, TaskNthreads}
+use Rattle.omi_layout.specs.declared.field.Field.TheVariants.{RuntimeVersion, RuntimeThreads, RuntimeProcs, RuntimeDebug, RuntimeMaxActive, ThreadLife, ThreadNative, ThreadCurrent, ThreadState, RegionFunction, RegionEnclosing, RegionEncountering, RegionSize, RegionLevels, RegionActive, RegionTeam, TaskImplicit, TaskRegion, TaskThread, TaskNumber, TaskGenerating, TaskScheduling, TaskFunction, TaskExit, TaskEnter, TaskDynamic, TaskNthreadsLength, TaskSchedule, TaskDevice, TaskFinal, TaskTool, TaskNthreads, TaskSlots}
 use Rattle.omi_layout.specs.Field.{threads, regions, tasks}
-use Rattle.omi_layout.specs.Table.{thread_count}
+use Rattle.omi_layout.specs.Table.{thread_count, version}
 use Rattle.omi_layout.specs.Valid.{IsValid, is_between}
 use Rattle.omi_layout.proofs.Frame.{kind_3, kind_4}
+use Rattle.omi_layout.specs.declared.limits.TheConstants.{GROUP_PLACE, GROUP_VERSION, GROUP_WORDS, OPEN_PLACE}
 use Rattle.omi_model.specs.declared.event.Event.{Event}
 use Rattle.omi_model.specs.declared.id.Rid.{Rid}
 use Rattle.omi_model.specs.declared.id.Tid.{Tid}
@@ -29,29 +31,32 @@ use Rattle.omi_model.specs.State.{State, scheduling_of, enclosing_of}
 use Rattle.omi_model.specs.Visible.{HasStarted, IsVisibleRegion, IsVisibleTask}
 use Rattle.omi_model.specs.WellFormed.{IsMember, along}
 use Rattle.omi_model.proofs.ReleaseAmong.{undeferred}
+use Rattle.omi_model.specs.declared.group.Group.{Group}
+use Rattle.omi_model.proofs.groups.GroupLaws.{groups_right}
 use Rattle.omi_word.specs.Words.{Words}
-use Rattle.omi_rep.specs.Codes.{region_code, region_told, shown, task_code, task_told, thread_code, thread_told}
-use Rattle.omi_rep.specs.Look.{slot_at}
-use Rattle.omi_rep.specs.Records.{runtime_address, thread_address, region_address, region_word, task_address, task_word}
+use Rattle.omi_rep.specs.Codes.{group_code, region_code, region_told, shown, task_code, task_told, thread_code, thread_told}
+use Rattle.omi_rep.specs.Look.{slot_at, live_at}
+use Rattle.omi_rep.specs.Records.{runtime_address, thread_address, region_address, region_word, task_address, task_word, group_word}
 use Rattle.omi_rep.specs.Shows.{Shows}
 use Rattle.omi_rep.proofs.Lists.{from_range}
 use Rattle.omi_rep.proofs.LiveObjects.{thread_lives}
 use Rattle.omi_session.proofs.ShownAnswers.{element_of_all}
-use Rattle.omi_audit.specs.Clauses.{is_schedule}
+use Rattle.omi_audit.specs.Clauses.{is_schedule, clause_4, led_to}
 use Rattle.omi_audit.specs.Promise.{IsReached, Current, Named}
-use Rattle.omi_audit.specs.Search.{Place, places_of, word_at, number_in, is_region, runtime_places, thread_places, region_places, task_places, named_at, named_by, current_tasks, reached}
+use Rattle.omi_audit.specs.Search.{Place, places_of, word_at, number_in, is_region, runtime_places, thread_places, region_places, value_places, group_places, task_places, named_at, named_by, current_tasks, reached}
 use Rattle.omi_audit.specs.Verdicts.{next_in_chain, refused_at, refused_chain, refusals}
 use Rattle.omi_audit.specs.Judged.{EndsIn, place_at, named_of, named_by_thread, refused_among, refused_record, refused_thread}
 use Rattle.omi_audit.proofs.BuiltShows.{made_at}
 use Rattle.omi_audit.proofs.Chained.{at_has, named_there}
 use Rattle.omi_audit.proofs.FirstOnes.{has, has_named}
+use Rattle.omi_audit.proofs.GroupWords.{owner_led}
 use Rattle.omi_audit.proofs.JudgedAll.{none_refused}
 use Rattle.omi_audit.proofs.LivesThere.{apart_some}
 use Rattle.omi_audit.proofs.NamedWords.{named_live, named_dead}
-use Rattle.omi_audit.proofs.Passes.{member_place, element_place}
+use Rattle.omi_audit.proofs.Passes.{member_place, element_place, in_either}
 use Rattle.omi_audit.proofs.RangesKept.{in_ranges}
 use Rattle.omi_audit.proofs.ReachedRanges.{TaskRanges, region_ranges, task_ranges}
-use Rattle.omi_audit.proofs.ReachedRecords.{low_test, between_test, flag_test, flag_one, entry_test, state_test, at_within, none_each, place_named, named_word, no_refusal, lives_live, live_may, formed, dead, region_live, task_live, IsSeen, seen_region, seen_task, region_may, task_may, same_word}
+use Rattle.omi_audit.proofs.ReachedRecords.{led_word, none_may, low_test, between_test, flag_test, flag_one, entry_test, state_test, at_within, none_each, place_named, named_word, no_refusal, lives_live, live_may, formed, dead, region_live, task_live, IsSeen, seen_region, seen_task, region_may, task_may, same_word}
 use Rattle.omi_audit.proofs.Reaches.{has_contains, contains_has, some_first, reaches}
 use Rattle.omi_audit.proofs.Walks.{ends_clear}
 
@@ -118,12 +123,12 @@ module _ (w : List ℕ) (words : Words) (valid : IsValid w) (p : Program) (event
         absurd (let same : place_at region_record RegionFunction 0 ≡ q = cc in let none = ap (λ x. has (named_at w words x) a) same ∙ is in cc)
     region_names a (suc zero) q at is =
         let same : place_at region_record RegionEnclosing 0 ≡ q = cc in
-        let by = named_word w words (place_at region_record RegionEnclosing 0) regions a refl (ap (λ x. has (named_at w words x) a) same ∙ is) in
+        let by = named_word w words (place_at region_record RegionEnclosing 0) regions a refl (λ v. refl) (ap (λ x. has (named_at w words x) a) same ∙ is) in
         seen_region w words valid p events s reaches_it shows seen.region.enclosing ((formed w words valid p events s reaches_it shows).regions n seen).enclosing a
         (same_word w words valid p events s reaches_it shows (place_at region_record RegionEnclosing 0) _ a (region_word_is RegionEnclosing 0 _ refl refl) by.0) by.1
     region_names a (suc (suc zero)) q at is =
         let same : place_at region_record RegionEncountering 0 ≡ q = cc in
-        let by = named_word w words (place_at region_record RegionEncountering 0) tasks a refl (ap (λ x. has (named_at w words x) a) same ∙ is) in
+        let by = named_word w words (place_at region_record RegionEncountering 0) tasks a refl (λ v. refl) (ap (λ x. has (named_at w words x) a) same ∙ is) in
         seen_task w words valid p events s reaches_it shows seen.region.encountering ((formed w words valid p events s reaches_it shows).regions n seen).encountering a
         (same_word w words valid p events s reaches_it shows (place_at region_record RegionEncountering 0) _ a (region_word_is RegionEncountering 0 _ refl refl) by.0) by.1
     region_names a (suc (suc (suc zero))) q at is =
@@ -134,7 +139,7 @@ module _ (w : List ℕ) (words : Words) (valid : IsValid w) (p : Program) (event
         absurd (let same : place_at region_record RegionActive 0 ≡ q = cc in let none = ap (λ x. has (named_at w words x) a) same ∙ is in cc)
     region_names a (suc (suc (suc (suc (suc (suc k)))))) q at is =
         let m = member_at_place k q at in
-        let by = named_word w words (place_at region_record RegionTeam m.at) tasks a refl (ap (λ x. has (named_at w words x) a) m.place ∙ is) in
+        let by = named_word w words (place_at region_record RegionTeam m.at) tasks a refl (λ v. refl) (ap (λ x. has (named_at w words x) a) m.place ∙ is) in
         inr (m.member.0, m.visible, sym (same_word w words valid p events s reaches_it shows (place_at region_record RegionTeam m.at) (task_address w m.member.0) a m.word by.0))
 
     -- no word of it is refused
@@ -149,13 +154,13 @@ module _ (w : List ℕ) (words : Words) (valid : IsValid w) (p : Program) (event
         let right = (formed w words valid p events s reaches_it shows).regions n seen in
         subst (λ x. refused_at w words 0 x ≡ []) same
         (no_refusal w words 0 (place_at region_record RegionEnclosing 0) _ (region_word_is RegionEnclosing 0 _ refl refl) refl refl
-        (region_may w words valid p events s reaches_it shows RegionEnclosing seen.region.enclosing refl refl right.enclosing) refl refl)
+        (region_may w words valid p events s reaches_it shows RegionEnclosing seen.region.enclosing refl refl (λ v. refl) right.enclosing) refl refl)
     region_clear (suc (suc zero)) q at =
         let same : place_at region_record RegionEncountering 0 ≡ q = cc in
         let right = (formed w words valid p events s reaches_it shows).regions n seen in
         subst (λ x. refused_at w words 0 x ≡ []) same
         (no_refusal w words 0 (place_at region_record RegionEncountering 0) _ (region_word_is RegionEncountering 0 _ refl refl) refl refl
-        (task_may w words valid p events s reaches_it shows RegionEncountering seen.region.encountering refl refl right.encountering) refl refl)
+        (task_may w words valid p events s reaches_it shows RegionEncountering seen.region.encountering refl refl (λ v. refl) right.encountering) refl refl)
     region_clear (suc (suc (suc zero))) q at =
         let same : place_at region_record RegionSize 0 ≡ q = cc in
         let r = region_ranges p events s reaches_it n seen in
@@ -178,7 +183,7 @@ module _ (w : List ℕ) (words : Words) (valid : IsValid w) (p : Program) (event
         let m = member_at_place k q at in
         subst (λ x. refused_at w words 0 x ≡ []) m.place
         (no_refusal w words 0 (place_at region_record RegionTeam m.at) (task_address w m.member.0) m.word refl refl
-        (live_may w words RegionTeam tasks (task_address w m.member.0) refl (task_live w words valid p events s reaches_it shows m.member.0 m.visible)) refl refl)
+        (live_may w words RegionTeam m.at tasks (task_address w m.member.0) refl (task_live w words valid p events s reaches_it shows m.member.0 m.visible)) refl refl)
 
     -- the next region of its chain
     next_region : next_in_chain w words region_record ≡ option_map (region_address w) seen.region.enclosing
@@ -253,7 +258,7 @@ module _ (w : List ℕ) (words : Words) (valid : IsValid w) (p : Program) (event
       place : place_at task_record TaskNthreads at ≡ q
       there : slice_get seen.task.variables.nthreads at ≡ Some size
 
-    element_at_place : (at : ℕ) (q : Place) → slice_get (task_places w words task_record) (element_place at) ≡ Some q → ElementAt q
+    element_at_place : (at : ℕ) (q : Place) → slice_get (value_places w words task_record) (element_place at) ≡ Some q → ElementAt q
     element_at_place at q is =
         let made = made_at (place_at task_record TaskNthreads) (number_in w words task_record TaskNthreadsLength) at q is in
         let low = made.0 in
@@ -261,134 +266,202 @@ module _ (w : List ℕ) (words : Words) (valid : IsValid w) (p : Program) (event
         let there = at_within seen.task.variables.nthreads at (omega (arith, low, size)) in
         record { at = at; size = there.0; place = made.1; there = there.1 }
 
-    task_names : (a j : ℕ) (q : Place) → slice_get (task_places w words task_record) j ≡ Some q → has (named_at w words q) a ≡ true
+    value_names : (a j : ℕ) (q : Place) → slice_get (value_places w words task_record) j ≡ Some q → has (named_at w words q) a ≡ true
         → IsSeen w words valid p events s reaches_it shows a
-    task_names a zero q at is =
+    value_names a zero q at is =
         absurd (let same : place_at task_record TaskImplicit 0 ≡ q = cc in let none = ap (λ x. has (named_at w words x) a) same ∙ is in cc)
-    task_names a (suc zero) q at is =
+    value_names a (suc zero) q at is =
         let same : place_at task_record TaskRegion 0 ≡ q = cc in
-        let by = named_word w words (place_at task_record TaskRegion 0) regions a refl (ap (λ x. has (named_at w words x) a) same ∙ is) in
+        let by = named_word w words (place_at task_record TaskRegion 0) regions a refl (λ v. refl) (ap (λ x. has (named_at w words x) a) same ∙ is) in
         inl (
           seen.task.region,
           ((formed w words valid p events s reaches_it shows).tasks k seen).region,
           sym
               (same_word w words valid p events s reaches_it shows (place_at task_record TaskRegion 0) _ a (task_word_is TaskRegion 0 _ refl refl) by.0),
         )
-    task_names a (suc (suc zero)) q at is =
+    value_names a (suc (suc zero)) q at is =
         absurd (let same : place_at task_record TaskThread 0 ≡ q = cc in let none = ap (λ x. has (named_at w words x) a) same ∙ is in cc)
-    task_names a (suc (suc (suc zero))) q at is =
+    value_names a (suc (suc (suc zero))) q at is =
         absurd (let same : place_at task_record TaskNumber 0 ≡ q = cc in let none = ap (λ x. has (named_at w words x) a) same ∙ is in cc)
-    task_names a (suc (suc (suc (suc zero)))) q at is =
+    value_names a (suc (suc (suc (suc zero)))) q at is =
         let same : place_at task_record TaskGenerating 0 ≡ q = cc in
-        let by = named_word w words (place_at task_record TaskGenerating 0) tasks a refl (ap (λ x. has (named_at w words x) a) same ∙ is) in
+        let by = named_word w words (place_at task_record TaskGenerating 0) tasks a refl (λ v. refl) (ap (λ x. has (named_at w words x) a) same ∙ is) in
         seen_task w words valid p events s reaches_it shows seen.task.generating ((formed w words valid p events s reaches_it shows).tasks k seen).generating a
         (same_word w words valid p events s reaches_it shows (place_at task_record TaskGenerating 0) _ a (task_word_is TaskGenerating 0 _ refl refl) by.0) by.1
-    task_names a (suc (suc (suc (suc (suc zero))))) q at is =
+    value_names a (suc (suc (suc (suc (suc zero))))) q at is =
         let same : place_at task_record TaskScheduling 0 ≡ q = cc in
-        let by = named_word w words (place_at task_record TaskScheduling 0) tasks a refl (ap (λ x. has (named_at w words x) a) same ∙ is) in
+        let by = named_word w words (place_at task_record TaskScheduling 0) tasks a refl (λ v. refl) (ap (λ x. has (named_at w words x) a) same ∙ is) in
         seen_task w words valid p events s reaches_it shows seen.task.scheduling ((formed w words valid p events s reaches_it shows).tasks k seen).scheduling a
         (same_word w words valid p events s reaches_it shows (place_at task_record TaskScheduling 0) _ a (task_word_is TaskScheduling 0 _ refl refl) by.0) by.1
-    task_names a (suc (suc (suc (suc (suc (suc zero)))))) q at is =
+    value_names a (suc (suc (suc (suc (suc (suc zero)))))) q at is =
         absurd (let same : place_at task_record TaskFunction 0 ≡ q = cc in let none = ap (λ x. has (named_at w words x) a) same ∙ is in cc)
-    task_names a (suc (suc (suc (suc (suc (suc (suc zero))))))) q at is =
+    value_names a (suc (suc (suc (suc (suc (suc (suc zero))))))) q at is =
         absurd (let same : place_at task_record TaskExit 0 ≡ q = cc in let none = ap (λ x. has (named_at w words x) a) same ∙ is in cc)
-    task_names a (suc (suc (suc (suc (suc (suc (suc (suc zero)))))))) q at is =
+    value_names a (suc (suc (suc (suc (suc (suc (suc (suc zero)))))))) q at is =
         absurd (let same : place_at task_record TaskEnter 0 ≡ q = cc in let none = ap (λ x. has (named_at w words x) a) same ∙ is in cc)
-    task_names a (suc (suc (suc (suc (suc (suc (suc (suc (suc zero))))))))) q at is =
+    value_names a (suc (suc (suc (suc (suc (suc (suc (suc (suc zero))))))))) q at is =
         absurd (let same : place_at task_record TaskDynamic 0 ≡ q = cc in let none = ap (λ x. has (named_at w words x) a) same ∙ is in cc)
-    task_names a (suc (suc (suc (suc (suc (suc (suc (suc (suc (suc zero)))))))))) q at is =
+    value_names a (suc (suc (suc (suc (suc (suc (suc (suc (suc (suc zero)))))))))) q at is =
         absurd (let same : place_at task_record TaskNthreadsLength 0 ≡ q = cc in let none = ap (λ x. has (named_at w words x) a) same ∙ is in cc)
-    task_names a (suc (suc (suc (suc (suc (suc (suc (suc (suc (suc (suc zero))))))))))) q at is =
+    value_names a (suc (suc (suc (suc (suc (suc (suc (suc (suc (suc (suc zero))))))))))) q at is =
         absurd (let same : place_at task_record TaskSchedule 0 ≡ q = cc in let none = ap (λ x. has (named_at w words x) a) same ∙ is in cc)
-    task_names a (suc (suc (suc (suc (suc (suc (suc (suc (suc (suc (suc (suc zero)))))))))))) q at is =
+    value_names a (suc (suc (suc (suc (suc (suc (suc (suc (suc (suc (suc (suc zero)))))))))))) q at is =
         absurd (let same : place_at task_record TaskDevice 0 ≡ q = cc in let none = ap (λ x. has (named_at w words x) a) same ∙ is in cc)
-    task_names a (suc (suc (suc (suc (suc (suc (suc (suc (suc (suc (suc (suc (suc zero))))))))))))) q at is =
+    value_names a (suc (suc (suc (suc (suc (suc (suc (suc (suc (suc (suc (suc (suc zero))))))))))))) q at is =
         absurd (let same : place_at task_record TaskFinal 0 ≡ q = cc in let none = ap (λ x. has (named_at w words x) a) same ∙ is in cc)
-    task_names a (suc (suc (suc (suc (suc (suc (suc (suc (suc (suc (suc (suc (suc (suc zero)))))))))))))) q at is =
+    value_names a (suc (suc (suc (suc (suc (suc (suc (suc (suc (suc (suc (suc (suc (suc zero)))))))))))))) q at is =
         absurd (let same : place_at task_record TaskTool 0 ≡ q = cc in let none = ap (λ x. has (named_at w words x) a) same ∙ is in cc)
-    task_names a (suc (suc (suc (suc (suc (suc (suc (suc (suc (suc (suc (suc (suc (suc (suc j))))))))))))))) q at is =
+    value_names a (suc (suc (suc (suc (suc (suc (suc (suc (suc (suc (suc (suc (suc (suc (suc j))))))))))))))) q at is =
         let m = element_at_place j q at in
         absurd (let none = ap (λ x. has (named_at w words x) a) m.place ∙ is in cc)
 
+    -- the words for its group and for its open groups, by whether the layout has them
+    abbrev groups_by : Bool → List Place
+    groups_by b = cond b (place_at task_record TaskSlots GROUP_PLACE ∷ place_at task_record TaskSlots OPEN_PLACE ∷ []) []
+
+    group_code_is : version w == GROUP_VERSION ≡ true → (at word : ℕ) → at < OWN_SLOTS + GROUP_WORDS
+        → group_code w (task_told seen.task) at ≡ Some word → word_at w words (place_at task_record TaskSlots at) ≡ Some word
+    group_code_is known at word low is =
+        task_word_is TaskSlots at word refl
+        (ap (λ b. cond (nat_lt at (cond b (OWN_SLOTS + GROUP_WORDS) OWN_SLOTS)) (group_code w (task_told seen.task) at) None) known
+        ∙ ap (λ b. cond b (group_code w (task_told seen.task) at) None) (le-leb (suc at) (OWN_SLOTS + GROUP_WORDS) low) ∙ is)
+
+    -- its group is one of a visible task
+    group_right : (g : Group) → seen.task.group ≡ Some g → (g.index < OPEN_GROUPS) × IsVisibleTask s g.owner
+    group_right g is = (
+      ((groups_right p events s reaches_it k seen.task seen.live).member g is).index,
+      ((formed w words valid p events s reaches_it shows).tasks k seen).owner g is,
+    )
+
+    owner_seen : (o : Option Group) → ((g : Group) → o ≡ Some g → (g.index < OPEN_GROUPS) × IsVisibleTask s g.owner) → (a : ℕ)
+        → led_to TaskSlots (group_word w o) ≡ a → is_some (live_at w words tasks a) ≡ true → IsSeen w words valid p events s reaches_it shows a
+    owner_seen None each a is live =
+        absurd (let no = sym (dead w words valid p events s reaches_it shows tasks kind_4) ∙ ap (λ x. is_some (live_at w words tasks x)) is ∙ live in cc)
+    owner_seen (Some g) each a is live = inr (g.owner, (each g refl).1, sym is ∙ owner_led w valid g (each g refl).0)
+
+    group_names : (a j : ℕ) (q : Place) (b : Bool) → version w == GROUP_VERSION ≡ b → slice_get (groups_by b) j ≡ Some q
+        → has (named_at w words q) a ≡ true → IsSeen w words valid p events s reaches_it shows a
+    group_names a j q false known at is = absurd (cc)
+    group_names a zero q true known at is =
+        let same : place_at task_record TaskSlots GROUP_PLACE ≡ q = cc in
+        let (v, word, led, live) = led_word w words (place_at task_record TaskSlots GROUP_PLACE) tasks a refl (ap (λ x. has (named_at w words x) a) same ∙ is) in
+        let code =
+        same_word w words valid p events s reaches_it shows (place_at task_record TaskSlots GROUP_PLACE) (group_word w seen.task.group) v
+        (group_code_is known GROUP_PLACE (group_word w seen.task.group) (omega arith) refl) word in
+        owner_seen seen.task.group group_right a (ap (led_to TaskSlots) code ∙ led) live
+    group_names a (suc zero) q true known at is =
+        absurd (let same : place_at task_record TaskSlots OPEN_PLACE ≡ q = cc in let none = ap (λ x. has (named_at w words x) a) same ∙ is in cc)
+    group_names a (suc (suc j)) q true known at is = absurd (cc)
+
+    task_names : (a j : ℕ) (q : Place) → slice_get (task_places w words task_record) j ≡ Some q → has (named_at w words q) a ≡ true
+        → IsSeen w words valid p events s reaches_it shows a
+    task_names a j q at is = elim (in_either (value_places w words task_record) (group_places w words task_record) j q at) [
+      | inl value ↦ value_names a j q value is
+      | inr group ↦ group_names a group.0 q (version w == GROUP_VERSION) refl group.1 is
+    ]
+
+    group_may : (o : Option Group) → ((g : Group) → o ≡ Some g → (g.index < OPEN_GROUPS) × IsVisibleTask s g.owner)
+        → clause_4 w words TaskSlots GROUP_PLACE (group_word w o) ≡ true
+    group_may None each = none_may w words TaskSlots GROUP_PLACE tasks 0 refl refl refl
+    group_may (Some g) each =
+        live_may w words TaskSlots GROUP_PLACE tasks (group_word w (Some g)) refl
+        (ap (λ x. is_some (live_at w words tasks x)) (owner_led w valid g (each g refl).0)
+        ∙ task_live w words valid p events s reaches_it shows g.owner (each g refl).1)
+
+    group_clear : (j : ℕ) (q : Place) (b : Bool) → version w == GROUP_VERSION ≡ b → slice_get (groups_by b) j ≡ Some q → refused_at w words 0 q ≡ []
+    group_clear j q false known at = absurd (cc)
+    group_clear zero q true known at =
+        let same : place_at task_record TaskSlots GROUP_PLACE ≡ q = cc in
+        subst (λ x. refused_at w words 0 x ≡ []) same
+        (no_refusal w words 0 (place_at task_record TaskSlots GROUP_PLACE) (group_word w seen.task.group)
+        (group_code_is known GROUP_PLACE (group_word w seen.task.group) (omega arith) refl) refl refl (group_may seen.task.group group_right) refl refl)
+    group_clear (suc zero) q true known at =
+        let same : place_at task_record TaskSlots OPEN_PLACE ≡ q = cc in
+        subst (λ x. refused_at w words 0 x ≡ []) same
+        (no_refusal w words 0 (place_at task_record TaskSlots OPEN_PLACE) seen.task.open_groups
+        (group_code_is known OPEN_PLACE seen.task.open_groups (omega arith) refl) refl refl refl refl
+        (low_test seen.task.open_groups OPEN_GROUPS (groups_right p events s reaches_it k seen.task seen.live).few))
+    group_clear (suc (suc j)) q true known at = absurd (cc)
+
     -- no word of it is refused
     module _ (r : TaskRanges s seen.task) where
-      task_clear : (j : ℕ) (q : Place) → slice_get (task_places w words task_record) j ≡ Some q → refused_at w words 0 q ≡ []
-      task_clear zero q at =
+      value_clear : (j : ℕ) (q : Place) → slice_get (value_places w words task_record) j ≡ Some q → refused_at w words 0 q ≡ []
+      value_clear zero q at =
           let same : place_at task_record TaskImplicit 0 ≡ q = cc in
           subst (λ x. refused_at w words 0 x ≡ []) same
           (no_refusal w words 0 (place_at task_record TaskImplicit 0) _ (task_word_is TaskImplicit 0 _ refl refl) refl refl refl refl (flag_test seen.task.implicit))
-      task_clear (suc zero) q at =
+      value_clear (suc zero) q at =
           let same : place_at task_record TaskRegion 0 ≡ q = cc in
           subst (λ x. refused_at w words 0 x ≡ []) same
           (no_refusal w words 0 (place_at task_record TaskRegion 0) _ (task_word_is TaskRegion 0 _ refl refl) refl refl
-          (live_may w words TaskRegion regions (region_address w seen.task.region) refl
+          (live_may w words TaskRegion 0 regions (region_address w seen.task.region) refl
           (region_live w words valid p events s reaches_it shows seen.task.region ((formed w words valid p events s reaches_it shows).tasks k seen).region)) refl refl)
-      task_clear (suc (suc zero)) q at =
+      value_clear (suc (suc zero)) q at =
           let same : place_at task_record TaskThread 0 ≡ q = cc in
           subst (λ x. refused_at w words 0 x ≡ []) same
           (no_refusal w words 0 (place_at task_record TaskThread 0) _ (task_word_is TaskThread 0 _ refl refl) refl refl
-          (live_may w words TaskThread threads (thread_address w seen.task.thread) refl
+          (live_may w words TaskThread 0 threads (thread_address w seen.task.thread) refl
           (lives_live w words threads (thread_address w seen.task.thread) 1
           (thread_lives w words s valid shows seen.task.thread ((formed w words valid p events s reaches_it shows).tasks k seen).begun))) refl refl)
-      task_clear (suc (suc (suc zero))) q at =
+      value_clear (suc (suc (suc zero))) q at =
           let same : place_at task_record TaskNumber 0 ≡ q = cc in
           let low = r.number in
           let all = count in
           subst (λ x. refused_at w words 0 x ≡ []) same
           (no_refusal w words 0 (place_at task_record TaskNumber 0) _ (task_word_is TaskNumber 0 _ refl refl) refl refl refl refl
           (le-leb (suc seen.task.number) (thread_count w) (omega (arith, low, all))))
-      task_clear (suc (suc (suc (suc zero)))) q at =
+      value_clear (suc (suc (suc (suc zero)))) q at =
           let same : place_at task_record TaskGenerating 0 ≡ q = cc in
           subst (λ x. refused_at w words 0 x ≡ []) same
           (no_refusal w words 0 (place_at task_record TaskGenerating 0) _ (task_word_is TaskGenerating 0 _ refl refl) refl refl
-          (task_may w words valid p events s reaches_it shows TaskGenerating seen.task.generating refl refl ((formed w words valid p events s reaches_it shows).tasks k seen).generating) refl refl)
-      task_clear (suc (suc (suc (suc (suc zero))))) q at =
+          (task_may w words valid p events s reaches_it shows TaskGenerating seen.task.generating refl refl (λ v. refl) ((formed w words valid p events s reaches_it shows).tasks k seen).generating) refl refl)
+      value_clear (suc (suc (suc (suc (suc zero))))) q at =
           let same : place_at task_record TaskScheduling 0 ≡ q = cc in
           subst (λ x. refused_at w words 0 x ≡ []) same
           (no_refusal w words 0 (place_at task_record TaskScheduling 0) _ (task_word_is TaskScheduling 0 _ refl refl) refl refl
-          (task_may w words valid p events s reaches_it shows TaskScheduling seen.task.scheduling refl refl ((formed w words valid p events s reaches_it shows).tasks k seen).scheduling) refl refl)
-      task_clear (suc (suc (suc (suc (suc (suc zero)))))) q at =
+          (task_may w words valid p events s reaches_it shows TaskScheduling seen.task.scheduling refl refl (λ v. refl) ((formed w words valid p events s reaches_it shows).tasks k seen).scheduling) refl refl)
+      value_clear (suc (suc (suc (suc (suc (suc zero)))))) q at =
           let same : place_at task_record TaskFunction 0 ≡ q = cc in
           subst (λ x. refused_at w words 0 x ≡ []) same
           (no_refusal w words 0 (place_at task_record TaskFunction 0) _ (task_word_is TaskFunction 0 _ refl refl) refl refl refl refl (entry_test seen.task.function r.function))
-      task_clear (suc (suc (suc (suc (suc (suc (suc zero))))))) q at =
+      value_clear (suc (suc (suc (suc (suc (suc (suc zero))))))) q at =
           let same : place_at task_record TaskExit 0 ≡ q = cc in
           subst (λ x. refused_at w words 0 x ≡ []) same
           (no_refusal w words 0 (place_at task_record TaskExit 0) _ (task_word_is TaskExit 0 _ refl refl) refl refl refl refl refl)
-      task_clear (suc (suc (suc (suc (suc (suc (suc (suc zero)))))))) q at =
+      value_clear (suc (suc (suc (suc (suc (suc (suc (suc zero)))))))) q at =
           let same : place_at task_record TaskEnter 0 ≡ q = cc in
           subst (λ x. refused_at w words 0 x ≡ []) same
           (no_refusal w words 0 (place_at task_record TaskEnter 0) _ (task_word_is TaskEnter 0 _ refl refl) refl refl refl refl refl)
-      task_clear (suc (suc (suc (suc (suc (suc (suc (suc (suc zero))))))))) q at =
+      value_clear (suc (suc (suc (suc (suc (suc (suc (suc (suc zero))))))))) q at =
           let same : place_at task_record TaskDynamic 0 ≡ q = cc in
           subst (λ x. refused_at w words 0 x ≡ []) same
           (no_refusal w words 0 (place_at task_record TaskDynamic 0) _ (task_word_is TaskDynamic 0 _ refl refl) refl refl refl refl (flag_test seen.task.variables.dynamic))
-      task_clear (suc (suc (suc (suc (suc (suc (suc (suc (suc (suc zero)))))))))) q at =
+      value_clear (suc (suc (suc (suc (suc (suc (suc (suc (suc (suc zero)))))))))) q at =
           let same : place_at task_record TaskNthreadsLength 0 ≡ q = cc in
           subst (λ x. refused_at w words 0 x ≡ []) same
           (no_refusal w words 0 (place_at task_record TaskNthreadsLength 0) _ (task_word_is TaskNthreadsLength 0 _ refl refl) refl
           refl refl refl (between_test 1 (length seen.task.variables.nthreads) MAX_SIZES ((formed w words valid p events s reaches_it shows).tasks k seen).variables.some
           ((formed w words valid p events s reaches_it shows).tasks k seen).variables.few))
-      task_clear (suc (suc (suc (suc (suc (suc (suc (suc (suc (suc (suc zero))))))))))) q at =
+      value_clear (suc (suc (suc (suc (suc (suc (suc (suc (suc (suc (suc zero))))))))))) q at =
           let same : place_at task_record TaskSchedule 0 ≡ q = cc in
           let kind_from = ((formed w words valid p events s reaches_it shows).tasks k seen).variables.kind_from in
           let kind_to = ((formed w words valid p events s reaches_it shows).tasks k seen).variables.kind_to in
           subst (λ x. refused_at w words 0 x ≡ []) same
           (no_refusal w words 0 (place_at task_record TaskSchedule 0) _ (task_word_is TaskSchedule 0 _ refl refl) refl refl refl
           refl (schedule_test seen.task.variables.schedule kind_from kind_to r.variables.chunk))
-      task_clear (suc (suc (suc (suc (suc (suc (suc (suc (suc (suc (suc (suc zero)))))))))))) q at =
+      value_clear (suc (suc (suc (suc (suc (suc (suc (suc (suc (suc (suc (suc zero)))))))))))) q at =
           let same : place_at task_record TaskDevice 0 ≡ q = cc in
           subst (λ x. refused_at w words 0 x ≡ []) same
           (no_refusal w words 0 (place_at task_record TaskDevice 0) _ (task_word_is TaskDevice 0 _ refl refl) refl refl refl refl (low_test seen.task.variables.device MAX_DEVICE r.variables.device))
-      task_clear (suc (suc (suc (suc (suc (suc (suc (suc (suc (suc (suc (suc (suc zero))))))))))))) q at =
+      value_clear (suc (suc (suc (suc (suc (suc (suc (suc (suc (suc (suc (suc (suc zero))))))))))))) q at =
           let same : place_at task_record TaskFinal 0 ≡ q = cc in
           subst (λ x. refused_at w words 0 x ≡ []) same
           (no_refusal w words 0 (place_at task_record TaskFinal 0) _ (task_word_is TaskFinal 0 _ refl refl) refl refl refl refl (flag_test seen.task.is_final))
-      task_clear (suc (suc (suc (suc (suc (suc (suc (suc (suc (suc (suc (suc (suc (suc zero)))))))))))))) q at =
+      value_clear (suc (suc (suc (suc (suc (suc (suc (suc (suc (suc (suc (suc (suc (suc zero)))))))))))))) q at =
           let same : place_at task_record TaskTool 0 ≡ q = cc in
           subst (λ x. refused_at w words 0 x ≡ []) same
           (no_refusal w words 0 (place_at task_record TaskTool 0) _ (task_word_is TaskTool 0 _ refl refl) refl refl refl refl refl)
-      task_clear (suc (suc (suc (suc (suc (suc (suc (suc (suc (suc (suc (suc (suc (suc (suc j))))))))))))))) q at =
+      value_clear (suc (suc (suc (suc (suc (suc (suc (suc (suc (suc (suc (suc (suc (suc (suc j))))))))))))))) q at =
           let m = element_at_place j q at in
           let sizes = r.variables.sizes m.at (slice_get_within seen.task.variables.nthreads m.at m.size m.there) in
           let size : slice_index seen.task.variables.nthreads m.at ≡ m.size = get_or_from_slice_get seen.task.variables.nthreads m.at m.size 0 m.there in
@@ -397,6 +470,12 @@ module _ (w : List ℕ) (words : Words) (valid : IsValid w) (p : Program) (event
           subst (λ x. refused_at w words 0 x ≡ []) m.place
           (no_refusal w words 0 (place_at task_record TaskNthreads m.at) m.size (task_word_is TaskNthreads m.at m.size refl m.there) refl refl refl refl
           (between_test 1 m.size MAX_SIZE (omega (arith, low, size)) (omega (arith, high, size))))
+
+      task_clear : (j : ℕ) (q : Place) → slice_get (task_places w words task_record) j ≡ Some q → refused_at w words 0 q ≡ []
+      task_clear j q at = elim (in_either (value_places w words task_record) (group_places w words task_record) j q at) [
+        | inl value ↦ value_clear j q value
+        | inr group ↦ group_clear group.0 q (version w == GROUP_VERSION) refl group.1
+      ]
 
     -- the next task of its chain
     next_task : next_in_chain w words task_record ≡ option_map (task_address w) seen.task.scheduling
@@ -460,7 +539,7 @@ module _ (w : List ℕ) (words : Words) (valid : IsValid w) (p : Program) (event
         absurd (let same : place_at thread_record ThreadNative 0 ≡ q = cc in let none = ap (λ x. has (named_at w words x) a) same ∙ is in cc)
     thread_names a (suc (suc zero)) q true begun at is =
         let same : place_at thread_record ThreadCurrent 0 ≡ q = cc in
-        let by = named_word w words (place_at thread_record ThreadCurrent 0) tasks a refl (ap (λ x. has (named_at w words x) a) same ∙ is) in
+        let by = named_word w words (place_at thread_record ThreadCurrent 0) tasks a refl (λ v. refl) (ap (λ x. has (named_at w words x) a) same ∙ is) in
         seen_task w words valid p events s reaches_it shows (s.threads i).current (λ k e. (formed w words valid p events s reaches_it shows).currents i k known e) a
         (same_word w words valid p events s reaches_it shows (place_at thread_record ThreadCurrent 0) _ a (thread_word_is begun ThreadCurrent 0 _ refl refl) by.0) by.1
     thread_names a (suc (suc (suc zero))) q true begun at is =
@@ -481,7 +560,7 @@ module _ (w : List ℕ) (words : Words) (valid : IsValid w) (p : Program) (event
         let same : place_at thread_record ThreadCurrent 0 ≡ q = cc in
         subst (λ x. refused_at w words i x ≡ []) same
         (no_refusal w words i (place_at thread_record ThreadCurrent 0) _ (thread_word_is begun ThreadCurrent 0 _ refl refl) refl refl
-        (task_may w words valid p events s reaches_it shows ThreadCurrent (s.threads i).current refl refl (λ k e. (formed w words valid p events s reaches_it shows).currents i k known e)) refl refl)
+        (task_may w words valid p events s reaches_it shows ThreadCurrent (s.threads i).current refl refl (λ v. refl) (λ k e. (formed w words valid p events s reaches_it shows).currents i k known e)) refl refl)
     thread_clear (suc (suc (suc zero))) q true begun at =
         let same : place_at thread_record ThreadState 0 ≡ q = cc in
         let own = in_ranges p events s reaches_it in

@@ -36,7 +36,7 @@ use Rattle.omi_rep.proofs.LiveObjects.{Lives, region_lives, task_lives}
 use Rattle.omi_session.proofs.NamesReached.{reached_are_names}
 use Rattle.omi_audit.specs.declared.verdict.Verdict.{Verdict}
 use Rattle.omi_audit.specs.declared.verdict.Verdict.TheVariants.{No}
-use Rattle.omi_audit.specs.Clauses.{leads_to, may_be_none, clause_2, clause_3, clause_4, clause_5, clause_6, failing, is_flag, is_entry, is_state}
+use Rattle.omi_audit.specs.Clauses.{leads_to, led_to, may_be_none, clause_2, clause_3, clause_4, clause_5, clause_6, failing, pointer_clause, is_flag, is_entry, is_state}
 use Rattle.omi_audit.specs.Search.{Place, word_at, named_at}
 use Rattle.omi_audit.specs.Verdicts.{refused_at}
 use Rattle.omi_audit.proofs.Chained.{none_at}
@@ -109,42 +109,54 @@ place_named names (x ∷ xs) a is =
     ]
 
 module _ (w : List ℕ) (words : Words) where
-  -- the word at a place is the one that is named
-  pub named_word : (p : Place) (kind a : ℕ) → leads_to p.field ≡ Some kind → has (named_at w words p) a ≡ true
-      → (word_at w words p ≡ Some a) × (is_some (live_at w words kind a) ≡ true)
-  named_word p kind a leads is = go (kind == threads) (ap (λ o. has (option_map_or (named w words p) o []) a) (sym leads) ∙ is)
+  -- the word at a place leads to the one that is named
+  pub led_word : (p : Place) (kind a : ℕ) → leads_to p.field p.at ≡ Some kind → has (named_at w words p) a ≡ true
+      → (v : ℕ) × (word_at w words p ≡ Some v) × (led_to p.field v ≡ a) × (is_some (live_at w words kind a) ≡ true)
+  led_word p kind a leads is = go (kind == threads) (ap (λ o. has (option_map_or (named w words p) o []) a) (sym leads) ∙ is)
     where
-      word : (o : Option ℕ) → has (option_map_or (λ x. x ∷ []) o []) a ≡ true → o ≡ Some a
+      word : (o : Option ℕ) → has (option_map_or (λ x. led_to p.field x ∷ []) o []) a ≡ true
+          → (v : ℕ) × (o ≡ Some v) × (led_to p.field v ≡ a)
       word None e = absurd (cc)
-      word (Some v) e = elim (or_cases (a == v) false e) [
-        | inl same ↦ ap (λ (x : ℕ). Some x) (sym (eqb-true a v same))
+      word (Some v) e = elim (or_cases (a == led_to p.field v) false e) [
+        | inl same ↦ (v, refl, sym (eqb-true a (led_to p.field v) same))
         | inr never ↦ absurd (let no : false ≡ true = never in cc)
       ]
 
       go : (b : Bool) → has (cond b [] (filter (λ x. is_some (live_at w words kind x)) (found w words p))) a ≡ true
-          → (word_at w words p ≡ Some a) × (is_some (live_at w words kind a) ≡ true)
+          → (v : ℕ) × (word_at w words p ≡ Some v) × (led_to p.field v ≡ a) × (is_some (live_at w words kind a) ≡ true)
       go true e = absurd (cc)
-      go false e = (let both = has_filter (λ x. is_some (live_at w words kind x)) (found w words p) a e in (word (word_at w words p) both.0, both.1))
+      go false e =
+          let both = has_filter (λ x. is_some (live_at w words kind x)) (found w words p) a e in
+          let (v, at, led) = word (word_at w words p) both.0 in
+          (v, at, led, both.1)
+
+  -- in a field whose words are addresses it is the one that is named
+  pub named_word : (p : Place) (kind a : ℕ) → leads_to p.field p.at ≡ Some kind → ((v : ℕ) → led_to p.field v ≡ v)
+      → has (named_at w words p) a ≡ true → (word_at w words p ≡ Some a) × (is_some (live_at w words kind a) ≡ true)
+  named_word p kind a leads plain is =
+      let (v, at, led, live) = led_word p kind a leads is in
+      (at ∙ ap (λ (x : ℕ). Some x) (sym (plain v) ∙ led), live)
 
   -- the clauses that fail, by whether each holds
-  abbrev those : Bool → Bool → Bool → Bool → Bool → List ℕ
-  those a b c d e =
-      map (λ (clause : ℕ × Bool). clause.0) (filter (λ (clause : ℕ × Bool). not clause.1) ((2, a) ∷ (3, b) ∷ (4, c) ∷ (5, d) ∷ (6, e) ∷ []))
+  abbrev those : ℕ → Bool → Bool → Bool → Bool → Bool → List ℕ
+  those n a b c d e =
+      map (λ (clause : ℕ × Bool). clause.0) (filter (λ (clause : ℕ × Bool). not clause.1) ((2, a) ∷ (3, b) ∷ (n, c) ∷ (5, d) ∷ (6, e) ∷ []))
 
   abbrev refusal : Place → ℕ → Verdict
   refusal p clause = No (p.address + 8 * (offset w (number p.field) + p.at)) (number p.field) clause
 
   -- a word of which every clause holds is not refused
   pub no_refusal : (i : ℕ) (p : Place) (v : ℕ) → word_at w words p ≡ Some v → clause_2 w p.field v ≡ true → clause_3 i p.field v ≡ true
-      → clause_4 w words p.field v ≡ true → clause_5 w p.field v ≡ true → clause_6 w p.field v ≡ true → refused_at w words i p ≡ []
+      → clause_4 w words p.field p.at v ≡ true → clause_5 w p.field v ≡ true → clause_6 w p.field p.at v ≡ true → refused_at w words i p ≡ []
   no_refusal i p v word second third fourth fifth sixth =
-      ap (λ o. map (refusal p) (option_map_or (failing w words i p.field) o (1 ∷ []))) word
+      let n = pointer_clause p.field in
+      ap (λ o. map (refusal p) (option_map_or (failing w words i p.field p.at) o (1 ∷ []))) word
       ∙ ap (map (refusal p))
-      (ap (λ b. those b (clause_3 i p.field v) (clause_4 w words p.field v) (clause_5 w p.field v) (clause_6 w p.field v)) second
-      ∙ ap (λ b. those true b (clause_4 w words p.field v) (clause_5 w p.field v) (clause_6 w p.field v)) third
-      ∙ ap (λ b. those true true b (clause_5 w p.field v) (clause_6 w p.field v)) fourth
-      ∙ ap (λ b. those true true true b (clause_6 w p.field v)) fifth
-      ∙ ap (λ b. those true true true true b) sixth)
+      (ap (λ b. those n b (clause_3 i p.field v) (clause_4 w words p.field p.at v) (clause_5 w p.field v) (clause_6 w p.field p.at v)) second
+      ∙ ap (λ b. those n true b (clause_4 w words p.field p.at v) (clause_5 w p.field v) (clause_6 w p.field p.at v)) third
+      ∙ ap (λ b. those n true true b (clause_5 w p.field v) (clause_6 w p.field p.at v)) fourth
+      ∙ ap (λ b. those n true true true b (clause_6 w p.field p.at v)) fifth
+      ∙ ap (λ b. those n true true true true b) sixth)
 
   -- what lives is live
   pub lives_live : (kind a life : ℕ) → Lives w words kind a life → is_some (live_at w words kind a) ≡ true
@@ -159,14 +171,16 @@ module _ (w : List ℕ) (words : Words) where
           ∙ ap (λ b. is_some {T = Id} (cond b (Some (record { creator = at.0; slot = at.1; generation = life / 2 })) None)) lives.live
 
   -- a pointer to what lives may stand in its field, and so may none
-  pub live_may : (f : Field) (kind v : ℕ) → leads_to f ≡ Some kind → is_some (live_at w words kind v) ≡ true → clause_4 w words f v ≡ true
-  live_may f kind v leads live =
-      ap (λ o. option_map_or (λ one. (may_be_none f && v == 0) || is_some (live_at w words one v)) o true) leads ∙ or_second (may_be_none f && v == 0) (is_some (live_at w words kind v)) live
+  pub live_may : (f : Field) (at kind v : ℕ) → leads_to f at ≡ Some kind → is_some (live_at w words kind (led_to f v)) ≡ true
+      → clause_4 w words f at v ≡ true
+  live_may f at kind v leads live =
+      ap (λ o. option_map_or (λ one. (may_be_none f && v == 0) || is_some (live_at w words one (led_to f v))) o true) leads
+      ∙ or_second (may_be_none f && v == 0) (is_some (live_at w words kind (led_to f v))) live
 
-  pub none_may : (f : Field) (kind v : ℕ) → leads_to f ≡ Some kind → may_be_none f ≡ true → v ≡ 0 → clause_4 w words f v ≡ true
-  none_may f kind v leads may none =
-      ap (λ o. option_map_or (λ one. (may_be_none f && v == 0) || is_some (live_at w words one v)) o true) leads
-      ∙ or_first (may_be_none f && v == 0) (is_some (live_at w words kind v)) (ap (λ b. b && v == 0) may ∙ eq-eqb v 0 none)
+  pub none_may : (f : Field) (at kind v : ℕ) → leads_to f at ≡ Some kind → may_be_none f ≡ true → v ≡ 0 → clause_4 w words f at v ≡ true
+  none_may f at kind v leads may none =
+      ap (λ o. option_map_or (λ one. (may_be_none f && v == 0) || is_some (live_at w words one (led_to f v))) o true) leads
+      ∙ or_first (may_be_none f && v == 0) (is_some (live_at w words kind (led_to f v))) (ap (λ b. b && v == 0) may ∙ eq-eqb v 0 none)
 
 -- ---- a state that the words show
 
@@ -206,15 +220,19 @@ module _ (w : List ℕ) (words : Words) (valid : IsValid w) (p : Program) (event
   seen_task None each a is live = absurd (let no = sym (dead tasks kind_4) ∙ ap (λ x. is_some (live_at w words tasks x)) is ∙ live in cc)
   seen_task (Some k) each a is live = inr (k, each k refl, sym is)
 
-  pub region_may : (f : Field) (o : Option Rid) → leads_to f ≡ Some regions → may_be_none f ≡ true
-      → ((n : Rid) → o ≡ Some n → IsVisibleRegion s n) → clause_4 w words f (region_word w o) ≡ true
-  region_may f None leads may each = none_may w words f regions 0 leads may refl
-  region_may f (Some n) leads may each = live_may w words f regions (region_address w n) leads (region_live n (each n refl))
+  pub region_may : (f : Field) (o : Option Rid) → leads_to f 0 ≡ Some regions → may_be_none f ≡ true → ((v : ℕ) → led_to f v ≡ v)
+      → ((n : Rid) → o ≡ Some n → IsVisibleRegion s n) → clause_4 w words f 0 (region_word w o) ≡ true
+  region_may f None leads may plain each = none_may w words f 0 regions 0 leads may refl
+  region_may f (Some n) leads may plain each =
+      live_may w words f 0 regions (region_address w n) leads
+      (ap (λ x. is_some (live_at w words regions x)) (plain (region_address w n)) ∙ region_live n (each n refl))
 
-  pub task_may : (f : Field) (o : Option Tid) → leads_to f ≡ Some tasks → may_be_none f ≡ true
-      → ((k : Tid) → o ≡ Some k → IsVisibleTask s k) → clause_4 w words f (task_word w o) ≡ true
-  task_may f None leads may each = none_may w words f tasks 0 leads may refl
-  task_may f (Some k) leads may each = live_may w words f tasks (task_address w k) leads (task_live k (each k refl))
+  pub task_may : (f : Field) (o : Option Tid) → leads_to f 0 ≡ Some tasks → may_be_none f ≡ true → ((v : ℕ) → led_to f v ≡ v)
+      → ((k : Tid) → o ≡ Some k → IsVisibleTask s k) → clause_4 w words f 0 (task_word w o) ≡ true
+  task_may f None leads may plain each = none_may w words f 0 tasks 0 leads may refl
+  task_may f (Some k) leads may plain each =
+      live_may w words f 0 tasks (task_address w k) leads
+      (ap (λ x. is_some (live_at w words tasks x)) (plain (task_address w k)) ∙ task_live k (each k refl))
 
   pub same_word : (q : Place) (x a : ℕ) → word_at w words q ≡ Some x → word_at w words q ≡ Some a → x ≡ a
   same_word q x a first second = let both : Some x ≡ Some a = sym first ∙ second in cc

@@ -7,15 +7,16 @@ use Rattle.std.proofs.Math.Nat.{suc-mul}
 use Rattle.std.proofs.lemmas.List.{length-append, length-map}
 use Rattle.std.proofs.lemmas.List.FromFn.{length-range_with_len, length-map-range_with_len}
 use Rattle.omi_layout.specs.declared.field.Field.{Field}
-use Rattle.omi_layout.specs.declared.field.Field.TheVariants.{ThreadCurrent, RegionEnclosing, RegionEncountering, RegionTeam, TaskRegion, TaskThread, TaskGenerating, TaskScheduling}
+use Rattle.omi_layout.specs.declared.field.Field.TheVariants.{ThreadCurrent, RegionEnclosing, RegionEncountering, RegionTeam, TaskRegion, TaskThread, TaskGenerating, TaskScheduling, TaskSlots}
 use Rattle.omi_layout.specs.Field.{threads, regions, tasks}
 use Rattle.omi_layout.specs.Table.{thread_count, makers, per_thread}
 use Rattle.omi_layout.specs.Place.{slot_address}
+use Rattle.omi_layout.specs.declared.limits.TheConstants.{GROUP_PLACE}
 use Rattle.omi_word.specs.Words.{Words}
 use Rattle.omi_rep.specs.Look.{slot_list, slot_at, live_at}
 use Rattle.omi_rep.proofs.Lists.{here, later, either, in_map}
 use Rattle.omi_rep.proofs.Slots.{in_slots, slot_is}
-use Rattle.omi_audit.specs.Clauses.{leads_to}
+use Rattle.omi_audit.specs.Clauses.{leads_to, led_to}
 use Rattle.omi_audit.specs.Search.{Place, word_at, thread_places, record_places, named_at, named_by, current_tasks, met_within, all_records, reached}
 use Rattle.omi_audit.specs.Judged.{lives}
 use Rattle.omi_audit.specs.Promise.{IsReached, Current, Named, SearchIsWhole, SearchIsBreadthFirst}
@@ -63,17 +64,22 @@ each_named P next holds (x ∷ xs) a is =
     ]
 
 -- a field leads to one of the three kinds of objects
-pub kinds_led : (f : Field) (kind : ℕ) → leads_to f ≡ Some kind
+pub kinds_led : (f : Field) (at kind : ℕ) → leads_to f at ≡ Some kind
     → (kind ≡ threads) ⊎ ((kind ≡ regions) ⊎ (kind ≡ tasks))
-kinds_led ThreadCurrent kind is = inr (inr (let e : kind ≡ 4 = cc in e))
-kinds_led RegionEnclosing kind is = inr (inl (let e : kind ≡ 3 = cc in e))
-kinds_led RegionEncountering kind is = inr (inr (let e : kind ≡ 4 = cc in e))
-kinds_led RegionTeam kind is = inr (inr (let e : kind ≡ 4 = cc in e))
-kinds_led TaskRegion kind is = inr (inl (let e : kind ≡ 3 = cc in e))
-kinds_led TaskThread kind is = inl (let e : kind ≡ 2 = cc in e)
-kinds_led TaskGenerating kind is = inr (inr (let e : kind ≡ 4 = cc in e))
-kinds_led TaskScheduling kind is = inr (inr (let e : kind ≡ 4 = cc in e))
-kinds_led _ kind is = absurd (cc)
+kinds_led ThreadCurrent at kind is = inr (inr (let e : kind ≡ 4 = cc in e))
+kinds_led RegionEnclosing at kind is = inr (inl (let e : kind ≡ 3 = cc in e))
+kinds_led RegionEncountering at kind is = inr (inr (let e : kind ≡ 4 = cc in e))
+kinds_led RegionTeam at kind is = inr (inr (let e : kind ≡ 4 = cc in e))
+kinds_led TaskRegion at kind is = inr (inl (let e : kind ≡ 3 = cc in e))
+kinds_led TaskThread at kind is = inl (let e : kind ≡ 2 = cc in e)
+kinds_led TaskGenerating at kind is = inr (inr (let e : kind ≡ 4 = cc in e))
+kinds_led TaskScheduling at kind is = inr (inr (let e : kind ≡ 4 = cc in e))
+kinds_led TaskSlots at kind is = go (at == GROUP_PLACE) is
+  where
+    go : (b : Bool) → cond b (Some tasks) None ≡ Some kind → (kind ≡ threads) ⊎ ((kind ≡ regions) ⊎ (kind ≡ tasks))
+    go true some = inr (inr (let e : kind ≡ 4 = cc in e))
+    go false some = absurd (cc)
+kinds_led _ at kind is = absurd (cc)
 
 pub some_first : {A B : Type 0} (f : A → Option B) (o : Option A) → is_some (option_and_then f o) ≡ true
     → is_some o ≡ true
@@ -128,18 +134,18 @@ module _ (w : List ℕ) where
 
     -- the word at a place, and what it names of a kind
     abbrev pub found : Place → List ℕ
-    found p = option_map_or (λ word. word ∷ []) (word_at w words p) []
+    found p = option_map_or (λ word. led_to p.field word ∷ []) (word_at w words p) []
 
     abbrev pub named : Place → ℕ → List ℕ
     named p kind = cond (kind == threads) [] (filter (λ word. is_some (live_at w words kind word)) (found p))
 
     -- what is named lives
     pub named_lives : (p : Place) (a : ℕ) → has (named_at w words p) a ≡ true → lives w words a ≡ true
-    named_lives p a is = go (leads_to p.field) refl is
+    named_lives p a is = go (leads_to p.field p.at) refl is
       where
-        go : (o : Option ℕ) → leads_to p.field ≡ o → has (option_map_or (named p) o []) a ≡ true → lives w words a ≡ true
+        go : (o : Option ℕ) → leads_to p.field p.at ≡ o → has (option_map_or (named p) o []) a ≡ true → lives w words a ≡ true
         go None e is = absurd (cc)
-        go (Some kind) e is = elim (kinds_led p.field kind e) [
+        go (Some kind) e is = elim (kinds_led p.field p.at kind e) [
           | inl thread ↦ absurd (let none : has (named p threads) a ≡ true = ap (λ k. has (named p k) a) (sym thread) ∙ is in cc)
           | inr other ↦ elim other [
             | inl region ↦ or_first (is_some (live_at w words regions a)) (is_some (live_at w words tasks a))

@@ -22,7 +22,7 @@ use Rattle.omi_audit.specs.declared.stop.Stop.TheVariants.{Fails, Fault}
 use Rattle.omi_audit.specs.declared.verdict.AuditFault.{AuditFault}
 use Rattle.omi_audit.specs.declared.verdict.Verdict.{Verdict}
 use Rattle.omi_audit.specs.declared.verdict.Verdict.TheVariants.{Yes, No}
-use Rattle.omi_audit.specs.Clauses.{leads_to, failing}
+use Rattle.omi_audit.specs.Clauses.{leads_to, led_to, failing}
 use Rattle.omi_audit.specs.Found.{next_with, count_with}
 use Rattle.omi_audit.specs.Search.{Place, places_of, word_at, number_in, named_at, thread_places, record_places, named_by, first_ones, current_tasks, reached}
 use Rattle.omi_audit.specs.Verdicts.{chain_field, next_in_chain, refused_at}
@@ -67,7 +67,7 @@ KnowsThreads w s = length s.begun.items ≡ thread_count w
 
 -- one of these fields leads to a thread
 abbrev pub name_threads : List Field → Bool
-name_threads = list_any (λ f. option_map_or (λ kind. kind == threads) (leads_to f) false)
+name_threads = list_any (λ f. option_map_or (λ kind. kind == threads) (leads_to f 0) false)
 
 -- these are met, and this is kept of chains and of threads besides
 pub record Grows (named next : List ℕ) (started : List Bool) (old new : Search) : Type 0 where
@@ -101,8 +101,8 @@ module _ (w : List ℕ) (words : Words) where
   named_of kind word =
       if kind == threads then [] else filter (λ one. is_some (live_at w words kind one)) (word ∷ [])
 
-  abbrev pub named_by_word : Field → ℕ → List ℕ
-  named_by_word f word = option_map_or (λ kind. named_of kind word) (leads_to f) []
+  abbrev pub named_by_word : Field → ℕ → ℕ → List ℕ
+  named_by_word f at word = option_map_or (λ kind. named_of kind (led_to f word)) (leads_to f at) []
 
   -- whether a live record of a kind is at the address that a word holds. It is met there
   pub record IsLed (kind word : ℕ) (old new : Search) (led : Bool) : Type 0 where
@@ -110,9 +110,10 @@ module _ (w : List ℕ) (words : Words) where
     pub meets : Meets (named_of kind word) old new
 
   -- the first clause that fails at a word, if one does. Else what it names is met
-  pub record IsFailing (i : ℕ) (f : Field) (word : ℕ) (old new : Search) (failed : Option ℕ) : Type 0 where
-    pub is : failed ≡ slice_get (failing w words i f word) 0
-    pub meets : failed ≡ None → Meets (named_by_word f word) old new
+  pub record IsFailing (i : ℕ) (f : Field) (at word : ℕ) (old new : Search) (failed : Option ℕ)
+      : Type 0 where
+    pub is : failed ≡ slice_get (failing w words i f at word) 0
+    pub meets : failed ≡ None → Meets (named_by_word f at word) old new
 
   -- the word that was found at a place. What it names is met
   pub record IsJudged (p : Place) (old new : Search) (found : ℕ) : Type 0 where

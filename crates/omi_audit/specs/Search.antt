@@ -3,14 +3,15 @@ use Rattle.std.specs.Prelude.{◌==◌, ℕ, zero, suc, ◌+◌, ◌++◌, Bool,
 use Rattle.std.specs.Option.{option_map_or}
 use Rattle.std.specs.List.{range_with_len, flat_map, list_any}
 use Rattle.omi_layout.specs.declared.field.Field.{Field}
-use Rattle.omi_layout.specs.declared.field.Field.TheVariants.{RuntimeVersion, RuntimeThreads, RuntimeProcs, RuntimeDebug, RuntimeMaxActive, ThreadLife, ThreadNative, ThreadCurrent, ThreadState, RegionFunction, RegionEnclosing, RegionEncountering, RegionSize, RegionLevels, RegionActive, RegionTeam, TaskImplicit, TaskRegion, TaskThread, TaskNumber, TaskGenerating, TaskScheduling, TaskFunction, TaskExit, TaskEnter, TaskDynamic, TaskNthreadsLength, TaskSchedule, TaskDevice, TaskFinal, TaskTool, TaskNthreads}
+use Rattle.omi_layout.specs.declared.field.Field.TheVariants.{RuntimeVersion, RuntimeThreads, RuntimeProcs, RuntimeDebug, RuntimeMaxActive, ThreadLife, ThreadNative, ThreadCurrent, ThreadState, RegionFunction, RegionEnclosing, RegionEncountering, RegionSize, RegionLevels, RegionActive, RegionTeam, TaskImplicit, TaskRegion, TaskThread, TaskNumber, TaskGenerating, TaskScheduling, TaskFunction, TaskExit, TaskEnter, TaskDynamic, TaskNthreadsLength, TaskSchedule, TaskDevice, TaskFinal, TaskTool, TaskNthreads, TaskSlots}
+use Rattle.omi_layout.specs.declared.limits.TheConstants.{GROUP_PLACE, GROUP_VERSION, OPEN_PLACE}
 use Rattle.omi_layout.specs.Field.{threads, regions, tasks}
 use Rattle.omi_layout.specs.Named.{number}
-use Rattle.omi_layout.specs.Table.{thread_count, records}
+use Rattle.omi_layout.specs.Table.{thread_count, records, version}
 use Rattle.omi_word.specs.Words.{Words}
 use Rattle.omi_rep.specs.Look.{live_at, slot_at}
 use Rattle.omi_rep.specs.Records.{record_at, runtime_address, thread_address}
-use Rattle.omi_audit.specs.Clauses.{leads_to}
+use Rattle.omi_audit.specs.Clauses.{leads_to, led_to}
 
 -- a word of a record, by the record's address, the field, and the place in the field
 pub record Place : Type 0 where
@@ -63,13 +64,23 @@ module _ (w : List ℕ) (words : Words) where
       ++ elements_of address RegionTeam (number_in address RegionSize)
 
   -- exit, enter and tool may be any words, but are to be mapped
-  abbrev pub task_places : ℕ → List Place
-  task_places address =
+  abbrev pub value_places : ℕ → List Place
+  value_places address =
       places_of address
       (TaskImplicit ∷ TaskRegion ∷ TaskThread ∷ TaskNumber ∷ TaskGenerating ∷ TaskScheduling
       ∷ TaskFunction ∷ TaskExit ∷ TaskEnter ∷ TaskDynamic ∷ TaskNthreadsLength ∷ TaskSchedule
       ∷ TaskDevice ∷ TaskFinal ∷ TaskTool ∷ [])
       ++ elements_of address TaskNthreads (number_in address TaskNthreadsLength)
+
+  -- the group of a task and the number of its open groups, where the layout has words for them
+  abbrev pub group_places : ℕ → List Place
+  group_places address =
+      if version w == GROUP_VERSION
+      then record { address = address; field = TaskSlots; at = GROUP_PLACE }
+      ∷ record { address = address; field = TaskSlots; at = OPEN_PLACE } ∷ [] else []
+
+  abbrev pub task_places : ℕ → List Place
+  task_places address = value_places address ++ group_places address
 
   -- the address is that of a region's record
   abbrev pub is_region : ℕ → Bool
@@ -80,13 +91,14 @@ module _ (w : List ℕ) (words : Words) where
 
   -- ---- the search
 
-  -- the live region or task that the word at a place names
+  -- the live region or task that the word at a place names: of the word for a group, the task whose group it is
   abbrev pub named_at : Place → List ℕ
   named_at p =
       option_map_or
       (λ kind. if kind == threads then []
-      else filter (λ word. is_some (live_at w words kind word)) (option_map_or (λ word. word ∷ []) (word_at p) []))
-      (leads_to p.field) []
+      else filter (λ one. is_some (live_at w words kind one))
+      (option_map_or (λ word. led_to p.field word ∷ []) (word_at p) []))
+      (leads_to p.field p.at) []
 
   -- those that a record names, in the order of its fields
   abbrev pub named_by : ℕ → List ℕ

@@ -16,7 +16,7 @@ use Rattle.omi_audit.specs.Search.{Place, word_at, runtime_places, thread_places
 module _ (w : List ℕ) (words : Words) where
   -- the clauses that fail at a place: clause 1 where the word isn't mapped. `i` is the thread whose record has it
   abbrev pub failing_at : ℕ → Place → List ℕ
-  failing_at i p = option_map_or (failing w words i p.field) (word_at w words p) (1 ∷ [])
+  failing_at i p = option_map_or (failing w words i p.field p.at) (word_at w words p) (1 ∷ [])
 
   -- the refusals at a word name its address, its field and the clause
   abbrev pub refused_at : ℕ → Place → List Verdict

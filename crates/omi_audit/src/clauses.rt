@@ -8,10 +8,10 @@ ghost use Rattle.omi_word.specs.Words.{Words};
 ghost use Rattle.omi_audit.specs.Clauses as the;
 
 use omi_handle::Kind;
-use omi_layout::{Field, Layout};
+use omi_layout::{Field, GROUP_PLACE, Layout};
 use omi_numbers::{
-    AUTO, CHUNK_PLACE, OPENMP_VERSION, STATIC, entry_address, function_at, lock_wait, native_id,
-    state_name, state_of, wait_of,
+    AUTO, CHUNK_PLACE, OPEN_GROUPS, OPENMP_VERSION, STATIC, entry_address, function_at, lock_wait,
+    native_id, state_name, state_of, wait_of,
 };
 use omi_script::limits::{
     MAX_CHUNK, MAX_DEVICE, MAX_FUNCTIONS, MAX_LEVELS, MAX_LOCK, MAX_PROCS, MAX_SIZE, MAX_SIZES,
@@ -56,9 +56,9 @@ fn is_counted(word: u64, most: u64) -> bool
     1 <= word && word <= most
 }
 
-/// The kind of object to whose record a field points.
-pub fn leads_to(field: Field) -> Option<Kind>
-    ensures { option_map record_kind result ≡ the.leads_to field }
+/// The kind of object to whose record the word at a place of a field leads.
+pub fn leads_to(field: Field, at: u64) -> Option<Kind>
+    ensures { option_map record_kind result ≡ the.leads_to field at }
 {
     match field {
         Field::TaskThread => Some(Kind::Thread),
@@ -68,7 +68,28 @@ pub fn leads_to(field: Field) -> Option<Kind>
         | Field::RegionTeam
         | Field::TaskGenerating
         | Field::TaskScheduling => Some(Kind::Task),
+        Field::TaskSlots if at == u64::from(GROUP_PLACE) => Some(Kind::Task),
         _ => None,
+    }
+}
+
+/// The address to which a word in such a field leads: that of a task's record, of the word for a group of this task.
+pub fn led_to(field: Field, word: u64) -> u64
+    ensures { result ≡ the.led_to field word }
+{
+    match field {
+        Field::TaskSlots => word - word % u64::from(OPEN_GROUPS),
+        _ => word,
+    }
+}
+
+/// The number of the clause that such a word fails where it leads to no live record.
+pub fn pointer_clause(field: Field) -> u8
+    ensures { result ≡ the.pointer_clause field }
+{
+    match field {
+        Field::TaskSlots => 6,
+        _ => 4,
     }
 }
 
@@ -81,7 +102,8 @@ pub fn may_be_none(field: Field) -> bool
         | Field::RegionEnclosing
         | Field::RegionEncountering
         | Field::TaskGenerating
-        | Field::TaskScheduling => true,
+        | Field::TaskScheduling
+        | Field::TaskSlots => true,
         _ => false,
     }
 }
@@ -125,8 +147,8 @@ fn is_of_region(layout: &Layout, field: Field, word: u64) -> bool
 }
 
 /// Clause 6, of a task's record.
-fn is_of_task(layout: &Layout, field: Field, word: u64) -> bool
-    ensures { result ≡ the.clause_6 layout.now.table field word }
+fn is_of_task(layout: &Layout, field: Field, at: u64, word: u64) -> bool
+    ensures { result ≡ the.clause_6 layout.now.table field at word }
 {
     match field {
         Field::TaskImplicit | Field::TaskDynamic | Field::TaskFinal => is_flag(word),
@@ -136,16 +158,17 @@ fn is_of_task(layout: &Layout, field: Field, word: u64) -> bool
         Field::TaskSchedule => is_schedule(word),
         Field::TaskDevice => word <= u64::from(MAX_DEVICE),
         Field::TaskNthreads => is_counted(word, u64::from(MAX_SIZE)),
+        Field::TaskSlots => at == u64::from(GROUP_PLACE) || word <= u64::from(OPEN_GROUPS),
         _ => true,
     }
 }
 
-/// The number of the clause that fails at a word in a field that points to no record, if one does.
-pub fn failing(layout: &Layout, thread: u8, field: Field, word: u64) -> Option<u8>
-    ensures first { (words : Words) → the.leads_to field ≡ None
-        → result ≡ slice_get (the.failing layout.now.table words thread field word) 0 }
+/// The number of the clause that fails at a word that leads to no record, if one does.
+pub fn failing(layout: &Layout, thread: u8, field: Field, at: u64, word: u64) -> Option<u8>
+    ensures first { (words : Words) → the.leads_to field at ≡ None
+        → result ≡ slice_get (the.failing layout.now.table words thread field at word) 0 }
     ensures region { result ≡ None → the.clause_5 layout.now.table field word ≡ true }
-    ensures task { result ≡ None → the.clause_6 layout.now.table field word ≡ true }
+    ensures task { result ≡ None → the.clause_6 layout.now.table field at word ≡ true }
 {
     if !is_global(layout, field, word) {
         Some(2)
@@ -153,7 +176,7 @@ pub fn failing(layout: &Layout, thread: u8, field: Field, word: u64) -> Option<u
         Some(3)
     } else if !is_of_region(layout, field, word) {
         Some(5)
-    } else if !is_of_task(layout, field, word) {
+    } else if !is_of_task(layout, field, at, word) {
         Some(6)
     } else {
         None

@@ -2,7 +2,7 @@
 
 ghost use Rattle.omi_session.specs.Opened.{StaysWhole};
 ghost use Rattle.omi_outside.specs.Outside.{HasCause};
-ghost use Rattle.std.specs.Prelude.{◌≡◌, ◌+◌, ◌*◌, ◌≤◌, [], ◌∷◌, true, Some, None, Ok, Err, IfOk, IfErr, OnOk, ◌≢◌, ◌==◌, ◌&&◌, ◌||◌};
+ghost use Rattle.std.specs.Prelude.{ℕ, ◌≡◌, ◌+◌, ◌*◌, ◌≤◌, [], ◌∷◌, true, Some, None, Ok, Err, IfOk, IfErr, OnOk, ◌≢◌, ◌==◌, ◌&&◌, ◌||◌};
 ghost use Rattle.omi_layout.specs.Field.{threads};
 ghost use Rattle.omi_session.specs.Named.{record_kind};
 ghost use Rattle.omi_audit.specs.Clauses as the;
@@ -14,7 +14,7 @@ ghost use Rattle.omi_layout.specs.Named.{number};
 ghost use Rattle.omi_layout.specs.Table.{offset};
 ghost use Rattle.omi_layout.specs.declared.limits.TheConstants.{LAST_END};
 
-use crate::clauses::{failing, leads_to, may_be_none};
+use crate::clauses::{failing, leads_to, led_to, may_be_none, pointer_clause};
 use crate::search::Search;
 use crate::stop::Stop;
 use crate::verdict::AuditFault;
@@ -22,9 +22,6 @@ use omi_calls::{Callbacks, ToHost};
 use omi_handle::Kind;
 use omi_layout::{Field, Layout};
 use omi_session::{Rc, Session, lead, word};
-
-/// The number of the clause that a pointer which names no live record of its kind fails.
-const POINTERS: u8 = 4;
 
 /// The number of the clause that each word is mapped.
 const MAPPED: u8 = 1;
@@ -108,14 +105,15 @@ fn clause_failing<C: Callbacks, F: ToHost>(
     search: &mut Search,
     thread: u8,
     field: Field,
+    at: u64,
     word: u64,
 ) -> Result<Option<u8>, Stop>
-    requires begun { the.leads_to field ≡ Some threads → KnowsThreads s.old.layout search.old }
+    requires begun { the.leads_to field at ≡ Some threads → KnowsThreads s.old.layout search.old }
     ensures failing { OverKept C.told s.old search.old (λ memory. IfOk result (IsFailing
-        s.old.layout memory thread field word search.old search.new)) }
+        s.old.layout memory thread field at word search.old search.new)) }
     ensures asks { OverKept C.told s.old search.old (λ memory. AsksNaming
         (C.asked s.old.table.calls) (C.asked s.new.table.calls) search.old
-        (named_by_word s.old.layout memory field word) (one_if_failing result)) }
+        (named_by_word s.old.layout memory field at word) (one_if_failing result)) }
     ensures fault { IfErr result IsFault }
     ensures few { result ≡ Ok None → counts field ≡ true → word ≤ 64 }
     ensures begun { search.new.begun.items ≡ search.old.begun.items }
@@ -123,14 +121,14 @@ fn clause_failing<C: Callbacks, F: ToHost>(
     ensures cause { HasCause (C.faults s.old.table.calls) (C.faults s.new.table.calls)
         (result ≡ Err (Stop.Fault AuditFault.Callback)) }
 {
-    let Some(kind) = leads_to(field) else {
-        return Ok(failing(s.layout(), thread, field, word));
+    let Some(kind) = leads_to(field, at) else {
+        return Ok(failing(s.layout(), thread, field, at, word));
     };
-    let led = names(s, search, kind, field, word)?;
+    let led = names(s, search, kind, field, led_to(field, word))?;
     if may_stand(field, word, led) {
         Ok(None)
     } else {
-        Ok(Some(POINTERS))
+        Ok(Some(pointer_clause(field)))
     }
 }
 
@@ -145,7 +143,7 @@ pub fn judge<C: Callbacks, F: ToHost>(
 ) -> Result<u64, Stop>
     requires low { addr ≤ LAST_END }
     requires few { at ≤ 64 }
-    requires begun { the.leads_to field ≡ Some threads → KnowsThreads s.old.layout search.old }
+    requires begun { the.leads_to field at ≡ Some threads → KnowsThreads s.old.layout search.old }
     ensures judged { OverKept C.told s.old search.old (λ memory.
         Judges (refused_at s.old.layout memory thread (place_at addr field at))
         (IsJudged s.old.layout memory (place_at addr field at) search.old search.new)
@@ -165,7 +163,7 @@ pub fn judge<C: Callbacks, F: ToHost>(
             return Err(fails(s.layout(), addr, field, at, MAPPED));
         }
     };
-    match clause_failing(s, search, thread, field, found)? {
+    match clause_failing(s, search, thread, field, at, found)? {
         None => Ok(found),
         Some(clause) => Err(fails(s.layout(), addr, field, at, clause)),
     }
@@ -238,7 +236,8 @@ pub fn judge_elements<C: Callbacks, F: ToHost>(
 ) -> Result<(), Stop>
     requires low { addr ≤ LAST_END }
     requires few { count ≤ 64 }
-    requires begun { the.leads_to field ≡ Some threads → KnowsThreads s.old.layout search.old }
+    requires begun { (at : ℕ) → the.leads_to field at ≡ Some threads
+        → KnowsThreads s.old.layout search.old }
     ensures judged { OverKept C.told s.old search.old (λ memory.
         Judges (refused_among s.old.layout memory 0 (elements_of addr field count)) (λ _.
         MeetsNamed s.old.layout memory (elements_of addr field count)

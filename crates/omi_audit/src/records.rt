@@ -5,7 +5,7 @@ ghost use Rattle.omi_outside.specs.Outside.{HasCause};
 ghost use Rattle.std.specs.Prelude.{◌≡◌, ◌+◌, ◌≤◌, ◌<◌, Err, OnOk, [], length};
 ghost use Rattle.std.specs.List.{flat_map, range_with_len};
 ghost use Rattle.omi_audit.specs.Judged.{OverKept, Asks, AsksFor, Judges, KnowsThreads, MeetsNamed, IsLinked, IsThread, AreThreads, IsRecord, Starts, IsSearched, one_if_stopped, refused_among, refused_thread, refused_record};
-ghost use Rattle.omi_audit.specs.Search.{runtime_places, thread_places, region_places, task_places, record_places, reached};
+ghost use Rattle.omi_audit.specs.Search.{runtime_places, thread_places, region_places, value_places, group_places, task_places, record_places, reached};
 ghost use Rattle.omi_audit.specs.Verdicts.{chain_field};
 ghost use Rattle.omi_layout.specs.declared.field.Field.TheVariants.{RegionEnclosing, TaskScheduling};
 ghost use Rattle.omi_layout.specs.Field.{regions, tasks};
@@ -19,7 +19,7 @@ use crate::search::Search;
 use crate::stop::Stop;
 use crate::verdict::AuditFault;
 use omi_calls::{Callbacks, ToHost};
-use omi_layout::{Field, Layout};
+use omi_layout::{Field, GROUP_PLACE, GROUP_VERSION, Layout, OPEN_PLACE};
 use omi_session::Session;
 
 /// Judges the runtime record.
@@ -121,6 +121,56 @@ fn judge_region<C: Callbacks, F: ToHost>(
     Ok(found.next)
 }
 
+/// Judges the values of a task, and answers the task from which it was scheduled, or 0.
+fn judge_values<C: Callbacks, F: ToHost>(
+    s: &mut Session<C, F>,
+    search: &mut Search,
+    addr: u64,
+) -> Result<u64, Stop>
+    requires low { addr ≤ LAST_END }
+    requires begun { KnowsThreads s.old.layout search.old }
+    ensures judged { OverKept C.told s.old search.old (λ memory.
+        Judges (refused_among s.old.layout memory 0 (value_places s.old.layout memory addr))
+        (IsLinked s.old.layout memory addr TaskScheduling
+        (value_places s.old.layout memory addr) search.old search.new) result) }
+    ensures asks { AsksFor C.told C.asked s.old s.new search.old
+        (λ memory. value_places s.old.layout memory addr) (one_if_stopped result) }
+    ensures begun { search.new.begun.items ≡ search.old.begun.items }
+    ensures same { StaysWhole C.told s.old s.new }
+    ensures cause { HasCause (C.faults s.old.table.calls) (C.faults s.new.table.calls)
+        (result ≡ Err (Stop.Fault AuditFault.Callback)) }
+{
+    let found = judge_fields(s, search, 0, addr, &TASK_FIELDS)?;
+    judge_elements(s, search, addr, Field::TaskNthreads, found.count)?;
+    Ok(found.next)
+}
+
+/// Judges the words for groups of a task, where the layout has them.
+fn judge_groups<C: Callbacks, F: ToHost>(
+    s: &mut Session<C, F>,
+    search: &mut Search,
+    addr: u64,
+) -> Result<(), Stop>
+    requires low { addr ≤ LAST_END }
+    ensures judged { OverKept C.told s.old search.old (λ memory.
+        Judges (refused_among s.old.layout memory 0 (group_places s.old.layout memory addr)) (λ _.
+        MeetsNamed s.old.layout memory (group_places s.old.layout memory addr)
+        search.old search.new) result) }
+    ensures asks { AsksFor C.told C.asked s.old s.new search.old
+        (λ memory. group_places s.old.layout memory addr) (one_if_stopped result) }
+    ensures begun { search.new.begun.items ≡ search.old.begun.items }
+    ensures same { StaysWhole C.told s.old s.new }
+    ensures cause { HasCause (C.faults s.old.table.calls) (C.faults s.new.table.calls)
+        (result ≡ Err (Stop.Fault AuditFault.Callback)) }
+{
+    if s.layout().version() != GROUP_VERSION {
+        return Ok(());
+    }
+    judge(s, search, 0, addr, Field::TaskSlots, u64::from(GROUP_PLACE))?;
+    judge(s, search, 0, addr, Field::TaskSlots, u64::from(OPEN_PLACE))?;
+    Ok(())
+}
+
 /// Judges the record of a task, and answers the task from which it was scheduled, or 0.
 fn judge_task<C: Callbacks, F: ToHost>(
     s: &mut Session<C, F>,
@@ -140,9 +190,9 @@ fn judge_task<C: Callbacks, F: ToHost>(
     ensures cause { HasCause (C.faults s.old.table.calls) (C.faults s.new.table.calls)
         (result ≡ Err (Stop.Fault AuditFault.Callback)) }
 {
-    let found = judge_fields(s, search, 0, addr, &TASK_FIELDS)?;
-    judge_elements(s, search, addr, Field::TaskNthreads, found.count)?;
-    Ok(found.next)
+    let next = judge_values(s, search, addr)?;
+    judge_groups(s, search, addr)?;
+    Ok(next)
 }
 
 /// Judges the record of a region or a task, and answers the next one of its chain, or 0.

@@ -1,5 +1,5 @@
 use Rattle.std.proofs.Common.{◌≡◌, ◌≤◌, ◌==◌, [], ◌&&◌, ◌||◌, ◌∙◌, ℕ, List, true, false, Some, None, sym, ap, nat_le, arith, leb-true}
-use Rattle.std.specs.Prelude.{nat_eq}
+use Rattle.std.specs.Prelude.{is_some, nat_eq}
 use Rattle.std.specs.Option.{option_map_or}
 use Rattle.indexmap.specs.IndexSet.{insert_all}
 use Rattle.omi_script.specs.declared.limits.TheConstants.{MAX_SIZES}
@@ -8,27 +8,28 @@ use Rattle.omi_layout.specs.declared.field.Field.TheVariants.{RegionSize, TaskNt
 use Rattle.omi_layout.specs.Table.{thread_count}
 use Rattle.omi_layout.specs.Valid.{IsValid}
 use Rattle.omi_layout.proofs.Arenas.{test_right, threads_of_valid}
+use Rattle.omi_rep.specs.Look.{live_at}
 use Rattle.omi_session.specs.Named.{record_kind}
-use Rattle.omi_audit.specs.Clauses.{leads_to, may_be_none, clause_4, clause_5, clause_6}
+use Rattle.omi_audit.specs.Clauses.{leads_to, led_to, may_be_none, clause_4, clause_5, clause_6}
 use Rattle.omi_audit.specs.Found.{counts}
 use Rattle.omi_audit.specs.Judged.{named_of}
 use Rattle.omi_audit.proofs.NamedWords.{pointer_passes, pointer_refused, clause_of}
 use Rattle.omi_audit.proofs.judging.clause_failing.Goals as goal
 
 -- a size or a length that passes is small
-few_counted : (w : List ℕ) → IsValid w → (field : Field) (word : ℕ) → counts field ≡ true → clause_5 w field word ≡ true
-    → clause_6 w field word ≡ true → word ≤ 64
-few_counted w valid RegionSize word counted region task =
+few_counted : (w : List ℕ) → IsValid w → (field : Field) (at word : ℕ) → counts field ≡ true → clause_5 w field word ≡ true
+    → clause_6 w field at word ≡ true → word ≤ 64
+few_counted w valid RegionSize at word counted region task =
     let most : word ≤ thread_count w = leb-true word (thread_count w) (test_right (nat_le 1 word) (nat_le word (thread_count w)) region) in
     omega (arith, threads_of_valid w valid)
-few_counted w valid TaskNthreadsLength word counted region task =
+few_counted w valid TaskNthreadsLength at word counted region task =
     let most : word ≤ MAX_SIZES = leb-true word MAX_SIZES (test_right (nat_le 1 word) (nat_le word MAX_SIZES) task) in omega arith
-few_counted w valid field word counted region task = absurd (cc)
+few_counted w valid field at word counted region task = absurd (cc)
 
 pub returns-in_default-clause-few : goal.returns-in_default-clause-few
 returns-in_default-clause-few g c = λ passes counted.
     let none : c.failing.result ≡ None = cc in
-    few_counted c.layout.result.now.table c.layout.result.now.valid c.args.field c.args.word counted
+    few_counted c.layout.result.now.table c.layout.result.now.valid c.args.field c.args.at c.args.word counted
     (c.failing.ensures.region none) (c.failing.ensures.task none)
 
 pub returns-then-may_stand-clause-failing : goal.returns-then-may_stand-clause-failing
@@ -36,15 +37,18 @@ returns-then-may_stand-clause-failing g c = λ memory tells known.
     let w = c.args.s.now.layout in
     let kind = record_kind c.in-Some.kind in
     let led = c.in_ok-led.ensures.led memory tells known in
-    let leads : leads_to c.args.field ≡ Some kind = sym c.in-Some.ensures in
-    let holds : clause_4 w memory c.args.field c.args.word ≡ true =
-    clause_of w memory 0 c.args.field kind c.args.word leads
+    let leads : leads_to c.args.field c.args.at ≡ Some kind = sym c.in-Some.ensures in
+    let holds : clause_4 w memory c.args.field c.args.at c.args.word ≡ true =
+    clause_of w memory 0 c.args.field c.args.at kind c.args.word leads
+    ∙ ap (λ x. (may_be_none c.args.field && c.args.word == 0) || is_some (live_at w memory kind x)) (sym c.led_to.ensures)
     ∙ ap (λ b. (may_be_none c.args.field && c.args.word == 0) || b) (sym led.is)
     ∙ sym c.may_stand.ensures ∙ c.if-may_stand.true in
     record {
-      is = sym (pointer_passes w memory c.args.thread c.args.field kind c.args.word leads holds);
+      is = sym (pointer_passes w memory c.args.thread c.args.field c.args.at kind c.args.word leads holds);
       meets = λ _. record {
-        met = led.meets.met ∙ ap (λ o. insert_all nat_eq c.args.search.now.met.keys (option_map_or (λ k. named_of w memory k c.args.word) o [])) (sym leads);
+        met = led.meets.met
+            ∙ ap (λ x. insert_all nat_eq c.args.search.now.met.keys (named_of w memory kind x)) c.led_to.ensures
+            ∙ ap (λ o. insert_all nat_eq c.args.search.now.met.keys (option_map_or (λ k. named_of w memory k (led_to c.args.field c.args.word)) o [])) (sym leads);
         links = led.meets.links;
         begun = led.meets.begun;
       };
@@ -55,12 +59,13 @@ returns-else-may_stand-clause-failing g c = λ memory tells known.
     let w = c.args.s.now.layout in
     let kind = record_kind c.in-Some.kind in
     let led = c.in_ok-led.ensures.led memory tells known in
-    let leads : leads_to c.args.field ≡ Some kind = sym c.in-Some.ensures in
-    let fails : clause_4 w memory c.args.field c.args.word ≡ false =
-    clause_of w memory 0 c.args.field kind c.args.word leads
+    let leads : leads_to c.args.field c.args.at ≡ Some kind = sym c.in-Some.ensures in
+    let fails : clause_4 w memory c.args.field c.args.at c.args.word ≡ false =
+    clause_of w memory 0 c.args.field c.args.at kind c.args.word leads
+    ∙ ap (λ x. (may_be_none c.args.field && c.args.word == 0) || is_some (live_at w memory kind x)) (sym c.led_to.ensures)
     ∙ ap (λ b. (may_be_none c.args.field && c.args.word == 0) || b) (sym led.is)
     ∙ sym c.may_stand.ensures ∙ c.if-may_stand.false in
     record {
-      is = sym (pointer_refused w memory c.args.thread c.args.field kind c.args.word leads fails);
+      is = ap (λ (n : ℕ). Some n) c.pointer_clause.ensures ∙ sym (pointer_refused w memory c.args.thread c.args.field c.args.at kind c.args.word leads fails);
       meets = λ is. absurd (cc);
     }

@@ -33,10 +33,10 @@ returns-in-None-clause-judged g c = λ memory tells known.
     let word = word_ok w memory c.args.addr c.args.field c.args.at c.in-Ok.found (read.answer.is memory tells (λ e. (cc))) in
     let failing =
     kept_on g.C.Callbacks.told c.args.s.now c.word.new.s c.args.search.now
-    (λ l m. IsFailing l m c.args.thread c.args.field c.in-Ok.found c.args.search.now c.clause_failing.new.search c.in_ok-clause_failing.field-0)
+    (λ l m. IsFailing l m c.args.thread c.args.field c.args.at c.in-Ok.found c.args.search.now c.clause_failing.new.search c.in_ok-clause_failing.field-0)
     read.same c.in_ok-clause_failing.ensures.failing memory tells known in
     judged_fine w memory c.args.thread (place_at c.args.addr c.args.field c.args.at) c.args.search.now c.clause_failing.new.search c.in-Ok.found word
-    (subst (IsFailing w memory c.args.thread c.args.field c.in-Ok.found c.args.search.now c.clause_failing.new.search) c.in-None.is failing)
+    (subst (IsFailing w memory c.args.thread c.args.field c.args.at c.in-Ok.found c.args.search.now c.clause_failing.new.search) c.in-None.is failing)
 
 pub returns-in-Some-clause-judged : goal.returns-in-Some-clause-judged
 returns-in-Some-clause-judged g c = λ memory tells known.
@@ -45,10 +45,10 @@ returns-in-Some-clause-judged g c = λ memory tells known.
     let word = word_ok w memory c.args.addr c.args.field c.args.at c.in-Ok.found (read.answer.is memory tells (λ e. (cc))) in
     let failing =
     kept_on g.C.Callbacks.told c.args.s.now c.word.new.s c.args.search.now
-    (λ l m. IsFailing l m c.args.thread c.args.field c.in-Ok.found c.args.search.now c.clause_failing.new.search c.in_ok-clause_failing.field-0)
+    (λ l m. IsFailing l m c.args.thread c.args.field c.args.at c.in-Ok.found c.args.search.now c.clause_failing.new.search c.in_ok-clause_failing.field-0)
     read.same c.in_ok-clause_failing.ensures.failing memory tells known in
     judged_refused w memory c.args.thread (place_at c.args.addr c.args.field c.args.at) c.args.search.now c.clause_failing.new.search c.in-Ok.found c.in-Some.clause c.fails-in-Some.result word
-    (subst (IsFailing w memory c.args.thread c.args.field c.in-Ok.found c.args.search.now c.clause_failing.new.search) c.in-Some.is failing)
+    (subst (IsFailing w memory c.args.thread c.args.field c.args.at c.in-Ok.found c.args.search.now c.clause_failing.new.search) c.in-Some.is failing)
     (c.fails-in-Some.ensures
     ∙ ap (λ (l : List ℕ). Fails (c.args.addr + 8 * (offset l (number c.args.field) + c.args.at)) (number c.args.field) c.in-Some.clause)
     (c.layout-in-Some.ensures ∙ c.in_ok-clause_failing.ensures.same.layout ∙ read.same.layout))
@@ -81,7 +81,7 @@ returns-in_err-clause_failing-clause-asks g c = λ memory tells known.
     let asks =
     kept_on g.C.Callbacks.told c.args.s.now c.word.new.s c.args.search.now
     (λ l m. AsksNaming (g.C.Callbacks.asked c.word.new.s.table.calls) (g.C.Callbacks.asked c.clause_failing.new.s.table.calls) c.args.search.now
-    (named_by_word l m c.args.field c.in-Ok.found) 1) read.same c.in_err-clause_failing.ensures.asks memory tells known in
+    (named_by_word l m c.args.field c.args.at c.in-Ok.found) 1) read.same c.in_err-clause_failing.ensures.asks memory tells known in
     let named = ap (λ l. length (insert_all nat_eq c.args.search.now.met.keys l)) (named_one w memory p c.in-Ok.found word) in
     let stopped = stopped_one c.from_residual-in_err-clause_failing.result c.in_err-clause_failing.field-0.0 c.from_residual-in_err-clause_failing.ensures.1 in
     omega (arith, reads, one, asks, named, stopped)
@@ -97,7 +97,7 @@ returns-in-None-clause-asks g c = λ memory tells known.
     let asks =
     kept_on g.C.Callbacks.told c.args.s.now c.word.new.s c.args.search.now
     (λ l m. AsksNaming (g.C.Callbacks.asked c.word.new.s.table.calls) (g.C.Callbacks.asked c.clause_failing.new.s.table.calls) c.args.search.now
-    (named_by_word l m c.args.field c.in-Ok.found) (one_if_failing (Ok c.in_ok-clause_failing.field-0))) read.same c.in_ok-clause_failing.ensures.asks memory tells known in
+    (named_by_word l m c.args.field c.args.at c.in-Ok.found) (one_if_failing (Ok c.in_ok-clause_failing.field-0))) read.same c.in_ok-clause_failing.ensures.asks memory tells known in
     let none = ap (λ o. one_if_failing (Ok o)) c.in-None.is in
     let named = ap (λ l. length (insert_all nat_eq c.args.search.now.met.keys l)) (named_one w memory p c.in-Ok.found word) in
     omega (arith, reads, one, asks, named, none)
@@ -113,7 +113,7 @@ returns-in-Some-clause-asks g c = λ memory tells known.
     let asks =
     kept_on g.C.Callbacks.told c.args.s.now c.word.new.s c.args.search.now
     (λ l m. AsksNaming (g.C.Callbacks.asked c.word.new.s.table.calls) (g.C.Callbacks.asked c.clause_failing.new.s.table.calls) c.args.search.now
-    (named_by_word l m c.args.field c.in-Ok.found) (one_if_failing (Ok c.in_ok-clause_failing.field-0))) read.same c.in_ok-clause_failing.ensures.asks memory tells known in
+    (named_by_word l m c.args.field c.args.at c.in-Ok.found) (one_if_failing (Ok c.in_ok-clause_failing.field-0))) read.same c.in_ok-clause_failing.ensures.asks memory tells known in
     let some = ap (λ o. one_if_failing (Ok o)) c.in-Some.is in
     let named = ap (λ l. length (insert_all nat_eq c.args.search.now.met.keys l)) (named_one w memory p c.in-Ok.found word) in
     omega (arith, reads, one, asks, named, some)

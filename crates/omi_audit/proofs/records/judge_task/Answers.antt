@@ -1,64 +1,76 @@
-use Rattle.omi_layout.specs.declared.field.Field.TheVariants.{TaskNthreads, TaskScheduling}
-use Rattle.omi_audit.specs.declared.fields.TheConstants.{TASK_FIELDS}
-use Rattle.omi_audit.specs.Judged.{Asks, IsLinked, refused_among}
-use Rattle.omi_audit.specs.Search.{task_places, places_of}
-use Rattle.omi_audit.proofs.JudgedPlaces.{judges_stop}
-use Rattle.omi_audit.proofs.JudgedRecords.{behind_fine, behind_stops, stops_first}
 use Rattle.std.proofs.Common.{sym, subst}
+use Rattle.omi_layout.specs.declared.field.Field.TheVariants.{TaskScheduling}
+use Rattle.omi_audit.specs.Judged.{Asks, IsLinked, refused_among}
+use Rattle.omi_audit.specs.Search.{group_places, task_places, value_places}
 use Rattle.omi_audit.proofs.Asking.{asks_front, stopped_one}
-use Rattle.omi_audit.proofs.AskedRecords.{behind_asks}
+use Rattle.omi_audit.proofs.AskedRecords.{asks_both}
+use Rattle.omi_audit.proofs.JudgedPlaces.{judges_stop}
+use Rattle.omi_audit.proofs.JudgedRecords.{fine_both, stops_both, stops_first}
 use Rattle.omi_audit.proofs.records.judge_task.Goals as goal
 
 pub returns-clause-judged : goal.returns-clause-judged
 returns-clause-judged g c = λ memory tells known.
-    let front = c.in_ok-found.ensures in
+    let front = c.in_ok-next.ensures in
+    let a = c.args.addr in
     let fine =
-    behind_fine g.C.Callbacks.told c.args.s.now c.judge_fields.new.s front.same c.args.search.now c.judge_fields.new.search c.judge_elements.new.search
-    c.args.addr TASK_FIELDS TaskNthreads c.in_ok-found.found front.judged c.in_ok-judge_elements.ensures.judged memory tells known in
+    fine_both g.C.Callbacks.told c.args.s.now c.judge_values.new.s front.same c.args.search.now c.judge_values.new.search c.judge_groups.new.search
+    (λ w m. value_places w m a) (λ w m. group_places w m a)
+    (λ m t k. let f = front.judged m t k in record { none = f.none; known = f.known.meets })
+    c.in_ok-judge_groups.ensures.judged memory tells known in
     record {
       none = fine.none;
       known = record { next = (front.judged memory tells known).known.next; meets = fine.known };
     }
 
-pub returns-in_err-found-clause-judged : goal.returns-in_err-found-clause-judged
-returns-in_err-found-clause-judged g c = λ memory tells known.
+pub returns-in_err-next-clause-judged : goal.returns-in_err-next-clause-judged
+returns-in_err-next-clause-judged g c = λ memory tells known.
     let w = c.args.s.now.layout in
-    let stop = c.in_err-found.field-0.0 in
+    let stop = c.in_err-next.field-0.0 in
     judges_stop (refused_among w memory 0 (task_places w memory c.args.addr))
-    (IsLinked w memory c.args.addr TaskScheduling (task_places w memory c.args.addr) c.args.search.now c.judge_fields.new.search)
+    (IsLinked w memory c.args.addr TaskScheduling (task_places w memory c.args.addr) c.args.search.now c.judge_values.new.search)
     c.from_residual.result stop c.from_residual.ensures.1
-    (stops_first w memory 0 (places_of c.args.addr TASK_FIELDS) _ stop (c.in_err-found.ensures.judged memory tells known))
+    (stops_first w memory 0 (value_places w memory c.args.addr) (group_places w memory c.args.addr) stop (c.in_err-next.ensures.judged memory tells known))
 
-pub returns-in_err-judge_elements-clause-judged : goal.returns-in_err-judge_elements-clause-judged
-returns-in_err-judge_elements-clause-judged g c = λ memory tells known.
+pub returns-in_err-judge_groups-clause-judged : goal.returns-in_err-judge_groups-clause-judged
+returns-in_err-judge_groups-clause-judged g c = λ memory tells known.
     let w = c.args.s.now.layout in
-    let front = c.in_ok-found.ensures in
-    let stop = c.in_err-judge_elements.field-0.0 in
-    judges_stop (refused_among w memory 0 (task_places w memory c.args.addr))
-    (IsLinked w memory c.args.addr TaskScheduling (task_places w memory c.args.addr) c.args.search.now c.judge_elements.new.search)
-    c.from_residual-in_err-judge_elements.result stop c.from_residual-in_err-judge_elements.ensures.1
-    (behind_stops g.C.Callbacks.told c.args.s.now c.judge_fields.new.s front.same c.args.search.now c.judge_fields.new.search c.judge_elements.new.search
-    c.args.addr TASK_FIELDS TaskNthreads c.in_ok-found.found front.judged stop c.in_err-judge_elements.ensures.judged memory tells known)
+    let a = c.args.addr in
+    let front = c.in_ok-next.ensures in
+    let stop = c.in_err-judge_groups.field-0.0 in
+    judges_stop (refused_among w memory 0 (task_places w memory a))
+    (IsLinked w memory a TaskScheduling (task_places w memory a) c.args.search.now c.judge_groups.new.search)
+    c.from_residual-in_err-judge_groups.result stop c.from_residual-in_err-judge_groups.ensures.1
+    (stops_both g.C.Callbacks.told c.args.s.now c.judge_values.new.s front.same c.args.search.now c.judge_values.new.search c.judge_groups.new.search
+    (λ w m. value_places w m a) (λ w m. group_places w m a)
+    (λ m t k. let f = front.judged m t k in record { none = f.none; known = f.known.meets })
+    stop c.in_err-judge_groups.ensures.judged memory tells known)
 
 pub returns-clause-asks : goal.returns-clause-asks
 returns-clause-asks g c =
-    let front = c.in_ok-found.ensures in
-    behind_asks g.C.Callbacks.told g.C.Callbacks.asked c.args.s.now c.judge_fields.new.s c.judge_elements.new.s front.same c.args.search.now c.judge_fields.new.search
-    c.args.addr TASK_FIELDS TaskNthreads c.in_ok-found.found front.judged front.asks 0 c.in_ok-judge_elements.ensures.asks
+    let front = c.in_ok-next.ensures in
+    let a = c.args.addr in
+    asks_both g.C.Callbacks.told g.C.Callbacks.asked c.args.s.now c.judge_values.new.s c.judge_groups.new.s front.same c.args.search.now c.judge_values.new.search
+    (λ w m. value_places w m a) (λ w m. group_places w m a)
+    (λ m t k. let f = front.judged m t k in record { none = f.none; known = f.known.meets })
+    0 front.asks c.in_ok-judge_groups.ensures.asks
 
-pub returns-in_err-found-clause-asks : goal.returns-in_err-found-clause-asks
-returns-in_err-found-clause-asks g c = λ memory tells known.
+pub returns-in_err-next-clause-asks : goal.returns-in_err-next-clause-asks
+returns-in_err-next-clause-asks g c = λ memory tells known.
     let w = c.args.s.now.layout in
-    let stopped = stopped_one c.from_residual.result c.in_err-found.field-0.0 c.from_residual.ensures.1 in
-    subst (Asks w memory (g.C.Callbacks.asked c.args.s.now.table.calls) (g.C.Callbacks.asked c.judge_fields.new.s.table.calls) c.args.search.now (task_places w memory c.args.addr)) (sym stopped)
-    (asks_front w memory (g.C.Callbacks.asked c.args.s.now.table.calls) (g.C.Callbacks.asked c.judge_fields.new.s.table.calls) c.args.search.now (places_of c.args.addr TASK_FIELDS) _ 1
-    (c.in_err-found.ensures.asks memory tells known))
+    let a = c.args.addr in
+    let stopped = stopped_one c.from_residual.result c.in_err-next.field-0.0 c.from_residual.ensures.1 in
+    subst (Asks w memory (g.C.Callbacks.asked c.args.s.now.table.calls) (g.C.Callbacks.asked c.judge_values.new.s.table.calls) c.args.search.now (task_places w memory a)) (sym stopped)
+    (asks_front w memory (g.C.Callbacks.asked c.args.s.now.table.calls) (g.C.Callbacks.asked c.judge_values.new.s.table.calls) c.args.search.now
+    (value_places w memory a) (group_places w memory a) 1 (c.in_err-next.ensures.asks memory tells known))
 
-pub returns-in_err-judge_elements-clause-asks : goal.returns-in_err-judge_elements-clause-asks
-returns-in_err-judge_elements-clause-asks g c = λ memory tells known.
+pub returns-in_err-judge_groups-clause-asks : goal.returns-in_err-judge_groups-clause-asks
+returns-in_err-judge_groups-clause-asks g c = λ memory tells known.
     let w = c.args.s.now.layout in
-    let front = c.in_ok-found.ensures in
-    let stopped = stopped_one c.from_residual-in_err-judge_elements.result c.in_err-judge_elements.field-0.0 c.from_residual-in_err-judge_elements.ensures.1 in
-    subst (Asks w memory (g.C.Callbacks.asked c.args.s.now.table.calls) (g.C.Callbacks.asked c.judge_elements.new.s.table.calls) c.args.search.now (task_places w memory c.args.addr)) (sym stopped)
-    (behind_asks g.C.Callbacks.told g.C.Callbacks.asked c.args.s.now c.judge_fields.new.s c.judge_elements.new.s front.same c.args.search.now c.judge_fields.new.search
-    c.args.addr TASK_FIELDS TaskNthreads c.in_ok-found.found front.judged front.asks 1 c.in_err-judge_elements.ensures.asks memory tells known)
+    let a = c.args.addr in
+    let front = c.in_ok-next.ensures in
+    let stopped = stopped_one c.from_residual-in_err-judge_groups.result c.in_err-judge_groups.field-0.0 c.from_residual-in_err-judge_groups.ensures.1 in
+    subst (Asks w memory (g.C.Callbacks.asked c.args.s.now.table.calls) (g.C.Callbacks.asked c.judge_groups.new.s.table.calls) c.args.search.now (task_places w memory a)) (sym stopped)
+    (asks_both g.C.Callbacks.told g.C.Callbacks.asked c.args.s.now c.judge_values.new.s c.judge_groups.new.s front.same c.args.search.now c.judge_values.new.search
+    (λ w m. value_places w m a) (λ w m. group_places w m a)
+    (λ m t k. let f = front.judged m t k in record { none = f.none; known = f.known.meets })
+    1 front.asks c.in_err-judge_groups.ensures.asks memory tells known)
