@@ -355,8 +355,9 @@ HEADS = {'num_threads': 'numbers', 'dynamic': ('true', 'false'), 'max_active_lev
 STATEMENTS = {'parallel': [['F'], ['F', ('num',), (1, 64)]],
               'task': [['F'] + i + f for i in ([], [('if',), (0, 1)])
                        for f in ([], [('final',), (0, 1)])],
-              'critical': [[(0, 7), 'F']], 'call': [['F']], 'only': [[(0, 63), 'F']],
-              'repeat': [[(0, 1000), 'F']], 'set_num_threads': [[(1, 64)]],
+              'critical': [[(0, 7), 'F']], 'taskgroup': [['F']], 'call': [['F']],
+              'only': [[(0, 63), 'F']], 'repeat': [[(0, 1000), 'F']],
+              'set_num_threads': [[(1, 64)]],
               'set_dynamic': [[(0, 1)]], 'set_max_active_levels': [[(0, 255)]],
               'set_schedule': [[KINDS, (0, 65535)]], 'set_default_device': [[(0, 255)]],
               'tool': [[(0, (1 << 64) - 1)]], 'taskwait': [[]], 'taskyield': [[]], 'barrier': [[]],
@@ -436,7 +437,7 @@ class Script:
         if len(self.names) >= 64:
             faults.append('OverLimit')
         self.names.add(name)
-        self.open = {'name': name, 'reaches': False, 'depth': 0}
+        self.open = {'name': name, 'reaches': False, 'depth': 0, 'groups': 0}
         return faults
 
     def close(self):
@@ -473,20 +474,23 @@ class Script:
 
     def construct(self, first, named):
         faults, depth = [], named['depth'] + (first == 'parallel')
+        groups = 0 if first in ('parallel', 'task') else named['groups'] + (first == 'taskgroup')
         if first == 'task' and named['reaches']:
             faults.append('BarrierInTask')
-        if first in ('only', 'critical') and named['reaches']:
+        if first in ('only', 'critical', 'taskgroup') and named['reaches']:
             faults.append('BarrierNested')
-        if depth > 15:
+        if depth > 15 or groups > 4:
             faults.append('OverLimit')
-        if first in ('call', 'only', 'critical', 'repeat'):
+        if first in ('call', 'only', 'critical', 'repeat', 'taskgroup'):
             self.open['reaches'] |= named['reaches']
         self.open['depth'] = max(self.open['depth'], depth)
+        self.open['groups'] = max(self.open['groups'], groups)
         return faults
 
 
 EVENT = re.compile(r'[1-9]\d* t\d+ (offer|want \d+|ask \d+ (got|busy)|begin|enter|leave|arrive|'
-                   r'release|pass|work|ret|done|wait_done|yield|skip|call \d+|seen \d|(un)?lock \d|'
+                   r'release|pass|work|ret|done|wait_done|group_begin|group_end|yield|skip|'
+                   r'call \d+|seen \d|(un)?lock \d|'
                    r'state \w+ \d+|set [a-z-]+ \S+|tool \d+|set_tool \d+|'
                    r'fork r\S+ size \d+ team( k\S+@\d+)+|join r\S+|'
                    r'(implicit_begin|implicit_end|defer|start|start_now|finish|free) k\S+|free r\S+)')

@@ -8,9 +8,9 @@ use std::test::Fail;
 /// The calls that open a session: a look-up, and the reads of the layout's table.
 const OPENING: u64 = 57;
 
-/// Each word of a fork that is judged is read once, and the life word of each record: 5 of the runtime, 4 of each thread, 7 and 8 of the regions, 16
+/// Each word of a fork that is judged is read once, and the life word of each record: 5 of the runtime, 4 of each thread, 7 and 8 of the regions, 18
 /// of each task, and 5 life words.
-const READS: u64 = 5 + 2 * 4 + 7 + 8 + 3 * 16 + 5;
+const READS: u64 = 5 + 2 * 4 + 7 + 8 + 3 * 18 + 5;
 
 const YES: Result<Verdict, AuditFault> = Ok(Verdict::Yes { records: 5 });
 

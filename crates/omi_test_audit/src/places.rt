@@ -39,8 +39,9 @@ const OF_REGION: [Bad; 7] = [
 /// Another member.
 const OF_MEMBER: [Bad; 1] = [(Field::RegionTeam, 1, Some(8), 4)];
 
-/// Those of a task with one element in nthreads-var. Any word may stand in the frames and in the tool word.
-const OF_TASK: [Bad; 16] = [
+/// Those of a task with one element in nthreads-var. Any word may stand in the frames and in the tool word. Behind the slots stand the word of its group
+/// and the number of its open groups.
+const OF_TASK: [Bad; 18] = [
     (Field::TaskImplicit, 0, Some(2), 6),
     (Field::TaskRegion, 0, Some(0), 4),
     (Field::TaskThread, 0, Some(0), 4),
@@ -57,6 +58,8 @@ const OF_TASK: [Bad; 16] = [
     (Field::TaskFinal, 0, Some(2), 6),
     (Field::TaskTool, 0, None, 1),
     (Field::TaskNthreads, 0, Some(65), 6),
+    (Field::TaskSlots, 4, Some(8), 6),
+    (Field::TaskSlots, 5, Some(5), 6),
 ];
 
 /// Those of the elements that a task with four of them has more.

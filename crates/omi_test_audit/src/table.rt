@@ -198,6 +198,63 @@ fn fine_words_of_a_fork(rt: HostRuntime) -> Result<(), Fail> {
     Ok(())
 }
 
+/// Words of the group of a task and of the number of its open ones that are out of range, or name no live task.
+fn bad_groups(r: &Records) -> [Word; 8] {
+    let k = r.master;
+    let group = |word: u64| -> Word { (k, Field::TaskSlots, 4, Some(word)) };
+    [
+        group(3),
+        group(k.wrapping_add(4)),
+        group(k.wrapping_add(8)),
+        group(r.inner),
+        group(r.generated),
+        group(r.generated.wrapping_add(1)),
+        group(u64::MAX),
+        (k, Field::TaskSlots, 5, Some(u64::MAX)),
+    ]
+}
+
+/// The same in range, and words of the slots and of the counts, of which nothing is asked.
+fn fine_groups(r: &Records) -> [Word; 7] {
+    let k = r.master;
+    let group = |word: u64| -> Word { (k, Field::TaskSlots, 4, Some(word)) };
+    [
+        group(k),
+        group(k.wrapping_add(3)),
+        group(r.worker.wrapping_add(1)),
+        (k, Field::TaskSlots, 5, Some(4)),
+        (k, Field::TaskSlots, 0, None),
+        (k, Field::TaskSlots, 6, Some(u64::MAX)),
+        (k, Field::TaskSlots, 9, None),
+    ]
+}
+
+/// The group of a task is none or that of a live task, and this task is reached by it: a member of the team by the initial task, where thread 0 runs
+/// that.
+#[test]
+fn groups_of_a_fork(rt: HostRuntime) -> Result<(), Fail> {
+    let words = forked(rt.alloc(), 0)?;
+    let r = records_of(&words)?;
+    let mut cases = Vec::new(rt.alloc());
+    for word in &bad_groups(&r) {
+        cases.push(refused(&words, *word, *word, 6))?;
+    }
+    for word in &fine_groups(&r) {
+        cases.push(fine(&words, *word, *word, 5))?;
+    }
+    let before = (r.threads[0], Field::ThreadCurrent, 0, Some(r.initial));
+    let of_member = (
+        r.initial,
+        Field::TaskSlots,
+        4,
+        Some(r.worker.wrapping_add(1)),
+    );
+    cases.push(fine(&words, before, before, 2))?;
+    cases.push(fine(&words, before, of_member, 5))?;
+    assert_eq!(rt; first_wrong(rt.alloc(), &words, cases.as_slice())?, None);
+    Ok(())
+}
+
 /// Two words are changed, and the words are fine, with so many records.
 fn fine(words: &Words, first: Word, second: Word, records: u64) -> Case {
     Case {

@@ -26,6 +26,8 @@ fn an_empty_run(rt: HostRuntime) -> Result<(), Fail> {
     let cases = [
         yes(2),
         set(321, 5, 0x1_0a08, Field::TaskNthreadsLength, 6),
+        set(336, 5, 0x1_0a80, Field::TaskSlots, 6),
+        set(337, 5, 0x1_0a88, Field::TaskSlots, 6),
         set(120, 0x1_03b0, 0x1_03b0, Field::RegionEnclosing, 8),
         set(123, 300, 0x1_03d8, Field::RegionLevels, 5),
         set(114, 0x1_09b8, 0x1_0390, Field::ThreadCurrent, 4),

@@ -69,26 +69,26 @@ parallel f num 2
 end
 ";
 
-/// A script, the steps of two stops of its threads in turn, and what is put. A task that starts at once is given back at step 53, and its record is taken
-/// again behind step 58. The task with a child starts at step 62, finishes at the 114th and is given back at the 142nd, its child at the 137th.
+/// A script, the steps of two stops of its threads in turn, and what is put. A task that starts at once is given back at step 55, and its record is taken
+/// again behind step 60. The task with a child starts at step 63, finishes at the 116th and is given back at the 146th, its child at the 141st.
 /// The team of two is forked at step 197, its second member begins at the 216th, and the records of both are given back at the 259th and the
 /// 265th; the second team is forked at step 469.
 const STOPS: [(&str, &str, &str, &str); 15] = [
-    (TWO_TASKS, "47", "52", BOTH_CURRENT),
-    (TWO_TASKS, "47", "53", USED_AGAIN),
-    (TWO_TASKS, "0", "126", "task k0.0.0 current\n"),
-    (AN_ENDED_ANCESTOR, "62", "141", BOTH_CURRENT),
-    (AN_ENDED_ANCESTOR, "62", "142", USED_AGAIN),
+    (TWO_TASKS, "48", "54", BOTH_CURRENT),
+    (TWO_TASKS, "48", "55", USED_AGAIN),
+    (TWO_TASKS, "0", "130", "task k0.0.0 current\n"),
+    (AN_ENDED_ANCESTOR, "63", "145", BOTH_CURRENT),
+    (AN_ENDED_ANCESTOR, "63", "146", USED_AGAIN),
     (
         AN_ENDED_ANCESTOR,
-        "130",
-        "136",
+        "133",
+        "140",
         "task k0.2.0 current\ntask k0.0.0 current\n",
     ),
     (
         AN_ENDED_ANCESTOR,
-        "130",
-        "137",
+        "133",
+        "141",
         "task k0.2.0 stale\ntask k0.0.0 current\n",
     ),
     (A_TEAM_OF_TWO, "196", "295", "task k0.0.0 current\n"),
@@ -166,8 +166,8 @@ fn turned(alloc: Global, core: &[u8]) -> Result<Vec<u8>, AllocError> {
 #[test]
 fn either_order_of_bytes(rt: HostRuntime) -> Result<(), Fail> {
     let alloc = rt.alloc();
-    let first = core_of(alloc, "47", TWO_TASKS)?;
-    let later = core_of(alloc, "104", TWO_TASKS)?;
+    let first = core_of(alloc, "48", TWO_TASKS)?;
+    let later = core_of(alloc, "107", TWO_TASKS)?;
     let (first_turned, later_turned) = (turned(alloc, &first)?, turned(alloc, &later)?);
     for cores in [
         Cores::of(&first, &later_turned),
@@ -189,8 +189,8 @@ fn as_elf(alloc: Global, core: &[u8]) -> Result<Vec<u8>, AllocError> {
 #[test]
 fn either_kind_of_file(rt: HostRuntime) -> Result<(), Fail> {
     let alloc = rt.alloc();
-    let first = core_of(alloc, "47", TWO_TASKS)?;
-    let later = core_of(alloc, "104", TWO_TASKS)?;
+    let first = core_of(alloc, "48", TWO_TASKS)?;
+    let later = core_of(alloc, "107", TWO_TASKS)?;
     let (first_elf, later_elf) = (as_elf(alloc, &first)?, as_elf(alloc, &later)?);
     for cores in [
         Cores::of(&first, &later_elf),

@@ -41,7 +41,7 @@ const TABLES: [(usize, u64, Status, &str); 4] = [
 #[test]
 fn later_files_that_are_refused(rt: HostRuntime) -> Result<(), Fail> {
     let alloc = rt.alloc();
-    let core = core_of(alloc, "47", TWO_TASKS)?;
+    let core = core_of(alloc, "48", TWO_TASKS)?;
     assert_eq!(rt; core.len(), 68_056);
     let none = Cores {
         first: Some(&core),
@@ -66,9 +66,9 @@ fn later_files_that_are_refused(rt: HostRuntime) -> Result<(), Fail> {
 #[test]
 fn other_layouts(rt: HostRuntime) -> Result<(), Fail> {
     let alloc = rt.alloc();
-    let core = core_of(alloc, "47", TWO_TASKS)?;
-    let turned = core_with(alloc, "47", TWO_TASKS, &["--layout", "7"])?;
-    let wider = core_of(alloc, "47", A_TEAM_OF_TWO)?;
+    let core = core_of(alloc, "48", TWO_TASKS)?;
+    let turned = core_with(alloc, "48", TWO_TASKS, &["--layout", "7"])?;
+    let wider = core_of(alloc, "48", A_TEAM_OF_TWO)?;
     let older = opening_core_v1(alloc, TWO_TASKS)?;
     for (first, later) in [
         (&core, &turned),
@@ -94,7 +94,7 @@ const NEXT: (usize, usize) = (342, 349);
 #[test]
 fn words_that_are_missing(rt: HostRuntime) -> Result<(), Fail> {
     let alloc = rt.alloc();
-    let first = core_of(alloc, "47", TWO_TASKS)?;
+    let first = core_of(alloc, "48", TWO_TASKS)?;
     for (number, text) in [
         (INITIAL.0, "damaged 0x109b0 task.life\n"),
         (INITIAL.1, "damaged 0x109b0 task.func\n"),
@@ -105,7 +105,7 @@ fn words_that_are_missing(rt: HostRuntime) -> Result<(), Fail> {
         expect(&rt, alloc, Cores::of(&first, &later), Status::Damaged, text)?;
     }
     // Of a task that isn't current, no function is asked for.
-    let later = without_word(alloc, &core_of(alloc, "104", TWO_TASKS)?, NEXT.1)?;
+    let later = without_word(alloc, &core_of(alloc, "107", TWO_TASKS)?, NEXT.1)?;
     let cores = Cores::of(&first, &later);
     expect(&rt, alloc, cores, Status::Success, USED_AGAIN)?;
     Ok(())
@@ -115,7 +115,7 @@ fn words_that_are_missing(rt: HostRuntime) -> Result<(), Fail> {
 #[test]
 fn a_later_core_without_a_report(rt: HostRuntime) -> Result<(), Fail> {
     let alloc = rt.alloc();
-    let core = core_of(alloc, "47", TWO_TASKS)?;
+    let core = core_of(alloc, "48", TWO_TASKS)?;
     let later = with_word(alloc, &core, 114, 3)?;
     let cores = Cores::of(&core, &later);
     expect(&rt, alloc, cores, Status::Success, BOTH_CURRENT)?;
@@ -200,8 +200,8 @@ fn failing_reads(
 #[test]
 fn each_read_of_both_cores(rt: HostRuntime) -> Result<(), Fail> {
     let alloc = rt.alloc();
-    let first = core_of(alloc, "47", TWO_TASKS)?;
-    let later = core_of(alloc, "104", TWO_TASKS)?;
+    let first = core_of(alloc, "48", TWO_TASKS)?;
+    let later = core_of(alloc, "107", TWO_TASKS)?;
     let cores = Cores::of(&first, &later);
     assert_eq!(rt; failing_reads(&rt, alloc, cores, Call::Size)?, (2, 2));
     let (of_first, of_later) = failing_reads(&rt, alloc, cores, Call::ReadAt)?;

@@ -2,6 +2,7 @@
 
 use omi_outside::{Call, Status};
 use omi_test_calls::{CHANGED, EMPTY, call, core_of, run};
+use omi_test_rows::A_GROUPS_DESCENDANTS;
 use std::alloc::{AllocError, Global};
 use std::process::Abort;
 use std::test::Fail;
@@ -110,6 +111,53 @@ fn a_list_with_a_changed_head(rt: HostRuntime) -> Result<(), Fail> {
     Ok(())
 }
 
+/// The events of a group of a task that makes a task: at its end its task starts, and then the task of this task.
+const THE_GROUP: &str = "\
+1 t0 group_begin
+2 t0 call 2
+3 t0 enter
+51 t0 defer k0.1.0
+52 t0 leave
+53 t0 ret
+54 t0 enter
+55 t0 state wait_taskgroup 0
+67 t0 start k0.1.0
+68 t0 state work_serial 0
+69 t0 enter
+119 t0 defer k0.2.0
+120 t0 leave
+121 t0 finish k0.1.0
+128 t0 state wait_taskgroup 0
+140 t0 start k0.2.0
+141 t0 state work_serial 0
+142 t0 work
+143 t0 finish k0.2.0
+149 t0 free k0.2.0
+154 t0 free k0.1.0
+158 t0 state wait_taskgroup 0
+165 t0 group_end
+166 t0 state work_serial 0
+167 t0 leave
+168 t0 state wait_barrier_implicit_parallel 0
+169 t0 arrive
+177 t0 release
+178 t0 pass
+179 t0 done
+end steps 179 events 30 by done
+";
+
+#[test]
+fn descendants_of_a_group(rt: HostRuntime) -> Result<(), Fail> {
+    let done = run(
+        rt.alloc(),
+        &["stop", "1000000", "s", "c"],
+        A_GROUPS_DESCENDANTS,
+    )?;
+    assert_eq!(rt; done.status, Status::Success);
+    assert_eq!(rt; done.out.bytes(), THE_GROUP.as_bytes());
+    Ok(())
+}
+
 #[test]
 fn a_layout_by_its_option(rt: HostRuntime) -> Result<(), Fail> {
     let line = ["stop", "1000", "s", "c", "--layout", "7"];
@@ -149,8 +197,12 @@ fn expect_refusal(rt: &impl Abort, alloc: Global, row: &Refused<'_>) -> Result<(
     Ok(())
 }
 
+/// One more group in others than a task may have open.
+const FIVE_GROUPS: &str =
+    "func g0\nwork\nend\nfunc g1\ntaskgroup g0\nend\nfunc g2\ntaskgroup g1\nend\nfunc g3\ntaskgroup g2\nend\nfunc g4\ntaskgroup g3\nend\nfunc g5\ntaskgroup g4\nend\n";
+
 /// A file that is missing or of which a call fails, a script that is no program, and words that make no command.
-const REFUSED: [Refused<'static>; 6] = [
+const REFUSED: [Refused<'static>; 8] = [
     (
         &["stop", "0", "gone", "c"],
         &[],
@@ -185,6 +237,20 @@ const REFUSED: [Refused<'static>; 6] = [
         "func main\nset_num_threads 65\nend\n",
         Status::Script,
         "script 2 3 BadNumber\n",
+    ),
+    (
+        &["stop", "0", "s", "c"],
+        &[],
+        FIVE_GROUPS,
+        Status::Script,
+        "script 17 8 OverLimit\n",
+    ),
+    (
+        &["stop", "0", "s", "c"],
+        &[],
+        "func b\nbarrier\nend\nfunc main\ntaskgroup b\nend\n",
+        Status::Script,
+        "script 5 7 BarrierNested\n",
     ),
     (
         &["stop", "1000001", "s", "c"],

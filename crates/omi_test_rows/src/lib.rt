@@ -59,3 +59,19 @@ task t
 task t
 end
 ";
+
+/// A task group of a task that makes a task.
+pub const A_GROUPS_DESCENDANTS: &str = "threads 1
+func b
+work
+end
+func a
+task b
+end
+func g
+task a
+end
+func main
+taskgroup g
+end
+";

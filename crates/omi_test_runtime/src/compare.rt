@@ -3,8 +3,10 @@
 ghost use Rattle.std.specs.Prelude.{◌<◌};
 ghost use Rattle.omi_machine.specs.Kept.{state_of};
 
-use crate::look::{Place, RUNTIME, record_of_thread, region_word, task_word, thread_word, word};
-use omi_layout::{Field, Layout};
+use crate::look::{
+    Place, RUNTIME, group_word, record_of_thread, region_word, task_word, thread_word, word,
+};
+use omi_layout::{Field, GROUP_PLACE, Layout, OPEN_PLACE};
 use omi_machine::State;
 use omi_model::{Claim, Progress, Region, Slot, Task, Team, Thread, Variables};
 use omi_script::NumList;
@@ -178,12 +180,21 @@ impl<'a> Look<'a> {
         )
     }
 
+    /// The group of a task, and the number of its open groups.
+    fn groups(&self, record: Place, t: &Task) -> Result<(), Difference> {
+        let group = group_word(self.layout, t.group);
+        let open = Some(u64::from(t.open_groups));
+        self.is_at(record, Field::TaskSlots, GROUP_PLACE, group)?;
+        self.is_at(record, Field::TaskSlots, OPEN_PLACE, open)
+    }
+
     /// The record of a visible task.
     fn task(&self, record: Place, t: &Task) -> Result<(), Difference> {
         let region = region_word(self.layout, Some(t.region));
         let generating = task_word(self.layout, t.generating);
         let scheduling = task_word(self.layout, t.scheduling);
         self.variables(record, &t.variables)?;
+        self.groups(record, t)?;
         self.are(
             record,
             &[

@@ -273,3 +273,37 @@ pub const TEAMS_AND_TASKS_IN_TEAMS: [Workload; 4] = [
         6,
     ),
 ];
+
+/// Task groups of a member, one after another.
+pub const GROUPS_AGAIN: [Workload; 5] = [
+    // Of a task that is deferred and one that starts at once.
+    (
+        "threads 2\nfunc w\nwork\nend\nfunc g\ntask w\ntask w if 0\nend\nfunc t\ntaskgroup g\ntaskgroup g\nend\nfunc b\nonly 1 t\nend\nfunc main\nparallel b num 2\nend\n",
+        2,
+        6,
+    ),
+    // Of a task that makes a task.
+    (
+        "threads 2\nfunc w\nwork\nend\nfunc u\ntask w\nend\nfunc g\ntask u\nend\nfunc t\ntaskgroup g\nend\nfunc b\nonly 0 t\nonly 0 t\nonly 0 t\nend\nfunc main\nparallel b num 2\nend\n",
+        2,
+        6,
+    ),
+    // In one another, without states.
+    (
+        "threads 2\nenv debug disabled\nfunc w\nwork\nend\nfunc h\ntask w\nend\nfunc g\ntask w\ntaskgroup h\ntask w\nend\nfunc s\ntaskgroup g\nend\nfunc t\nrepeat 2 s\nend\nfunc b\nonly 1 t\nend\nfunc main\nparallel b num 2\nend\n",
+        2,
+        8,
+    ),
+    // Of tasks that begin groups, between barriers.
+    (
+        "threads 2\nfunc w\nwork\nend\nfunc h\ntask w\nend\nfunc u\ntaskgroup h\nend\nfunc g\ntask u\ntask u\nend\nfunc t\ntaskgroup g\nend\nfunc b\nonly 1 t\nbarrier\nonly 1 t\nend\nfunc main\nparallel b num 2\nend\n",
+        2,
+        8,
+    ),
+    // Of a task that makes a team, behind a task of no group.
+    (
+        "threads 2\nfunc w\nwork\nend\nfunc c\nparallel w num 1\nend\nfunc g\ntask c\nend\nfunc t\ntask w\ntaskgroup g\ntaskwait\nend\nfunc b\nonly 1 t\nonly 1 t\nend\nfunc main\nparallel b num 2\nend\n",
+        3,
+        8,
+    ),
+];

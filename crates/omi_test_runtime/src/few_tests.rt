@@ -1,8 +1,9 @@
 //! Random orders of workloads that take records again, whose threads have few records; each step judged by the machine. In the layouts of all families.
 
 use crate::few_scripts::{
-    CHAINS_OF_TASKS, LOCKS_AND_SETTINGS, TASKS_AND_WAITS, TASKS_AT_ONCE, TASKS_OF_LARGER_TEAMS,
-    TEAMS_AGAIN, TEAMS_AND_TASKS_IN_TEAMS, TEAMS_IN_TEAMS_AGAIN, TEAMS_WITH_TASKS_AGAIN, Workload,
+    CHAINS_OF_TASKS, GROUPS_AGAIN, LOCKS_AND_SETTINGS, TASKS_AND_WAITS, TASKS_AT_ONCE,
+    TASKS_OF_LARGER_TEAMS, TEAMS_AGAIN, TEAMS_AND_TASKS_IN_TEAMS, TEAMS_IN_TEAMS_AGAIN,
+    TEAMS_WITH_TASKS_AGAIN, Workload,
 };
 use crate::orders::{Dice, Manner, manner_of, steps, to_the_end};
 use crate::scripts::FEW_OF_ONE_THREAD;
@@ -242,6 +243,13 @@ fn teams_and_tasks_in_teams(rt: HostRuntime) -> Result<(), Fail> {
     Ok(())
 }
 
+#[test]
+fn groups_again(rt: HostRuntime) -> Result<(), Fail> {
+    let again = all_judged(rt.alloc(), &GROUPS_AGAIN, ORDERS, 20)?;
+    assert!(rt; again > 600, "{again}");
+    Ok(())
+}
+
 /// The workload behind two tasks of its initial task that start at once, the second one in the record of the first.
 fn behind_two_tasks(alloc: Global, script: &str) -> Result<String, Wrong> {
     let Some((functions, statements)) = script.split_once("func main\n") else {
@@ -295,7 +303,7 @@ fn soon_again(alloc: Global, workloads: &[Workload], dice: &mut Dice) -> Result<
     Ok(count)
 }
 
-/// Each of the 44 workloads, behind two tasks, takes a record again within 100 steps.
+/// Each of the 49 workloads, behind two tasks, takes a record again within 100 steps.
 #[test]
 fn again_within_a_hundred_steps(rt: HostRuntime) -> Result<(), Fail> {
     let alloc = rt.alloc();
@@ -312,9 +320,10 @@ fn again_within_a_hundred_steps(rt: HostRuntime) -> Result<(), Fail> {
         CHAINS_OF_TASKS.as_slice(),
         TEAMS_WITH_TASKS_AGAIN.as_slice(),
         TEAMS_AND_TASKS_IN_TEAMS.as_slice(),
+        GROUPS_AGAIN.as_slice(),
     ] {
         count = count.wrapping_add(soon_again(alloc, workloads, &mut dice)?);
     }
-    assert_eq!(rt; count, 44);
+    assert_eq!(rt; count, 49);
     Ok(())
 }

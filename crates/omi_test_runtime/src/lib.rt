@@ -14,6 +14,8 @@ mod few_tests;
 #[cfg(test)]
 mod given_back_tests;
 #[cfg(test)]
+mod group_tests;
+#[cfg(test)]
 mod lines;
 #[cfg(test)]
 mod look;

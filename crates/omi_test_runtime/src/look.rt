@@ -6,7 +6,7 @@ ghost use Rattle.omi_layout.specs.Named.{number};
 ghost use Rattle.omi_layout.specs.Table;
 
 use omi_layout::{Field, GROUP_VERSION, Kind, Layout};
-use omi_model::{Id, Rid, Tid};
+use omi_model::{Group, Id, Rid, Tid};
 use omi_word::Image;
 
 /// A record, by the thread that makes it and its slot.
@@ -114,6 +114,15 @@ pub fn task_word(l: &Layout, k: Option<Tid>) -> Option<u64> {
     } else {
         None
     }
+}
+
+/// The word of a task group, 0 for none: the address of its owner's record plus its index. None where the layout has no such record.
+pub fn group_word(l: &Layout, g: Option<Group>) -> Option<u64> {
+    let Some(Group { owner, index }) = g else {
+        return Some(0);
+    };
+    let record = task_word(l, Some(owner))?;
+    Some(record.wrapping_add(u64::from(index)))
 }
 
 /// How many bytes stand in a record in front of a field.

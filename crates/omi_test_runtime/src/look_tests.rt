@@ -8,8 +8,8 @@ use std::alloc::Global;
 use std::test::Fail;
 
 /// The words that are looked at behind the fork of a team of two: all 13 of the runtime record, 5 of each thread, 9 of each
-/// region and its team, and 17 of each task.
-const LOOKED_AT: usize = 13 + 2 * 5 + (9 + 1) + (9 + 2) + 3 * 17;
+/// region and its team, and 19 of each task.
+const LOOKED_AT: usize = 13 + 2 * 5 + (9 + 1) + (9 + 2) + 3 * 19;
 
 /// The byte address of a word by its place in the image.
 fn address(place: usize) -> u64 {

@@ -54,6 +54,7 @@ fn field_named(name: &str) -> Option<Field> {
         "region.left" => Some(Field::RegionLeft),
         "task.children" => Some(Field::TaskChildren),
         "task.life" => Some(Field::TaskLife),
+        "task.slots" => Some(Field::TaskSlots),
         _ => None,
     }
 }

@@ -235,9 +235,9 @@ fn variables_calls_and_a_lock(rt: HostRuntime) -> Result<(), Fail> {
     Ok(())
 }
 
-/// A task is deferred into the first empty slot of its thread, twice: the slots, the data environment, the record, the three counts, the
-/// slot. At the barrier the first is taken from its slot and starts, and finishes: its generating task, whose count of children is lowered; its
-/// own references, of which this was the last one, and its life word, so it is given back; the references of the generating task, which is
+/// A task is deferred into the first empty slot of its thread, twice: the slots, the data environment, the group of the generating task, the
+/// record, the three counts, the slot. At the barrier the first is taken from its slot and starts, and finishes: its generating task, whose count
+/// of children is lowered; its group, which is none; its own references, of which this was the last one, and its life word, so it is given back; the references of the generating task, which is
 /// implicit; and the count of the region. Then the second starts.
 const THE_TASKS: &str = "\
 store @549 0x7f00000fffa0 found 0
@@ -250,6 +250,7 @@ load @558 found 2
 load @559 found 0
 load @560 found 0
 load @561 found 0
+load @566 found 0
 load @540 found 1
 load @572 found 0
 store @572 1 found 0
@@ -300,6 +301,7 @@ load @558 found 2
 load @559 found 0
 load @560 found 0
 load @561 found 0
+load @566 found 0
 load @540 found 1
 load @572 found 1
 load @604 found 0
@@ -355,6 +357,7 @@ store @114 @572 found @540
 store @114 @540 found @572
 load @577 found @540
 subtract @556 1 found 2
+load @598 found 0
 subtract @589 1 found 1
 store @572 2 found 1
 load @541 found 1
@@ -470,6 +473,7 @@ load @328 found 1
 load @329 found 0
 load @330 found 0
 load @331 found 0
+load @336 found 0
 load @310 found 1
 load @342 found 2
 store @342 3 found 2
@@ -511,6 +515,7 @@ store @114 @342 found @310
 store @114 @310 found @342
 load @347 found @310
 subtract @326 1 found 1
+load @368 found 0
 subtract @359 1 found 1
 store @342 4 found 3
 load @311 found 1

@@ -29,6 +29,11 @@ pub const FIFTH: Place = Place {
     slot: 4,
 };
 
+pub const SIXTH: Place = Place {
+    creator: 0,
+    slot: 5,
+};
+
 /// The record of thread 1, and the first that it takes.
 pub const OTHER: Place = Place {
     creator: 1,

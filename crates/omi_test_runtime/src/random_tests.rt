@@ -1,7 +1,7 @@
 //! Random orders of threads over many workloads, each step judged by the machine.
 
 use crate::orders::{Dice, at_random, manner_of};
-use crate::scripts::{CALLS, EXAMPLES, LEVELS, MANY_THREADS, SETTINGS, TASKS, TEAMS};
+use crate::scripts::{CALLS, EXAMPLES, GROUPS, LEVELS, MANY_THREADS, SETTINGS, TASKS, TEAMS};
 use crate::trial::{Looks, Trial, Wrong};
 use std::alloc::Global;
 use std::test::Fail;
@@ -97,5 +97,12 @@ fn settings(rt: HostRuntime) -> Result<(), Fail> {
 fn tasks(rt: HostRuntime) -> Result<(), Fail> {
     let events = all_judged(rt.alloc(), &TASKS, ORDERS_OF_MANY, 7)?;
     assert!(rt; events > 20_000, "{events}");
+    Ok(())
+}
+
+#[test]
+fn groups(rt: HostRuntime) -> Result<(), Fail> {
+    let events = all_judged(rt.alloc(), &GROUPS, ORDERS_OF_MANY, 19)?;
+    assert!(rt; events > 10_000, "{events}");
     Ok(())
 }

@@ -69,6 +69,31 @@ pub const A_TASK_OF_EACH_MEMBER: &str =
 pub const WAITS_FOR_TASKS: &str =
     "threads 2\nfunc w\nwork\nend\nfunc c\ntask w\ntaskwait\nend\nfunc g\ntask c\nend\nfunc b\nonly 1 g\nend\nfunc main\nparallel b num 2\nend\n";
 
+/// As many groups in one another as a task may have open, a task in each and one in front of them.
+pub const FOUR_GROUPS: &str =
+    "threads 1\nfunc w\nwork\nend\nfunc g4\ntask w\nend\nfunc g3\ntask w\ntaskgroup g4\nend\nfunc g2\ntask w\ntaskgroup g3\nend\nfunc g1\ntask w\ntaskgroup g2\nend\nfunc main\ntask w\ntaskgroup g1\nend\n";
+
+/// A member makes a task that begins a group.
+pub const A_GROUP_IN_A_TASK: &str =
+    "threads 2\nfunc w\nwork\nend\nfunc h\ntask w\nend\nfunc t\ntaskgroup h\nend\nfunc g\ntask t\nend\nfunc b\nonly 1 g\nend\nfunc main\nparallel b num 2\nend\n";
+
+/// A member makes a task, and then two more in a group.
+pub const A_TASK_BEFORE_A_GROUP: &str =
+    "threads 2\nfunc w\nwork\nend\nfunc g\ntask w\ntask w\nend\nfunc t\ntask w\ntaskgroup g\nend\nfunc b\nonly 1 t\nend\nfunc main\nparallel b num 2\nend\n";
+
+/// A member's group has a task that makes a task.
+pub const A_GROUP_OF_A_MEMBER: &str =
+    "threads 2\nfunc w\nwork\nend\nfunc a\ntask w\nend\nfunc g\ntask a\nend\nfunc t\ntaskgroup g\nend\nfunc b\nonly 1 t\nend\nfunc main\nparallel b num 2\nend\n";
+
+/// Task groups: of tasks that make tasks, beside tasks of no group; in one another, four deep, without states; in tasks and under a lock, and of tasks that
+/// make teams; and without members.
+pub const GROUPS: [&str; 4] = [
+    "threads 3\nfunc w\nwork\nend\nfunc t\ntask w\ntaskyield\nend\nfunc g\ntask t\ntask w if 0\nend\nfunc b\ntask w\ntaskgroup g\ntaskwait\nend\nfunc main\nparallel b num 3\nend\n",
+    "threads 2\nenv debug disabled\nfunc w\nwork\nend\nfunc g4\ntask w\nend\nfunc g3\ntask w\ntaskgroup g4\nend\nfunc g2\ntaskgroup g3\ntask w final 1\nend\nfunc g1\ntask g4\ntaskgroup g2\nend\nfunc b\ntaskgroup g1\nbarrier\ntaskgroup g4\nend\nfunc main\nparallel b num 2\ntaskgroup g1\nend\n",
+    "threads 4\nfunc w\nwork\nend\nfunc c\nparallel w num 2\nend\nfunc g\ntask c\ntask w\nend\nfunc t\ntaskgroup g\nend\nfunc b\ntask t\nonly 0 t\ncritical 1 t\nend\nfunc main\nparallel b num 3\nend\n",
+    "threads 2\nfunc w\nwork\nend\nfunc e\nend\nfunc g\ncall w\nrepeat 2 e\ntask w\nend\nfunc t\ntaskgroup e\ntaskgroup w\ntaskgroup g\ntaskyield\nend\nfunc main\ntask t\ntask t final 1\ntaskgroup t\nend\n",
+];
+
 /// Tasks that are deferred, start at once, and make tasks; waits for children and single yields; with states and without.
 pub const TASKS: [&str; 4] = [
     "threads 3\nfunc w\nwork\nend\nfunc t\ntask w\ntaskwait\ntask w\nend\nfunc b\nrepeat 3 t\ntask t\ntaskyield\ntask t if 0\nend\nfunc main\nparallel b num 3\nend\n",

@@ -3,8 +3,8 @@
 
 use crate::moves::follow;
 use crate::scripts::{
-    A_TASK_OF_EACH_MEMBER, A_TEAM_IN_A_TEAM, FOUR_TASKS_OF_A_MEMBER, ONE_LOCK, TWO_BARRIERS,
-    WAITS_FOR_TASKS,
+    A_GROUP_IN_A_TASK, A_TASK_OF_EACH_MEMBER, A_TEAM_IN_A_TEAM, FOUR_TASKS_OF_A_MEMBER, ONE_LOCK,
+    TWO_BARRIERS, WAITS_FOR_TASKS,
 };
 use crate::trial::{Few, Looks, Trial, Wrong};
 use omi_test_rows::{A_FULL_ROW, A_TEAM_OF_TWO};
@@ -109,6 +109,32 @@ const CHILDREN: &str = "\
 0 goes on to free k1.0.0
 0 goes on to state wait_barrier_implicit_parallel 0";
 
+/// A task that another thread made begins a group, and waits at its end for the task that the other thread runs, until this has lowered the group's count.
+const A_GROUP: &str = "\
+1 waits at thread.assign 1 0 0 0
+0 until fork
+0 until arrive
+1 until defer k1.0.0
+1 until arrive
+0 until start k1.0.0
+0 goes on to state work_parallel 0
+0 goes on to group_begin
+0 until defer k0.3.0
+0 until state wait_taskgroup 0
+1 until start k0.3.0
+0 waits at task.slots 1 0 6 1
+0 waits at task.slots 1 0 6 1
+1 until finish k0.3.0
+0 waits at task.slots 1 0 6 1
+1 goes on to free k0.3.0
+1 goes on to state wait_barrier_implicit_parallel 0
+0 goes on to group_end
+0 goes on to state work_parallel 0
+0 goes on to leave
+0 goes on to finish k1.0.0
+0 goes on to free k1.0.0
+0 goes on to state wait_barrier_implicit_parallel 0";
+
 /// A search for the record of an explicit task finds one in use, and goes on at the next.
 const A_TASK_RECORD: &str = "\
 0 until enter
@@ -135,7 +161,8 @@ fn in_all_families(alloc: Global, script: &str, moves: &str) -> Result<(), Wrong
     Ok(())
 }
 
-/// Each place at which a thread waits: a team and its records, two barriers, a lock, tasks of a region, children, and the record of a task.
+/// Each place at which a thread waits: a team and its records, two barriers, a lock, tasks of a region, children, tasks of a
+/// group, and the record of a task.
 #[test]
 fn each_wait(rt: HostRuntime) -> Result<(), Fail> {
     for (script, moves) in [
@@ -144,6 +171,7 @@ fn each_wait(rt: HostRuntime) -> Result<(), Fail> {
         (ONE_LOCK, A_LOCK),
         (A_TASK_OF_EACH_MEMBER, TASKS_OF_A_REGION),
         (WAITS_FOR_TASKS, CHILDREN),
+        (A_GROUP_IN_A_TASK, A_GROUP),
         (A_FULL_ROW, A_TASK_RECORD),
     ] {
         in_all_families(rt.alloc(), script, moves)?;

@@ -2,7 +2,7 @@
 
 use crate::show_tests::{DAMAGED, HOSTILE, with_byte};
 use omi_outside::{Call, Status};
-use omi_test_calls::{call, core_of, run, with_word};
+use omi_test_calls::{call, core_of, opening_core_v1, run, with_word};
 use omi_test_rows::{A_FULL_ROW, A_TEAM_OF_TWO, AN_EMPTY_RUN};
 use std::alloc::{AllocError, Global};
 use std::process::Abort;
@@ -266,8 +266,8 @@ const LEVELS: &str = "audit no 0x103d8 region.levels 5\n";
 /// A word of an empty run's core by its number, what it is set to, and what `audit` ends with and puts. Of the words that the layout table has
 /// it says what `show` says: the count of symbols, and of the table the number of threads and the offsets of the first two fields of the runtime's
 /// record. Then the thread's native id and current task; the region around the initial one, which is this region itself, its size, its level, and its
-/// member 0; the initial task's life word, which is that of no live record, and the length of its nthreads-var.
-const WORDS: [(usize, u64, Status, &str); 12] = [
+/// member 0; the initial task's life word, which is that of no live record, the length of its nthreads-var, its group and the number of its open groups.
+const WORDS: [(usize, u64, Status, &str); 14] = [
     (0, 17, Status::Incompatible, "incompatible\n"),
     (48, 0, Status::Damaged, "damaged 0x10170 layout\n"),
     (55, 13, Status::Damaged, "damaged 0x101b8 layout\n"),
@@ -295,6 +295,8 @@ const WORDS: [(usize, u64, Status, &str); 12] = [
     (129, 0, Status::Success, "audit no 0x10408 region.team 4\n"),
     (310, 2, Status::Success, "audit no 0x10390 thread.cur 4\n"),
     (321, 5, Status::Success, "audit no 0x10a08 task.nthn 6\n"),
+    (336, 5, Status::Success, "audit no 0x10a80 task.slots 6\n"),
+    (337, 5, Status::Success, "audit no 0x10a88 task.slots 6\n"),
 ];
 
 #[test]
@@ -305,6 +307,16 @@ fn one_changed_word(rt: HostRuntime) -> Result<(), Fail> {
         let changed = with_word(alloc, &core, *number, *word)?;
         expect(&rt, alloc, Some(&changed), &[], *status, text)?;
     }
+    Ok(())
+}
+
+/// In the layout of version 1 a task has four slots and no words for groups.
+#[test]
+fn the_first_version_of_the_layout(rt: HostRuntime) -> Result<(), Fail> {
+    let alloc = rt.alloc();
+    let core = opening_core_v1(alloc, AN_EMPTY_RUN)?;
+    let text = "audit ok records 2\n";
+    expect(&rt, alloc, Some(&core), &[], Status::Success, text)?;
     Ok(())
 }
 

@@ -127,6 +127,7 @@ fn begin_region(p: &Program, a: &mut Actor)
             arrivals: 0,
             implicit: true,
             is_final: false,
+            open_groups: 0,
             depth: a.context.depth + 1,
         };
         a.begin_master(f, context);

@@ -6,7 +6,7 @@ ghost use Rattle.omi_pc.specs.Fits.{Fits};
 ghost use Rattle.omi_step_words.specs.Placed.{IsPlaced};
 
 use omi_actor::resume;
-use omi_layout::{Field, Layout};
+use omi_layout::{Field, GROUP_VERSION, Layout};
 use omi_model::{OutOfMemory, Tid};
 use omi_pc::{Actor, Counter, TaskCounter};
 use omi_rep::Outcome;
@@ -31,7 +31,7 @@ fn opening(alloc: Global, p: &Program, l: &Layout) -> Result<Actor, OutOfMemory>
 }
 
 /// What a thread answers that stands at a `task` construct whose task starts at once, looks at the life word of a slot of its own and finds this word.
-/// None where it stands at no `task` construct, or has no such slot.
+/// None where it stands at no `task` construct, or has no such slot, or the layout has no words for groups.
 fn looks(p: &Program, l: &Layout, a: &mut Actor, slot: u16, word: u64) -> Option<Outcome>
     requires threads { p.now.threads ≡ thread_count l.now.table }
     requires fits { Fits p.now a.old }
@@ -40,7 +40,7 @@ fn looks(p: &Program, l: &Layout, a: &mut Actor, slot: u16, word: u64) -> Option
     let Some(Stmt::Task { .. }) = a.statement(p) else {
         return None;
     };
-    if slot >= l.tasks_per_thread() {
+    if slot >= l.tasks_per_thread() || l.version() != GROUP_VERSION {
         return None;
     }
     a.counter = Counter::Task(TaskCounter::LoadLife { place: None, slot });

@@ -40,6 +40,26 @@ func main
 end
 ";
 
+/// Four threads that make tasks in groups, one of which makes a task.
+const GROUPS: &str = "threads 4
+func leaf
+  work
+end
+func node
+  task leaf
+end
+func both
+  task node
+  task leaf
+end
+func member
+  taskgroup both
+end
+func main
+  parallel member num 4
+end
+";
+
 /// So many turns a thread waits at most until all others have offered themselves.
 const TURNS: u64 = 4_000_000;
 
@@ -67,11 +87,11 @@ fn all_threads_form_a_team(rt: HostRuntime) -> Result<(), Fail> {
     Ok(())
 }
 
-/// Cut by the budget, in the middle of a fork, at a lock or at a barrier, a run leaves a core that is shown.
+/// Cut by the budget, in the middle of a fork, at a lock, at a barrier or in a task group, a run leaves a core that is shown.
 #[test]
 fn cut_runs_are_shown(rt: HostRuntime) -> Result<(), Fail> {
     let alloc = rt.alloc();
-    for script in [A_LOCK_AND_A_BARRIER, TASKS] {
+    for script in [A_LOCK_AND_A_BARRIER, TASKS, GROUPS] {
         for budget in [0, 3, 40, 80, 120, 160, 200, 240, 280, 320, 360, 400] {
             let line = format!(in alloc; "{budget} s c")?;
             let gate = StartGate::of(TURNS);

@@ -16,5 +16,5 @@ returns-then-a-lt10 c =
     let at : IsAt p a.stack (Parallel f c.in-Some-Parallel.field-0-1) = cc in
     subst (λ (b : Actor). AreOpen p b.context b.stack) (sym c.begin_master.ensures)
     (body_opens p _ f (Master a.context) a.stack (named_there p a.context a.stack (Parallel f c.in-Some-Parallel.field-0-1) f c.requires.bodies at refl)
-    (record { size = (omega arith, omega (arith, two)); number = omega arith; arrivals = omega arith; task = omega (arith, two); region = omega (arith, two); row = omega (arith, two); implicit = λ is. refl })
+    (record { size = (omega arith, omega (arith, two)); number = omega arith; arrivals = omega arith; groups = omega arith; task = omega (arith, two); region = omega (arith, two); row = omega (arith, two); implicit = λ is. refl })
     (c.in-Some-Parallel.field-0-1, at, record { implicit = refl; number = refl; depth = refl }) c.requires.bodies)
