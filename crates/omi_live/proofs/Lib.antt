@@ -6,6 +6,5 @@ pub mod Applied
 pub mod Going
 pub mod Joining
 pub mod Ending
-pub mod RunLines
 pub mod Performing
 pub mod Left

@@ -2,13 +2,10 @@
 -- in omi_seat.
 pub mod Accesses
 pub mod Live
--- What a command line asks for, what is printed of a run of threads, such a run by a plan, and what a call answers and leaves
+-- What a command line asks for, a run of threads by a plan, and what a call answers and leaves
 pub mod Command
-pub mod Lines
 pub mod Run
 pub mod Answer
--- What a gate is made with
-pub mod Gates
 -- The rule of the table of words, and what an operation on it tells a seat
 pub mod Running
 pub mod Plays

@@ -3,15 +3,12 @@
 
 mod command;
 mod known;
-mod lines;
 mod rule;
 mod run;
-mod start_gate;
 mod threads;
 mod top;
 mod worker;
 
 pub use omi_seat::MOST_BUDGET;
-pub use start_gate::{MOST_TURNS, StartGate};
 pub use threads::{LiveEnd, live};
 pub use top::live_top;

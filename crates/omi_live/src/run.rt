@@ -5,13 +5,12 @@ ghost use Rattle.omi_live.specs.Asked.{IsPossible};
 ghost use Rattle.omi_live.specs.Run.{IsLiveRun};
 
 use crate::command::LivePlan;
-use crate::lines::text_of;
 use crate::threads::live;
 use omi_layout::Layout;
 use omi_outside::Gate;
 use omi_rep::{families_suit, words_fix_the_report};
 use omi_script::Program;
-use omi_verbs::core_file_of;
+use omi_verbs::{core_file_of, runs_text};
 use omi_word::OutOfMemory;
 use std::alloc::Global;
 use std::thread::Threads;
@@ -32,6 +31,6 @@ pub fn run_of<R: Threads + Sync, G: Gate>(
     let layout = Layout::family(plan.layout, p.threads);
     let end = live(rt, alloc, p, &layout, plan.budget, plan.on, gate)?;
     let core = core_file_of(alloc, &end.image, p.threads)?;
-    let text = text_of(alloc, &end.runs, plan.budget)?;
+    let text = runs_text(alloc, &end.runs, plan.budget)?;
     Ok((core, text))
 }

@@ -4,7 +4,5 @@ pub mod Parts
 pub mod Printed
 -- A rewind before its first step, and a thread's state word.
 pub mod Turned
--- A session over the words of an image.
-pub mod Imaged
 -- What a call leaves, and what the clauses of the top call say of it.
 pub mod Left

@@ -1,5 +1,5 @@
 -- What a command line asks for: `at N,N,.. SCRIPT` or `when I STATE STEPS SCRIPT`, without options.
-use Rattle.std.specs.Prelude.{◌==◌, ◌||◌, ℕ, Bool, List, [], ◌∷◌, length, nat_le, Option, Some, None, if◌then◌else◌, bytes_eq, codes, is_some, map, option_and_then, option_map, string_bytes, String, Vec}
+use Rattle.std.specs.Prelude.{◌==◌, ℕ, List, [], ◌∷◌, length, nat_le, Option, Some, None, if◌then◌else◌, bytes_eq, codes, map, option_and_then, option_map, string_bytes, String, Vec}
 use Rattle.std.specs.List.{slice_split}
 use Rattle.std.specs.declared.alloc.Global.{Global}
 use Rattle.omi_line.specs.Line.{split_of}
@@ -8,6 +8,7 @@ use Rattle.omi_line.specs.declared.line.Line.{Line}
 use Rattle.omi_numbers.specs.Names.{number_in}
 use Rattle.omi_numbers.specs.States.{states}
 use Rattle.omi_rewind.specs.declared.limits.TheConstants.{LAST_STEP}
+use Rattle.omi_verbs.specs.Options.{has_option}
 use Rattle.omi_verbs.specs.Refusal.{Named}
 use Rattle.omi_rewind_top.specs.declared.limits.TheConstants.{MOST_JUMPS, MOST_NUMBER}
 
@@ -54,10 +55,6 @@ verb_of [] = None
 verb_of (verb ∷ names) =
     if bytes_eq verb (codes "at") then at_of names
     else (if bytes_eq verb (codes "when") then when_of names else None)
-
--- the line has an option
-abbrev pub has_option : Line → Bool
-has_option line = is_some line.seed || is_some line.on || is_some line.count || is_some line.layout
 
 -- the command of a line
 abbrev pub command_by : Line → Option RewindCommand

@@ -1,12 +1,9 @@
 -- What private functions of the commands stand on: words that show a state, and what was printed so far, by a look at the words.
-use Rattle.std.specs.Prelude.{◌≡◌, ◌≤◌, ◌<◌, ℕ, length, List, [], ◌∷◌, ◌++◌, Ok, Some}
+use Rattle.std.specs.Prelude.{◌≡◌, ◌≤◌, ◌<◌, ℕ, List, [], ◌∷◌, ◌++◌, Ok, Some}
 use Rattle.omi_core.specs.declared.schedule.Schedule.TheVariants.{RoundRobin}
 use Rattle.omi_layout.specs.Valid.{IsValid}
-use Rattle.omi_model.specs.State.{State}
 use Rattle.omi_model.specs.declared.view.View.{View}
 use Rattle.omi_rep.specs.LookView.{look_view}
-use Rattle.omi_rep.specs.ShownLooks.{AreNames}
-use Rattle.omi_rep.specs.Shows.{Shows}
 use Rattle.omi_rewind.specs.Rewound.{Rewound, done_in, steps_in, words_at}
 use Rattle.omi_rewind.specs.declared.rewind.At.{At}
 use Rattle.omi_rewind.specs.declared.rewind.At.TheVariants.{Here, Done}
@@ -14,15 +11,6 @@ use Rattle.omi_text.specs.Report.{report}
 use Rattle.omi_verbs.specs.Cores.{thread_ids}
 use Rattle.omi_word.specs.Words.{words_of}
 use Rattle.omi_rewind_top.specs.Lines.{place_line}
-
--- there are words, and they show some state in a valid layout, where what is visible has names of 32 bits
-pub record ShowsSome (words : List ℕ) : Type 0 where
-  pub some : 0 < length words
-  pub w : List ℕ
-  pub valid : IsValid w
-  pub state : State
-  pub names : AreNames state
-  pub shows : Shows w (words_of words) state
 
 -- the threads of a rewind step in turn, its layout is valid, and these are the ids of its threads, which are few
 pub record IsInTurn (a : Rewound) (ids : List ℕ) : Type 0 where

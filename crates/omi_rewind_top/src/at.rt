@@ -14,14 +14,13 @@ ghost use Rattle.omi_text.specs.Report.{report};
 ghost use Rattle.omi_verbs.specs.Cores.{thread_ids};
 ghost use Rattle.omi_word.specs.Words.{words_of};
 
-use crate::image_view::view_of;
 use crate::lines::place_line;
 use crate::turns::rewind_of;
 use omi_layout::Layout;
 use omi_rewind::Rewind;
 use omi_script::Program;
 use omi_text::report_text;
-use omi_verbs::contexts_of;
+use omi_verbs::{contexts_of, view_of};
 use omi_word::{Natives, OutOfMemory};
 use std::alloc::Global;
 

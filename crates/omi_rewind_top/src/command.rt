@@ -1,6 +1,6 @@
 //! What a command line asks for.
 
-ghost use Rattle.std.specs.Prelude.{◌≡◌, ◌||◌, is_some, map, option_and_then, IfOk, IfSome};
+ghost use Rattle.std.specs.Prelude.{◌≡◌, map, option_and_then, IfOk, IfSome};
 ghost use Rattle.std.specs.List.{All};
 ghost use Rattle.std.specs.Option.{option_map};
 ghost use Rattle.std.specs.Str.{IsUtf8};
@@ -8,7 +8,7 @@ ghost use Rattle.omi_line.specs.Line.{IsText};
 ghost use Rattle.omi_numbers.specs.Names.{number_in};
 ghost use Rattle.omi_numbers.specs.States.{states};
 ghost use Rattle.omi_rewind_top.specs.Asked.{asked, IsPossible};
-ghost use Rattle.omi_rewind_top.specs.Command.{at_of, command_by, has_option, names_of, script_of, verb_of, when_of};
+ghost use Rattle.omi_rewind_top.specs.Command.{at_of, command_by, names_of, script_of, verb_of, when_of};
 ghost use Rattle.omi_verbs.specs.Refusal.{named};
 
 use crate::limits::MOST_NUMBER;
@@ -19,7 +19,7 @@ use omi_numbers::{
     WAIT_TASKGROUP, WAIT_TASKWAIT, WORK_PARALLEL, WORK_SERIAL,
 };
 use omi_rewind::LAST_STEP;
-use omi_verbs::{Names, text_of};
+use omi_verbs::{Names, has_option, text_of};
 use omi_word::OutOfMemory;
 use std::alloc::Global;
 
@@ -133,13 +133,6 @@ fn verb_of<'a>(alloc: Global, words: &'a [Text]) -> Result<Option<Request<'a>>, 
         "when" => Ok(when_of(names)),
         _ => Ok(None),
     }
-}
-
-/// Whether a line has an option.
-fn has_option(line: &Line) -> bool
-    ensures { result ≡ has_option line.now }
-{
-    line.seed.is_some() || line.on.is_some() || line.count.is_some() || line.layout.is_some()
 }
 
 /// The request that a line makes, if it makes one.

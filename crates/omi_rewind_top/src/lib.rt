@@ -3,7 +3,6 @@
 
 mod at;
 mod command;
-mod image_view;
 pub mod limits;
 mod lines;
 mod steps_word;

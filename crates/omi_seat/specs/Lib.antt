@@ -10,3 +10,5 @@ pub mod Stops
 -- What a thread keeps of its steps, and its operations on words of a table
 pub mod StepLog
 pub mod Applied
+-- What a gate is made with
+pub mod Gates

@@ -7,6 +7,7 @@ mod known;
 mod limits;
 mod operation;
 mod split_join;
+mod start_gate;
 mod step_log;
 
 pub use ends::{ends_at, stops_at};
@@ -15,4 +16,5 @@ pub use known::Known;
 pub use limits::MOST_BUDGET;
 pub use operation::apply;
 pub use split_join::{First, Together};
+pub use start_gate::{MOST_TURNS, StartGate};
 pub use step_log::StepLog;

@@ -1,7 +1,7 @@
 //! Gates that hold threads until others come, each for a bounded number of turns.
 
-use omi_live::StartGate;
 use omi_outside::Gate;
+use omi_seat::StartGate;
 use std::sync::atomic::AtomicU64;
 use std::sync::atomic::Ordering::SeqCst;
 use std::thread::yield_now;

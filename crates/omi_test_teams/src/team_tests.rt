@@ -1,7 +1,7 @@
 //! Runs of threads that form teams, cut anywhere and at each kind of break.
 
-use omi_live::StartGate;
 use omi_outside::Status;
+use omi_seat::StartGate;
 use omi_test_gates::{call_past, inspect};
 use omi_test_rows::A_TEAM_OF_TWO;
 use std::test::Fail;

@@ -1,18 +1,16 @@
 -- A task of one stop is current at a later one exactly where no event between them gave it back.
-use Rattle.std.proofs.Common.{◌≡◌, ◌≢◌, ◌+◌, ◌*◌, ◌<◌, ◌==◌, ◌||◌, ◌++◌, ℕ, Bool, true, false, cond, not, List, [], ◌∷◌, map, Option, Some, None, Ok, refl, sym, ap, subst, ◌∙◌, arith, ne_eqb}
+use Rattle.std.proofs.Common.{◌≡◌, ◌≢◌, ◌+◌, ◌*◌, ◌<◌, ◌==◌, ◌||◌, ◌++◌, ℕ, Bool, true, false, not, List, [], ◌∷◌, map, Option, Some, None, Ok, refl, sym, ap, subst, ◌∙◌, arith, ne_eqb}
 use Rattle.std.specs.Prelude.{IfSome, ⊤}
 use Rattle.std.specs.List.{filter_map}
 use Rattle.std.proofs.lemmas.Bool.Decides.{nat_tests}
 use Rattle.std.proofs.lemmas.List.{map-append}
 use Rattle.omi_corefile.specs.declared.core_image.CoreImage.{CoreImage}
 use Rattle.omi_layout.specs.Field.{tasks}
-use Rattle.omi_layout.specs.Memory.{word_address}
 use Rattle.omi_layout.specs.Named.{number}
 use Rattle.omi_layout.specs.Place.{IsSlot}
-use Rattle.omi_layout.proofs.Numbers.{numbered_field}
 use Rattle.omi_layout.proofs.OneAnswer.{one_layout}
 use Rattle.omi_layout.specs.Valid.{IsValid}
-use Rattle.omi_layout.specs.declared.field.Field.TheVariants.{TaskFunction, TaskLife}
+use Rattle.omi_layout.specs.declared.field.Field.TheVariants.{TaskLife}
 use Rattle.omi_model.specs.Freeing.{MayFree, MayFreeMember, above, freed}
 use Rattle.omi_model.specs.Put.{found, named}
 use Rattle.omi_model.specs.Reached.{Leads, Step}
@@ -34,21 +32,21 @@ use Rattle.omi_model.proofs.NamesKept.{AreKept, IsMade, kept_same, kept_trans, m
 use Rattle.omi_model.proofs.Slots.{false_true, id_same, some_same}
 use Rattle.omi_model.proofs.Steps.{from_some, move_of, moved_on, of_current}
 use Rattle.omi_model.proofs.freeing.WhatStays.{SparesTask, task_gone, task_stays}
-use Rattle.omi_rep.specs.Look.{Look, and_then, id_address, look_word, mapped}
+use Rattle.omi_rep.specs.Look.{Look, and_then, id_address, mapped}
 use Rattle.omi_rep.specs.Records.{record_at, records_of}
 use Rattle.omi_rep.specs.Shows.{Shows, ShowsSlot}
 use Rattle.omi_rep.specs.LookView.{look_view}
-use Rattle.omi_rep.proofs.Codes.{wide}
-use Rattle.omi_rep.proofs.shown.ReadWords.{word_looked}
 use Rattle.omi_rule_words.specs.Counts.{is_task}
 use Rattle.omi_script.specs.declared.program.Program.{Program}
 use Rattle.omi_walk.specs.Kept.{task_names}
 use Rattle.omi_word.specs.Words.{Words}
-use Rattle.omi_top.specs.Between.{AreStops, HasRecords, fates_after, gives_back, is_given_back}
+use Rattle.omi_top.specs.Between.{AreStops, fates_after, gives_back, is_given_back}
 use Rattle.omi_session.proofs.NamesReached.{reached_are_names}
 use Rattle.omi_top.specs.Cores.{IsLooked, ShowsState, words_of_core}
-use Rattle.omi_top.specs.Follow.{IsFollowed, fate_line, is_current, look_fates}
-use Rattle.omi_top.proofs.Fates.{fates_on}
+use Rattle.omi_top.specs.Follow.{IsFollowed}
+use Rattle.omi_verbs.specs.Fates.{HasRecords, fate_line, is_current, look_fates}
+use Rattle.omi_verbs.proofs.Current.{by_life, found_at, life, told_current, told_stale}
+use Rattle.omi_verbs.proofs.FateLines.{fates_on}
 use Rattle.omi_top.proofs.LeftByShow.{shown_looked}
 
 -- ---- the events between
@@ -139,36 +137,9 @@ module _ (p : Program) (k : Tid) where
 
 module _ (w : List ℕ) (words : Words) (u : State) (valid : IsValid w) (shows : Shows w words u)
     (records : HasRecords w words) (k : Tid) (slot : IsSlot w tasks k.0.creator k.0.slot) where
-  -- a word of the task's record
-  life : (x : ℕ) × (record_at w words (id_address w tasks k.0) (number TaskLife) 0 ≡ Some x)
-  unfolding word_address
-  life =
-      records k.0.creator k.0.slot (number TaskLife) 0
-      (record { field = numbered_field TaskLife; record_slot = slot; within = wide w valid (number TaskLife) })
-
-  function : (x : ℕ) × (record_at w words (id_address w tasks k.0) (number TaskFunction) 0 ≡ Some x)
-  unfolding word_address
-  function =
-      records k.0.creator k.0.slot (number TaskFunction) 0
-      (record { field = numbered_field TaskFunction; record_slot = slot; within = wide w valid (number TaskFunction) })
-
-  -- what is looked up, by the life word
-  by_life : Bool → Look Bool
-  by_life b =
-      cond b (mapped (λ (x : ℕ). true) (look_word w words (id_address w tasks k.0) TaskFunction 0)) (Ok false)
-
-  found_at : (x : ℕ) → record_at w words (id_address w tasks k.0) (number TaskLife) 0 ≡ Some x
-      → is_current w words k ≡ by_life (x == 2 * k.0.generation + 1)
-  unfolding and_then by_life
-  found_at x is =
-      ap (λ (l : Look ℕ). and_then l (λ life. by_life (life == 2 * k.0.generation + 1)))
-      (word_looked w words (id_address w tasks k.0) TaskLife 0 x is)
-
-  told_current : by_life true ≡ Ok true
-  unfolding and_then by_life
-  told_current =
-      ap (mapped (λ (x : ℕ). true))
-      (word_looked w words (id_address w tasks k.0) TaskFunction 0 function.0 function.1)
+  -- the life word of its record
+  abbrev word : (x : ℕ) × (record_at w words (id_address w tasks k.0) (number TaskLife) 0 ≡ Some x)
+  word = life w words valid records k slot
 
   abbrev here : Slot Task
   here = u.tasks k.0.creator k.0.slot
@@ -179,26 +150,26 @@ module _ (w : List ℕ) (words : Words) (u : State) (valid : IsValid w) (shows :
   -- it is current where the task lives
   live_current : (v : Task) → task_of u k ≡ Some v → is_current w words k ≡ Ok true
   live_current v live =
-      found_at (2 * k.0.generation + 1) (task_shown.live k.0.generation v live)
-      ∙ ap by_life (let same : 2 * k.0.generation + 1 == 2 * k.0.generation + 1 ≡ true = grind (arith, nat_tests) in same)
-      ∙ told_current
+      found_at w words valid records k slot (2 * k.0.generation + 1) (task_shown.live k.0.generation v live)
+      ∙ ap (by_life w words valid records k slot) (let same : 2 * k.0.generation + 1 == 2 * k.0.generation + 1 ≡ true = grind (arith, nat_tests) in same)
+      ∙ told_current w words valid records k slot
 
   -- it is stale where the task is gone
   differs : k.0.generation < here.generations → ((v : Task) → task_of u k ≡ Some v → ⊥)
-      → (o : Option Task) → here.live ≡ o → life.0 ≢ 2 * k.0.generation + 1
+      → (o : Option Task) → here.live ≡ o → word.0 ≢ 2 * k.0.generation + 1
   differs made gone None none same =
-      let least = task_shown.free life.0 none life.1 in omega (arith, least, same, made)
+      let least = task_shown.free word.0 none word.1 in omega (arith, least, same, made)
   differs made gone (Some v) live same =
       let (g, named) = shows.within.tasks_named k.0.creator k.0.slot v live in
-      let word : life.0 ≡ 2 * g + 1 = some_same life.1 (task_shown.live g v named) in
-      let one : g ≡ k.0.generation = omega (arith, word, same) in
+      let same_word : word.0 ≡ 2 * g + 1 = some_same word.1 (task_shown.live g v named) in
+      let one : g ≡ k.0.generation = omega (arith, same_word, same) in
       gone v (ap (λ h. found h here) (sym one) ∙ named)
 
   gone_stale : k.0.generation < here.generations → ((v : Task) → task_of u k ≡ Some v → ⊥)
       → is_current w words k ≡ Ok false
-  unfolding by_life
   gone_stale made gone =
-      found_at life.0 life.1 ∙ ap by_life (ne_eqb life.0 (2 * k.0.generation + 1) (differs made gone here.live refl))
+      found_at w words valid records k slot word.0 word.1 ∙ ap (by_life w words valid records k slot) (ne_eqb word.0 (2 * k.0.generation + 1) (differs made gone here.live refl))
+      ∙ told_stale w words valid records k slot
 
 -- ---- the lines on the tasks of a report
 

@@ -9,9 +9,10 @@ use Rattle.omi_rep.specs.declared.fault.LookFault.{LookFault}
 use Rattle.omi_walk.specs.Kept.{task_names}
 use Rattle.omi_top.specs.Answer.{Gives, IsFollowAnswer, IsFollowRefusal}
 use Rattle.omi_top.specs.Cores.{IsLooked, words_of_core}
-use Rattle.omi_top.specs.Follow.{AreUnlike, IsFollowed, IsLaterRefusal, IsUnfollowed, look_fates}
+use Rattle.omi_top.specs.Follow.{AreUnlike, IsFollowed, IsLaterRefusal, IsUnfollowed}
+use Rattle.omi_verbs.specs.Fates.{look_fates}
 use Rattle.omi_top.specs.Questions.{refusal_of_layout}
-use Rattle.omi_top.specs.Shown.{refusal_of_look}
+use Rattle.omi_verbs.specs.Inquiries.{refusal_of_look}
 use Rattle.omi_top.proofs.Files.{file_not_refused, file_unique, one_told}
 use Rattle.omi_top.proofs.ShowVerdicts.{one_refusal, one_view, report_not_refused}
 use Rattle.omi_verbs.specs.declared.refusal.Refusal.{Refusal}

@@ -26,17 +26,18 @@ use Rattle.omi_session.specs.Tells.{Tells}
 use Rattle.omi_session.specs.declared.rc.Rc.{Rc}
 use Rattle.omi_session.specs.declared.rc.Rc.TheVariants as code
 use Rattle.omi_top.proofs.Asking.{IsOfCommand}
-use Rattle.omi_top.proofs.Fates.{names}
+use Rattle.omi_verbs.proofs.FateLines.{names}
 use Rattle.omi_top.proofs.Files.{told_as}
 use Rattle.omi_top.proofs.Opening.{cause_refusal, tells_core}
 use Rattle.omi_top.specs.Answer.{IsAnswered, IsEarly}
 use Rattle.omi_top.specs.Command.{Follow}
 use Rattle.omi_top.specs.Cores.{IsLooked, words_of_core}
 use Rattle.omi_top.specs.Files.{IsFileOf, IsFileRefusal}
-use Rattle.omi_top.specs.Follow.{AreFates, AreFatesOf, AreLines, HoldsEach, IsFollowed, IsKept, IsLaterRefusal, KeepsTasks, look_fates, kept_in, of_later}
-use Rattle.omi_top.specs.Questions.{ComesOfWords, IsAnswerOf, refusal_of_code, refusal_of_layout}
-use Rattle.omi_top.specs.Shown.{refusal_of_look}
-use Rattle.omi_top.specs.declared.kept_tasks.KeptTasks.{KeptTasks}
+use Rattle.omi_top.specs.Follow.{AreFates, AreFatesOf, IsFollowed, IsKept, IsLaterRefusal, KeepsTasks, of_later, kept_in}
+use Rattle.omi_verbs.specs.Fates.{AreLines, HoldsEach, look_fates}
+use Rattle.omi_top.specs.Questions.{IsAnswerOf, refusal_of_layout}
+use Rattle.omi_verbs.specs.Inquiries.{ComesOfWords, refusal_of_code, refusal_of_look}
+use Rattle.omi_verbs.specs.declared.kept_tasks.KeptTasks.{KeptTasks}
 use Rattle.omi_verbs.specs.Refusal.{IsReadFault, IsUnread}
 use Rattle.omi_verbs.specs.declared.refusal.Input.TheVariants as input
 use Rattle.omi_verbs.specs.declared.refusal.Refusal.{Refusal}

@@ -18,7 +18,6 @@ pub mod ShowVerdicts
 pub mod Recoded
 pub mod LeftByShow
 pub mod Auditing
-pub mod Fates
 pub mod Following
 pub mod AuditVerdicts
 pub mod LeftByAudit

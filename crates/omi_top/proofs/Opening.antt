@@ -19,7 +19,8 @@ use Rattle.omi_session.specs.Tells.{Tells}
 use Rattle.omi_session.specs.declared.rc.Rc.{Rc}
 use Rattle.omi_session.specs.declared.rc.Rc.TheVariants as code
 use Rattle.omi_top.specs.Cores.{IsLooked, words_of_core}
-use Rattle.omi_top.specs.Questions.{ComesOfWords, IsLayoutRefusal, IsUnopened, refusal_of_code, refusal_of_layout}
+use Rattle.omi_top.specs.Questions.{IsLayoutRefusal, IsUnopened, refusal_of_layout}
+use Rattle.omi_verbs.specs.Inquiries.{ComesOfWords, refusal_of_code}
 use Rattle.omi_top.specs.Shown.{IsViewed, handed_on}
 use Rattle.omi_verbs.specs.Refusal.{IsReadFault}
 use Rattle.omi_verbs.specs.declared.refusal.Refusal.{Refusal}
@@ -64,16 +65,6 @@ open_refused core told rc is words =
 pub unopened_viewed : (core : CoreImage) (r : Refusal) → IsUnopened core r → IsViewed core (Err r)
 unopened_viewed core r (inl refused) = inl (inl refused)
 unopened_viewed core r (inr failed) = inr (inl failed)
-
-pub code_of_words : (rc : Rc) → ComesOfWords (refusal_of_code rc)
-code_of_words code.CallbackError = inl refl
-code_of_words (code.Error addr field) = tt
-code_of_words rc = tt
-
-pub read_failed : (rc : Rc) → IsReadFault (refusal_of_code rc) → rc ≡ code.CallbackError
-read_failed code.CallbackError read = refl
-read_failed (code.Error addr field) read = absurd read
-read_failed rc read = absurd read
 
 -- what a walk over the words of a core answers, where no callback fails and there is memory
 abbrev pub Walked : CoreImage → Result View WalkFault → Type 0

@@ -17,7 +17,8 @@ use Rattle.omi_top.proofs.Files.{fault_told, file_not_refused, file_unique, one_
 use Rattle.omi_top.specs.Files.{HasFault}
 use Rattle.omi_top.specs.Cores.{IsDamaged, IsIncompatible, IsLooked, IsWrongTable, LacksTable, Spells, words_of_core}
 use Rattle.omi_top.specs.Questions.{refusal_of_layout}
-use Rattle.omi_top.specs.Shown.{refusal_of_look, IsRefusedCore}
+use Rattle.omi_top.specs.Shown.{IsRefusedCore}
+use Rattle.omi_verbs.specs.Inquiries.{refusal_of_look}
 use Rattle.omi_verbs.specs.Refusal.{status_of}
 use Rattle.omi_verbs.specs.declared.refusal.Input.TheVariants as input
 use Rattle.omi_verbs.specs.declared.refusal.Refusal.{Refusal}

@@ -1,15 +1,12 @@
 -- What two stops of one run leave are two stops: the second has the events of the first and more.
 use Rattle.std.proofs.Common.{◌≡◌, ◌+◌, ◌++◌, ℕ, List, [], ◌∷◌, length, drop, Option, sym, ap, subst, ◌∙◌, arith}
 use Rattle.std.proofs.Math.Seq.{drop-append_seam}
-use Rattle.std.proofs.lemmas.List.{length-set, map-append}
+use Rattle.std.proofs.lemmas.List.{map-append}
 use Rattle.omi_core.specs.declared.entry.Entry.{Entry}
-use Rattle.omi_core.specs.declared.stop.End.{End}
 use Rattle.omi_core.specs.Runs.{events_in}
-use Rattle.omi_core.specs.Steps.{Steps, Watches, events_behind, opening_watches}
+use Rattle.omi_core.specs.Steps.{events_behind}
 use Rattle.omi_layout.specs.Family.{IsFamily}
-use Rattle.omi_layout.specs.Place.{image_words as words_in_image}
 use Rattle.omi_layout.proofs.OneFamily.{one_family}
-use Rattle.omi_layout.proofs.Stored.{mapped as mapped_word}
 use Rattle.omi_model.specs.Opening.{opening}
 use Rattle.omi_model.specs.Reached.{Leads, Reached}
 use Rattle.omi_model.specs.State.{State}
@@ -19,13 +16,15 @@ use Rattle.omi_outside.specs.declared.status.Status.{Status}
 use Rattle.omi_rep.specs.Shows.{Shows}
 use Rattle.omi_script.specs.declared.program.Program.{Program}
 use Rattle.omi_verbs.specs.Cores.{thread_ids}
-use Rattle.omi_word.specs.Memory.{words_after}
 use Rattle.omi_word.specs.Words.{Words, words_of}
 use Rattle.omi_top.specs.Answer.{IsStopped}
-use Rattle.omi_top.specs.Between.{AreOfOneRun, AreStops, HasRecords, IsFollowedFrom, events_between}
+use Rattle.omi_top.specs.Between.{AreOfOneRun, AreStops, IsFollowedFrom, events_between}
+use Rattle.omi_verbs.specs.Fates.{HasRecords}
 use Rattle.omi_top.specs.Run.{IsRun}
 use Rattle.omi_top.specs.declared.plan.Plan.{Plan}
+use Rattle.omi_verbs.proofs.Current.{image_records}
 use Rattle.omi_verbs.proofs.ImageWords.{image_words}
+use Rattle.omi_verbs.proofs.Lengths.{steps_long}
 use Rattle.omi_top.proofs.OneRun.{events_more, later_steps}
 
 -- the events behind some of those that lead to a state lead on from the state that these reach
@@ -35,19 +34,6 @@ leads_further p s [] ys t u is leads = subst (λ (q : State). Leads p q ys u) (s
 leads_further p s (x ∷ xs) ys t u (m, step, first) (n, other, all) =
     let same : n ≡ m = some_same other.after_is step.after_is in
     leads_further p m xs ys t u first (subst (λ (q : State). Leads p q (xs ++ ys) u) same all)
-
--- steps leave as many words as there were
-steps_leave : (p : Program) (w words : List ℕ) (past : List (ℕ × Event)) (s : State) (watches : Watches) (xs : List (ℕ × Entry))
-    (last : List ℕ) (t : State) (later : Watches) → Steps p w words past s watches xs last t later → length last ≡ length words
-steps_leave p w words past s watches [] last t later (is, same, still) = ap length is
-steps_leave p w words past s watches (x ∷ xs) last t later (next, watch, from, watched, rest) =
-    steps_leave p w (words_after words x.1.op) _ next _ xs last t later rest ∙ length-set words _ _
-
-run_words : (w : List ℕ) (p : Program) (plan : Plan) (xs : List (ℕ × Entry)) (why : End) (words : List ℕ) (s : State)
-    → IsRun w p plan xs why words s → length words ≡ words_in_image w
-run_words w p plan xs why words s x =
-    steps_leave p w x.steps.first [] (opening p) opening_watches xs words s x.steps.watches x.steps.steps
-    ∙ x.steps.opens.count
 
 module _ (p : Program) (plan next : Plan) (bytes text others more : List ℕ) (a : IsStopped p plan bytes text)
     (b : IsStopped p next others more) (one : AreOfOneRun a b) where
@@ -76,10 +62,10 @@ module _ (p : Program) (plan next : Plan) (bytes text others more : List ℕ) (a
   between_is =
       ap (λ zs. events_in (events_behind (length a.entries) zs)) (ap (drop (length a.entries)) further.1 ∙ drop-append_seam a.entries further.0)
 
-  -- each word of the records is in an image that has the words of the layout
+  -- each word of the records is in the second image
   image_has : HasRecords a.w (words_of b.words)
-  image_has = λ creator slot f at is.
-      (_, mapped_word a.w a.valid b.words creator slot f at (omega (arith, run_words a.w p next b.entries b.end b.words b.state second)) is)
+  image_has =
+      image_records a.w b.words a.valid (omega (arith, steps_long p a.w b.entries b.words b.state second.steps))
 
   pub stops_of : AreStops a.core_of.core b.core_of.core
   stops_of = record {

@@ -1,11 +1,10 @@
 -- What `follow` puts of two stops of one run: a task of the first is stale exactly where an event between them gave it back.
-use Rattle.std.specs.Prelude.{◌≡◌, ◌≤◌, ℕ, Bool, false, not, List, length, drop, Option, Some, ⊤}
+use Rattle.std.specs.Prelude.{◌≡◌, ◌≤◌, ℕ, Bool, false, not, List, length, drop, Option, ⊤}
 use Rattle.std.specs.List.{flat_map, list_any}
 use Rattle.omi_core.specs.declared.entry.Entry.{Entry}
 use Rattle.omi_core.specs.Runs.{events_in}
 use Rattle.omi_core.specs.Steps.{events_behind}
 use Rattle.omi_corefile.specs.declared.core_image.CoreImage.{CoreImage}
-use Rattle.omi_layout.specs.Memory.{IsRecordWord, found_word}
 use Rattle.omi_layout.specs.Valid.{IsValid}
 use Rattle.omi_model.specs.Reached.{Leads, Reached}
 use Rattle.omi_model.specs.State.{State}
@@ -21,10 +20,9 @@ use Rattle.omi_rep.specs.Shows.{Shows}
 use Rattle.omi_rule_words.specs.Counts.{is_task}
 use Rattle.omi_script.specs.declared.program.Program.{Program}
 use Rattle.omi_walk.specs.Kept.{task_names}
-use Rattle.omi_word.specs.Words.{Words}
 use Rattle.omi_top.specs.Answer.{IsStopped}
 use Rattle.omi_top.specs.Cores.{words_of_core}
-use Rattle.omi_top.specs.Follow.{fate_line}
+use Rattle.omi_verbs.specs.Fates.{HasRecords, fate_line}
 use Rattle.omi_top.specs.declared.plan.Plan.{Plan}
 
 -- one of these events gives a task back
@@ -38,11 +36,6 @@ is_given_back events k = list_any (gives_back k) events
 -- the lines on tasks: each is stale where one of these events gave it back, and else current
 abbrev pub fates_after : List (ℕ × Event) → List Tid → List ℕ
 fates_after events ks = flat_map (λ k. fate_line k (not (is_given_back events k))) ks
-
--- each word of a record's fields is there
-abbrev pub HasRecords : List ℕ → Words → Type 0
-HasRecords w words = (creator slot f at : ℕ) → IsRecordWord w creator slot f at
-    → (x : ℕ) × (found_word w words creator slot f at ≡ Some x)
 
 -- The words of two cores show, in one layout, the state that some events of a program reach and the one to which more events lead from
 -- it. The second has each word of the records

@@ -1,63 +1,31 @@
 -- What `follow` makes of two cores of one target, and what it prints.
-use Rattle.std.specs.Prelude.{◌≡◌, ◌≢◌, ◌⊎◌, ◌==◌, ℕ, ◌+◌, ◌*◌, Bool, true, false, List, [], ◌∷◌, ◌++◌, All, Option, Some, None, Result, Ok, Err, String, codes, if◌then◌else◌, map, string_bytes}
+use Rattle.std.specs.Prelude.{◌≡◌, ◌≢◌, ◌⊎◌, ℕ, List, Option, Some, None, Result, Ok, Err, String, map, string_bytes}
 use Rattle.std.specs.declared.alloc.Global.{Global}
-use Rattle.std.specs.FinMap.{get}
-use Rattle.std.specs.List.{flat_map}
 use Rattle.omi_corefile.specs.declared.core_image.CoreImage.{CoreImage}
-use Rattle.omi_handle.specs.Ledger.{Ledger}
-use Rattle.omi_handle.specs.declared.handle.TaskHandle.{TaskHandle}
 use Rattle.omi_layout.specs.Given.{GivesLayout}
 use Rattle.omi_layout.specs.Field.{tasks}
 use Rattle.omi_layout.specs.Valid.{IsValid}
-use Rattle.omi_layout.specs.declared.field.Field.TheVariants.{TaskFunction, TaskLife}
 use Rattle.omi_model.specs.declared.id.Tid.{Tid}
 use Rattle.omi_model.specs.declared.view.View.{View}
-use Rattle.omi_rep.specs.Look.{Look, and_then, each, id_address, look_word, mapped}
+use Rattle.omi_rep.specs.Look.{Look}
 use Rattle.omi_rep.specs.LookView.{look_view}
 use Rattle.omi_rep.specs.declared.fault.LookFault.{LookFault}
-use Rattle.omi_session.specs.Made.{task_pair}
+use Rattle.omi_walk.specs.Kept.{task_names}
 use Rattle.omi_session.specs.Opened.{Apart}
-use Rattle.omi_session.specs.declared.rc.Rc.{Rc}
-use Rattle.omi_session.specs.declared.rc.Rc.TheVariants as code
-use Rattle.omi_text.specs.Ids.{task_id}
-use Rattle.omi_walk.specs.Kept.{task_names, task_object}
 use Rattle.omi_walk.specs.declared.fault.WalkFault.{WalkFault}
+use Rattle.omi_handle.specs.declared.handle.TaskHandle.{TaskHandle}
 use Rattle.omi_word.specs.Words.{Words}
 use Rattle.omi_top.specs.Cores.{Spells, words_of_core}
 use Rattle.omi_top.specs.Files.{IsFileRefusal}
-use Rattle.omi_top.specs.Questions.{IsLayoutRefusal, refusal_of_code}
-use Rattle.omi_top.specs.Shown.{IsRefusedCore, refusal_of_look, refusal_of_walk}
-use Rattle.omi_top.specs.declared.kept_tasks.KeptTasks.{KeptTasks}
+use Rattle.omi_top.specs.Questions.{IsLayoutRefusal}
+use Rattle.omi_verbs.specs.Fates.{AreHeld, look_fates}
+use Rattle.omi_verbs.specs.Inquiries.{refusal_of_look, refusal_of_walk}
+use Rattle.omi_top.specs.Shown.{IsRefusedCore}
+use Rattle.omi_verbs.specs.declared.kept_tasks.KeptTasks.{KeptTasks}
 use Rattle.omi_verbs.specs.Refusal.{IsUnread}
 use Rattle.omi_verbs.specs.declared.refusal.Input.TheVariants as input
 use Rattle.omi_verbs.specs.declared.refusal.Refusal.{Refusal}
 use Rattle.omi_verbs.specs.declared.refusal.Refusal.TheVariants as refusal
-
--- ---- what became of a task
-
--- A task that was seen is current where its record's life word is still that of its generation, and stale where it is another. The function of one that
--- is current is read too
-abbrev pub is_current : List ℕ → Words → Tid → Look Bool
-is_current w words k =
-    and_then (look_word w words (id_address w tasks k.0) TaskLife 0) (λ life.
-    if life == 2 * k.0.generation + 1
-    then mapped (λ function. true) (look_word w words (id_address w tasks k.0) TaskFunction 0)
-    else Ok false)
-
--- a task, and what became of it
-abbrev pub fate_word : Bool → List ℕ
-fate_word true = codes "current"
-fate_word false = codes "stale"
-
-abbrev pub fate_line : Tid → Bool → List ℕ
-fate_line k current =
-    codes "task " ++ (task_id k ++ (codes " " ++ (fate_word current ++ 10 ∷ [])))
-
--- the lines on these tasks, or the first word that is missing
-abbrev pub look_fates : List ℕ → Words → List Tid → Look (List ℕ)
-look_fates w words ks =
-    mapped (λ lines. flat_map (λ line. line) lines)
-    (each (λ k. mapped (fate_line k) (is_current w words k)) ks)
 
 -- ---- what is made of two cores
 
@@ -105,14 +73,6 @@ of_later r = r
 
 -- ---- between the two cores
 
--- a handle of each of these tasks is held
-abbrev pub HoldsEach : List ℕ → Ledger → List (Tid × TaskHandle) → Type 0
-HoldsEach w handles tasks =
-    All (λ k. get handles.held (task_pair k.1) ≡ Some (task_object w k.0)) tasks
-
-abbrev pub AreHeld : KeptTasks → Type 0
-AreHeld kept = HoldsEach kept.parted.layout kept.parted.handles kept.tasks
-
 -- the tasks of a core's report, of which handles are kept
 pub record KeepsTasks (core : CoreImage) (kept : KeptTasks) : Type 0 where
   pub valid : IsValid kept.parted.layout
@@ -145,21 +105,3 @@ AreFatesOf w ks later (Err r) =
 abbrev pub AreFates : KeptTasks → CoreImage → Result (String Global) Refusal → Type 0
 AreFates kept later result =
     AreHeld kept → AreFatesOf kept.parted.layout (map (λ k. k.0) kept.tasks) later result
-
--- what is made of the answer of the inquiry for a task's function: the handle of one that isn't current is stale
-abbrev pub fate_of : Result ℕ Rc → Result Bool Refusal
-fate_of (Ok address) = Ok true
-fate_of (Err code.StaleHandle) = Ok false
-fate_of (Err rc) = Err (refusal_of_code rc)
-
--- what is answered of one task: what a look gives, or a read that failed
-abbrev pub IsFate : {A : Type 0} → Look A → Result A Refusal → Type 0
-IsFate look (Ok a) = look ≡ Ok a
-IsFate look (Err r) = (r ≡ refusal.ReadFault input.Core)
-    ⊎ ((fault : LookFault) × (look ≡ Err fault) × (r ≡ refusal_of_look fault))
-
--- the lines on these tasks, or why there are none: a read that failed, want of memory, or a missing word
-abbrev pub AreLines : List ℕ → Words → List Tid → Result (String Global) Refusal → Type 0
-AreLines w memory ks (Ok text) = look_fates w memory ks ≡ Ok (string_bytes text)
-AreLines w memory ks (Err r) = IsUnread input.Core r
-    ⊎ ((fault : LookFault) × (look_fates w memory ks ≡ Err fault) × (r ≡ refusal_of_look fault))

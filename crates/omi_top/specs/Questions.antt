@@ -7,11 +7,10 @@ use Rattle.omi_layout.specs.declared.reading.LayoutError.{LayoutError}
 use Rattle.omi_layout.specs.declared.reading.LayoutError.TheVariants as layout
 use Rattle.omi_page.specs.declared.fault.PageError.{PageError}
 use Rattle.omi_page.specs.declared.fault.PageError.TheVariants as page
-use Rattle.omi_session.specs.declared.rc.Rc.{Rc}
-use Rattle.omi_session.specs.declared.rc.Rc.TheVariants as code
 use Rattle.omi_top.specs.Cores.{words_of_core}
 use Rattle.omi_elf.specs.Header.{begins_as_elf}
 use Rattle.omi_top.specs.Files.{IsCoreBy, IsFaultBy, IsRefusalBy}
+use Rattle.omi_verbs.specs.Inquiries.{ComesOfWords}
 use Rattle.omi_verbs.specs.Refusal.{IsUnread}
 use Rattle.omi_verbs.specs.declared.refusal.Input.TheVariants as input
 use Rattle.omi_verbs.specs.declared.refusal.Refusal.{Refusal}
@@ -33,12 +32,6 @@ refusal_of_layout (layout.Unmapped addr) = refusal.Damaged addr 0
 refusal_of_layout (layout.Refused addr (Version v)) = refusal.Incompatible
 refusal_of_layout (layout.Refused addr other) = refusal.Damaged addr 0
 
--- and the code of a session that doesn't open, or of an inquiry on a handle
-abbrev pub refusal_of_code : Rc → Refusal
-refusal_of_code code.CallbackError = refusal.ReadFault input.Core
-refusal_of_code (code.Error addr field) = refusal.Damaged addr field
-refusal_of_code other = refusal.Incompatible
-
 -- ---- why there is no answer
 
 -- there is no file, or the grammar of core files refuses its bytes. It is what a command says that writes a copy of a core, and looks at no
@@ -54,13 +47,6 @@ IsLayoutRefusal core r =
 -- there is no session over the core's words, and this is why: they give no layout, or a read failed
 abbrev pub IsUnopened : CoreImage → Refusal → Type 0
 IsUnopened core r = IsLayoutRefusal core r ⊎ (r ≡ refusal.ReadFault input.Core)
-
--- a refusal of words that are read one at a time
-abbrev pub ComesOfWords : Refusal → Type 0
-ComesOfWords refusal.Incompatible = ⊤
-ComesOfWords (refusal.Damaged addr field) = ⊤
-ComesOfWords (refusal.Cycle addr) = ⊤
-ComesOfWords r = IsUnread input.Core r
 
 -- a refusal of a file, or of the words of the core in it
 abbrev pub ComesOfFile : Refusal → Type 0

@@ -1,35 +1,22 @@
 //! The command `follow`.
 
-ghost use Rattle.std.specs.Prelude.{◌≡◌, ◌≢◌, ◌++◌, IfErr, IsErrAnd, OnOk, Some, map, string_bytes};
+ghost use Rattle.std.specs.Prelude.{◌≡◌, ◌≢◌, IfErr, IsErrAnd};
 ghost use Rattle.omi_outside.specs.Outside.{HasCause, Told};
 ghost use Rattle.omi_outside.specs.declared.status.Status.TheVariants.{Script};
-ghost use Rattle.omi_session.specs.Tells.{Tells};
 ghost use Rattle.omi_top.specs.Answer.{AreTold, IsAnswered};
 ghost use Rattle.omi_top.specs.Command.{Follow};
-ghost use Rattle.omi_top.specs.Follow.{AreLines, HoldsEach, IsFate, fate_line, fate_of, fate_word, is_current, kept_in, of_later};
-ghost use Rattle.omi_session.specs.Made.{task_pair};
-ghost use Rattle.omi_session.specs.Opened.{StaysWhole};
-ghost use Rattle.omi_walk.specs.Kept.{task_object};
-ghost use Rattle.std.specs.FinMap.{get};
-ghost use Rattle.omi_top.specs.Questions.{ComesOfWords};
+ghost use Rattle.omi_top.specs.Follow.{kept_in, of_later};
 ghost use Rattle.omi_verbs.specs.Refusal.{IsReadFault, status_of};
-ghost use Rattle.omi_word.specs.Words.{Words};
 
-use crate::kept_tasks::KeptTasks;
-use crate::opened::{has_valid_layout, opened, refusal_of_code};
+use crate::opened::{has_valid_layout, opened};
 use crate::question::{Question, ask_file};
-use crate::show::refusal_of_walk;
-use omi_asktask::get_task_function;
 use omi_calls::{Callbacks, Table, ToHost};
-use omi_handle::TaskHandle;
-use omi_model::{Id, Tid};
 use omi_outside::Files;
-use omi_session::{Parted, Rc, Session};
-use omi_verbs::{Input, Refusal};
+use omi_session::Parted;
+use omi_verbs::{Input, KeptTasks, Refusal, fates, refusal_of_code, refusal_of_walk};
 use omi_walk::{KeptList, WalkFault, kept};
 use omi_word::Natives;
-use std::alloc::{AllocError, Global};
-use std::fmt::Write;
+use std::alloc::Global;
 
 /// What is kept of a session in which these tasks were found, with the fault of the walk as it is handed on.
 fn kept_in(parted: Parted, tasks: Result<KeptList, WalkFault>) -> Result<KeptTasks, Refusal>
@@ -69,79 +56,6 @@ impl Question for TasksWanted {
         let (parted, table) = session.part();
         (kept_in(parted, tasks), table.into_calls())
     }
-}
-
-/// What is made of the answer of the inquiry for a task's function: the handle of a task that isn't current is stale.
-fn fate_of(answer: Result<u64, Rc>) -> Result<bool, Refusal>
-    ensures { result ≡ fate_of answer }
-{
-    match answer {
-        Ok(_) => Ok(true),
-        Err(Rc::StaleHandle) => Ok(false),
-        Err(rc) => Err(refusal_of_code(rc)),
-    }
-}
-
-/// Whether the task of a handle is current.
-fn is_current<C: Callbacks, H: ToHost>(
-    session: &mut Session<C, H>,
-    task: TaskHandle,
-) -> Result<bool, Refusal>
-    ensures fate { (memory : Words) (k : Tid) → Tells (C.told session.old.table.calls) memory
-        → get session.old.handles.held (task_pair task) ≡ Some (task_object session.old.layout k)
-        → IsFate (is_current session.old.layout memory k) result }
-    ensures words { IfErr result ComesOfWords }
-    ensures same { StaysWhole C.told session.old session.new }
-    ensures cause { HasCause (C.faults session.old.table.calls) (C.faults session.new.table.calls)
-        (IsErrAnd result IsReadFault) }
-{
-    fate_of(get_task_function(session, task))
-}
-
-/// The word for what became of a task.
-fn fate_word(current: bool) -> &'static str
-    ensures { result.now ≡ fate_word current }
-{
-    if current { "current" } else { "stale" }
-}
-
-/// Adds the line on a task.
-#[tactic(auto, unfolding(omi_text::specs::Ids::task_id, omi_text::specs::Ids::id_text))]
-fn push_fate(text: &mut String, task: Tid, current: bool) -> Result<(), AllocError>
-    ensures { OnOk result
-        (string_bytes text.new ≡ string_bytes text.old ++ fate_line task current) }
-{
-    let Tid(
-        Id {
-            creator,
-            slot,
-            generation,
-        },
-    ) = task;
-    let fate = fate_word(current);
-    write!(text, "task k{creator}.{slot}.{generation} {fate}\n")
-}
-
-/// The lines on what became of tasks, in their order.
-fn fates<C: Callbacks, H: ToHost>(
-    session: &mut Session<C, H>,
-    alloc: Global,
-    tasks: &KeptList,
-) -> Result<String, Refusal>
-    ensures fates { (memory : Words) → Tells (C.told session.old.table.calls) memory
-        → HoldsEach session.old.layout session.old.handles tasks.now
-        → AreLines session.old.layout memory (map (λ k. k.0) tasks.now) result }
-    ensures words { IfErr result ComesOfWords }
-    ensures cause { HasCause (C.faults session.old.table.calls) (C.faults session.new.table.calls)
-        (IsErrAnd result IsReadFault) }
-{
-    let mut text = String::new(alloc);
-    for at in 0..tasks.len() {
-        let (task, handle) = *tasks.get(at);
-        let current = is_current(session, handle)?;
-        push_fate(&mut text, task, current)?;
-    }
-    Ok(text)
 }
 
 /// The question what became of the tasks of an earlier core.

@@ -6,7 +6,6 @@ mod command;
 mod copy;
 mod elf;
 mod follow;
-mod kept_tasks;
 mod laws;
 mod limits;
 mod lines;

@@ -9,24 +9,14 @@ ghost use Rattle.omi_layout.specs.Valid.{IsValid};
 ghost use Rattle.omi_outside.specs.Outside.{HasCause};
 ghost use Rattle.omi_session.specs.Opened.{IsFresh};
 ghost use Rattle.omi_top.specs.Cores.{words_of_core};
-ghost use Rattle.omi_top.specs.Questions.{ComesOfWords, IsUnopened, refusal_of_code};
+ghost use Rattle.omi_top.specs.Questions.{IsUnopened};
+ghost use Rattle.omi_verbs.specs.Inquiries.{ComesOfWords, refusal_of_code};
 ghost use Rattle.omi_verbs.specs.Refusal.{IsReadFault};
 
 use omi_calls::{Callbacks, Table, ToHost};
-use omi_session::{API_VERSION, Rc, Session, initialize};
-use omi_verbs::{Input, Refusal};
+use omi_session::{API_VERSION, Session, initialize};
+use omi_verbs::{Refusal, refusal_of_code};
 use std::alloc::Global;
-
-/// What the code of a session that doesn't open, or of an inquiry on a handle, is handed on as: a callback that fails is a read that failed.
-pub fn refusal_of_code(rc: Rc) -> Refusal
-    ensures { result ≡ refusal_of_code rc }
-{
-    match rc {
-        Rc::CallbackError => Refusal::ReadFault(Input::Core),
-        Rc::Error { addr, field } => Refusal::Damaged { addr, field },
-        _ => Refusal::Incompatible,
-    }
-}
 
 /// The layout in a session is one that a type keeps, so it is valid.
 pub fn has_valid_layout<C: Callbacks, H: ToHost>(session: &Session<C, H>)

@@ -9,7 +9,8 @@ ghost use Rattle.omi_outside.specs.Outside.{HasCause};
 ghost use Rattle.omi_page.specs.Borrowed.{faults_counted, told_of};
 ghost use Rattle.omi_page.specs.Lending.{IsLent};
 ghost use Rattle.omi_top.specs.Files.{Holds, IsKind, IsRefusalBy};
-ghost use Rattle.omi_top.specs.Questions.{ComesOfFile, ComesOfWords, IsAnswerBy, IsAnswerOf, refusal_of_page};
+ghost use Rattle.omi_top.specs.Questions.{ComesOfFile, IsAnswerBy, IsAnswerOf, refusal_of_page};
+ghost use Rattle.omi_verbs.specs.Inquiries.{ComesOfWords};
 ghost use Rattle.omi_verbs.specs.Refusal.{IsReadFault, IsUnread};
 ghost use Rattle.omi_verbs.specs.declared.refusal.Refusal.{Refusal as Why};
 

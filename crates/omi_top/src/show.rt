@@ -5,7 +5,7 @@ ghost use Rattle.omi_outside.specs.Outside.{HasCause, Told};
 ghost use Rattle.omi_outside.specs.declared.status.Status.TheVariants.{Script};
 ghost use Rattle.omi_top.specs.Answer.{AreTold, IsAnswered};
 ghost use Rattle.omi_top.specs.Command.{Show};
-ghost use Rattle.omi_top.specs.Shown.{handed_on, refusal_of_walk};
+ghost use Rattle.omi_top.specs.Shown.{handed_on};
 ghost use Rattle.omi_verbs.specs.Refusal.{IsReadFault, status_of};
 
 use crate::opened::{has_valid_layout, opened};
@@ -14,22 +14,10 @@ use omi_calls::{Callbacks, ToHost};
 use omi_model::View;
 use omi_outside::Files;
 use omi_text::report_text;
-use omi_verbs::{Input, Refusal};
+use omi_verbs::{Refusal, refusal_of_walk};
 use omi_walk::{WalkFault, walk};
 use omi_word::Natives;
 use std::alloc::Global;
-
-/// What the fault of a walk is handed on as.
-pub fn refusal_of_walk(fault: WalkFault) -> Refusal
-    ensures { result ≡ refusal_of_walk fault }
-{
-    match fault {
-        WalkFault::Damaged { addr, field } => Refusal::Damaged { addr, field },
-        WalkFault::Cycle { addr } => Refusal::Cycle { addr },
-        WalkFault::Callback => Refusal::ReadFault(Input::Core),
-        WalkFault::OutOfMemory => Refusal::OutOfMemory,
-    }
-}
 
 /// What a walk answered, with its fault as it is handed on.
 fn handed_on(walked: Result<View, WalkFault>) -> Result<View, Refusal>

@@ -6,3 +6,9 @@ pub mod ImageWords
 pub mod EventLines
 pub mod Scripts
 pub mod Elsewhere
+pub mod RunLines
+pub mod Behind
+pub mod FateLines
+pub mod Current
+pub mod Lengths
+pub mod Imaged

@@ -4,7 +4,13 @@ pub mod Options
 pub mod Scripts
 pub mod Cores
 pub mod EventLines
+pub mod RunLines
 pub mod Refusal
 pub mod Said
 pub mod Statuses
 pub mod Seen
+-- What a refusal of the library is handed on as, and what became of tasks between two stops
+pub mod Inquiries
+pub mod Fates
+-- What the view of an image stands on
+pub mod Imaged

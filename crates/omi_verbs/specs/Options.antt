@@ -1,6 +1,7 @@
 -- Options that several programs have.
-use Rattle.std.specs.Prelude.{ℕ, List, Option, Some, None, codes, bytes_eq, if◌then◌else◌}
+use Rattle.std.specs.Prelude.{◌||◌, ℕ, Bool, List, Option, Some, None, codes, bytes_eq, if◌then◌else◌, is_some}
 use Rattle.omi_line.specs.Number.{number_between}
+use Rattle.omi_line.specs.declared.line.Line.{Line}
 use Rattle.omi_core.specs.declared.stop.Break.{Break}
 use Rattle.omi_core.specs.declared.stop.Break.TheVariants as kind
 use Rattle.omi_verbs.specs.declared.limits.TheConstants.{MOST_LAYOUT}
@@ -18,3 +19,7 @@ break_named name =
 abbrev pub layout_of : Option (List ℕ) → Option ℕ
 layout_of None = Some 0
 layout_of (Some layout) = number_between layout 0 MOST_LAYOUT
+
+-- the line has an option
+abbrev pub has_option : Line → Bool
+has_option line = is_some line.seed || is_some line.on || is_some line.count || is_some line.layout

@@ -1,7 +1,7 @@
 //! Options that several programs have.
 
 ghost use Rattle.std.specs.Prelude.{◌≡◌, ◌≤◌, IfSome};
-ghost use Rattle.omi_verbs.specs.Options.{break_named, layout_of};
+ghost use Rattle.omi_verbs.specs.Options.{break_named, has_option, layout_of};
 
 use crate::limits::MOST_LAYOUT;
 use omi_core::Break;
@@ -30,4 +30,11 @@ pub fn layout_of(line: &Line) -> Option<u8>
         Some(text) => Some(number(text, 0, MOST_LAYOUT)? as u8),
         None => Some(0),
     }
+}
+
+/// Whether a line has an option.
+pub fn has_option(line: &Line) -> bool
+    ensures { result ≡ has_option line.now }
+{
+    line.seed.is_some() || line.on.is_some() || line.count.is_some() || line.layout.is_some()
 }

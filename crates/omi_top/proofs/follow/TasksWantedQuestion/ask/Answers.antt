@@ -4,7 +4,7 @@ use Rattle.omi_calls.specs.Kept.{Kept}
 use Rattle.omi_layout.specs.Valid.{IsValid}
 use Rattle.omi_walk.specs.Gives.{Looks}
 use Rattle.omi_verbs.specs.Refusal.{IsReadFault}
-use Rattle.omi_top.proofs.Causes.{cause_as, cause_behind}
+use Rattle.omi_verbs.proofs.Behind.{cause_as, cause_behind}
 use Rattle.omi_top.proofs.Following.{kept_answer, kept_failed, kept_of_words}
 use Rattle.omi_top.proofs.Opening.{unopened_viewed}
 use Rattle.omi_top.proofs.follow.TasksWantedQuestion.ask.Goals as goal

@@ -28,14 +28,25 @@ use Rattle.omi_session.specs.Reads.{Answer, IsAnswer, after, answer_on}
 use Rattle.omi_session.specs.Tells.{Tells}
 use Rattle.omi_session.specs.declared.rc.Rc.{Rc}
 use Rattle.omi_session.specs.declared.rc.Rc.TheVariants as code
-use Rattle.omi_top.proofs.Opening.{code_of_words, read_failed}
-use Rattle.omi_top.specs.Follow.{AreLines, HoldsEach, IsFate, fate_line, fate_of, is_current, look_fates}
-use Rattle.omi_top.specs.Questions.{ComesOfWords}
+use Rattle.omi_verbs.specs.Fates.{AreLines, HoldsEach, IsFate, fate_line, fate_of, is_current, look_fates}
+use Rattle.omi_verbs.specs.Inquiries.{ComesOfWords, refusal_of_code}
 use Rattle.omi_verbs.specs.Refusal.{IsReadFault}
 use Rattle.omi_verbs.specs.declared.refusal.Refusal.{Refusal}
 use Rattle.omi_walk.proofs.Steps.{mapped_same}
 use Rattle.omi_walk.specs.Kept.{task_object}
 use Rattle.omi_word.specs.Words.{Words}
+
+-- ---- what a code is handed on as
+
+pub code_of_words : (rc : Rc) → ComesOfWords (refusal_of_code rc)
+code_of_words code.CallbackError = inl refl
+code_of_words (code.Error addr field) = tt
+code_of_words rc = tt
+
+pub read_failed : (rc : Rc) → IsReadFault (refusal_of_code rc) → rc ≡ code.CallbackError
+read_failed code.CallbackError read = refl
+read_failed (code.Error addr field) read = absurd read
+read_failed rc read = absurd read
 
 -- ---- one task
 

@@ -5,9 +5,9 @@ use Rattle.omi_model.specs.declared.id.Tid.{Tid}
 use Rattle.omi_session.specs.Opened.{StaysWhole}
 use Rattle.omi_word.specs.Words.{Words}
 use Rattle.omi_session.specs.Tells.{Tells}
-use Rattle.omi_top.specs.Follow.{HoldsEach}
-use Rattle.omi_top.proofs.Fates.{FatesSoFar}
-use Rattle.omi_top.proofs.follow.fates.Given as goal
+use Rattle.omi_verbs.specs.Fates.{HoldsEach}
+use Rattle.omi_verbs.proofs.FateLines.{FatesSoFar}
+use Rattle.omi_verbs.proofs.kept_tasks.fates.Given as goal
 
 abbrev pub invariant-loop-at : goal.invariant-loop-at
 invariant-loop-at g l =

@@ -6,7 +6,7 @@ ghost use Rattle.omi_calls.specs.Kept.{GivesNumbers, TakesAll};
 ghost use Rattle.omi_corefile.specs.Limits.{rises_from};
 ghost use Rattle.omi_layout.specs.Given.{GivesLayout};
 ghost use Rattle.omi_rep.specs.LookView.{look_view};
-ghost use Rattle.omi_rewind_top.specs.Looked.{ShowsSome};
+ghost use Rattle.omi_verbs.specs.Imaged.{ShowsSome};
 ghost use Rattle.omi_word.specs.Words.{words_of};
 
 use omi::session_over;

@@ -1,5 +1,5 @@
-use Rattle.omi_top.proofs.Fates.{fate_failed, fate_is, fate_of_words}
-use Rattle.omi_top.proofs.follow.is_current.Goals as goal
+use Rattle.omi_verbs.proofs.FateLines.{fate_failed, fate_is, fate_of_words}
+use Rattle.omi_verbs.proofs.kept_tasks.is_current.Goals as goal
 
 pub returns-clause-fate : goal.returns-clause-fate
 returns-clause-fate g c = λ memory k tells held.

@@ -23,7 +23,7 @@ use Rattle.omi_walk.specs.declared.fault.WalkFault.{WalkFault}
 use Rattle.omi_walk.specs.declared.fault.WalkFault.TheVariants as walk
 use Rattle.omi_word.specs.Words.{Words, words_of}
 use Rattle.omi_word.specs.declared.limits.TheConstants.{FIRST_ADDRESS}
-use Rattle.omi_rewind_top.specs.Looked.{ShowsSome}
+use Rattle.omi_verbs.specs.Imaged.{ShowsSome}
 
 -- a walk that failed
 abbrev pub failed : WalkFault → Result View WalkFault
@@ -32,6 +32,15 @@ failed fault = Err fault
 -- a walk that gave a view
 abbrev pub walked : View → Result View WalkFault
 walked view = Ok view
+
+-- what a look gives, a walk is not refused
+pub not_refused : {A : Type 0} (fault : WalkFault) (look : Look A) (x : A)
+    → (let refused : Result A WalkFault = Err fault in Gives refused look) → look ≡ Ok x
+    → (fault ≡ walk.Callback → ⊥) → (fault ≡ walk.OutOfMemory → ⊥) → ⊥
+not_refused (walk.Damaged addr field) look x gives looked none some = cc
+not_refused (walk.Cycle addr) look x gives looked none some = cc
+not_refused walk.Callback look x gives looked none some = none refl
+not_refused walk.OutOfMemory look x gives looked none some = some refl
 
 one_segment : (words : List ℕ) → 0 < length words
     → segments_of words ≡ record { start = FIRST_ADDRESS; words = words } ∷ []
@@ -60,29 +69,28 @@ module _ (words : List ℕ) (k : ShowsSome words) where
   opens core error.OutOfMemory same cause = cause
 
   -- a walk gives what a look at them gives, in the layout that they give
-  pub walk_gives : (core : CoreImage) (told : Told) (layout ids w : List ℕ) (result : Result View WalkFault)
-      → words_of_core core ≡ words_of words → told ≡ told_by core → GivesLayout (words_of_core core) layout
-      → ((memory : Words) → Tells told memory → Gives result (look_view layout memory ids))
-      → GivesLayout (words_of words) w → Gives result (look_view w (words_of words) ids)
-  walk_gives core told layout ids w result same is gives looks wanted =
+  pub walk_gives : {A : Type 0} (core : CoreImage) (told : Told) (layout w : List ℕ) (result : Result A WalkFault)
+      (look : List ℕ → Words → Look A) → words_of_core core ≡ words_of words → told ≡ told_by core
+      → GivesLayout (words_of_core core) layout → ((memory : Words) → Tells told memory → Gives result (look layout memory))
+      → GivesLayout (words_of words) w → Gives result (look w (words_of words))
+  walk_gives core told layout w result look same is gives looks wanted =
       let here : GivesLayout (words_of words) layout =
       subst (λ (m : Words). GivesLayout m layout) same gives in
-      subst (λ (l : List ℕ). Gives result (look_view l (words_of words) ids))
+      subst (λ (l : List ℕ). Gives result (look l (words_of words)))
       (one_layout (words_of words) layout w here wanted)
-      (subst (λ (m : Words). Gives result (look_view layout m ids)) same
+      (subst (λ (m : Words). Gives result (look layout m)) same
       (looks (words_of_core core) (tells_core core told is)))
+
+  -- there is a view of them
+  pub viewed : (ids : List ℕ) → (v : View) × (look_view k.w (words_of words) ids ≡ Ok v)
+  viewed ids =
+      let (v, looked, view) =
+      shown_looked k.w (words_of words) k.state ids k.valid k.names k.shows in
+      (v, looked)
 
   -- and so is never refused
   pub walk_free : (ids : List ℕ) (fault : WalkFault) → Gives (failed fault) (look_view k.w (words_of words) ids)
       → (fault ≡ walk.Callback → ⊥) → (fault ≡ walk.OutOfMemory → ⊥) → ⊥
   walk_free ids fault gives no_callback some_memory =
-      let (v, looked, view) =
-      shown_looked k.w (words_of words) k.state ids k.valid k.names k.shows in
-      go fault (look_view k.w (words_of words) ids) v gives looked no_callback some_memory
-    where
-      go : (f : WalkFault) (look : Look View) (v : View) → Gives (failed f) look → look ≡ Ok v
-          → (f ≡ walk.Callback → ⊥) → (f ≡ walk.OutOfMemory → ⊥) → ⊥
-      go (walk.Damaged addr field) look v gives looked none some = cc
-      go (walk.Cycle addr) look v gives looked none some = cc
-      go walk.Callback look v gives looked none some = none refl
-      go walk.OutOfMemory look v gives looked none some = some refl
+      let (v, looked) = viewed ids in
+      not_refused fault (look_view k.w (words_of words) ids) v gives looked no_callback some_memory

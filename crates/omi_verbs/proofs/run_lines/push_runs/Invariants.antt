@@ -1,7 +1,7 @@
 use Rattle.std.proofs.Common.{◌≡◌, ◌++◌, drop}
 use Rattle.std.specs.Prelude.{string_bytes}
-use Rattle.omi_live.specs.Lines.{runs_lines}
-use Rattle.omi_live.proofs.lines.push_runs.Given as goal
+use Rattle.omi_verbs.specs.RunLines.{runs_lines}
+use Rattle.omi_verbs.proofs.run_lines.push_runs.Given as goal
 
 -- the lines so far, and those of the threads that are left
 abbrev pub invariant-loop-thread : goal.invariant-loop-thread

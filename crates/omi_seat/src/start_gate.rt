@@ -1,7 +1,8 @@
 // A gate at which all threads wait until each can be taken into a team.
 ghost use Rattle.std.specs.Prelude.{◌≡◌};
-ghost use Rattle.omi_live.specs.Gates.{turns_of};
+ghost use Rattle.omi_seat.specs.Gates.{turns_of};
 
+use omi_layout::MOST_THREADS;
 use omi_outside::Gate;
 use std::hint::spin_loop;
 use std::sync::atomic::AtomicU64;
@@ -22,7 +23,8 @@ const STEPS_IN_A_ROW: u64 = 100;
 
 /// Holds thread 0 before its first step, and each other thread behind its offer to teams, until all of them have offered themselves. Once
 /// a thread has waited all its turns, no thread waits any more. Where the budget has no third step, none waits at all. Now and then a
-/// thread lets another one run.
+/// thread lets another one run. Whoever passes with a number behind those of all threads, as an inspector does, waits before its first
+/// pass alone: a stop before the offers would hold the threads for which thread 0 waits.
 #[derive(Drop)]
 pub struct StartGate {
     turns: u64,
@@ -77,6 +79,12 @@ impl Gate for StartGate {
     }
 
     fn pass(&self, thread: u8, step: u64) {
+        if u64::from(thread) >= MOST_THREADS {
+            if step == 1 {
+                self.wait();
+            }
+            return;
+        }
         if step % STEPS_IN_A_ROW == 0 {
             yield_now();
         }
