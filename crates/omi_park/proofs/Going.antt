@@ -1,6 +1,6 @@
 -- A worker that goes on, step by step, waits for an even epoch before each, and ends.
-use Rattle.std.proofs.Common.{◌≡◌, ◌<◌, ◌≤◌, ◌-◌, ◌+◌, ◌%◌, ◌++◌, ℕ, false, true, List, [], ◌∷◌, length, Some, None, refl, sym, ap, ◌∙◌, subst, arith}
-use Rattle.std.proofs.lemmas.List.{length-append, length-map}
+use Rattle.std.proofs.Common.{◌≡◌, ◌<◌, ◌≤◌, ◌-◌, ◌+◌, ◌++◌, ℕ, false, true, List, [], ◌∷◌, length, Some, None, refl, sym, ap, ◌∙◌, subst, arith}
+use Rattle.std.proofs.lemmas.List.{length-append}
 use Rattle.atomic_table.specs.Seated.{TableId}
 use Rattle.omi_script.specs.declared.program.Program.{Program}
 use Rattle.omi_layout.specs.declared.layout.Layout.{Layout}
@@ -13,14 +13,13 @@ use Rattle.omi_seat.specs.declared.known.Known.{Known}
 use Rattle.omi_seat.specs.declared.step_log.StepLog.{StepLog}
 use Rattle.omi_seat.specs.Known.{entry_known, steps_known}
 use Rattle.omi_seat.specs.StepLog.{HasRoom, IsLogOf}
-use Rattle.omi_seat.specs.Stops.{GoesOn, WentOn, ends_at, is_ended, stops_at}
+use Rattle.omi_seat.specs.Stops.{GoesOn, WentOn, ends_at, is_ended}
 use Rattle.omi_seat.proofs.GoingOn.{ended_by, goes_more, not_ended, went, went_more}
 use Rattle.omi_seat.proofs.Learnt.{steps_found, steps_one_more}
 use Rattle.omi_seat.proofs.Logged.{count_is, less_room}
 use Rattle.omi_park.specs.declared.known.WorkerPart.{WorkerPart}
-use Rattle.omi_park.specs.declared.limits.TheConstants.{LAST_EPOCH}
 use Rattle.omi_park.specs.declared.worker.Worker.{Worker}
-use Rattle.omi_park.specs.Acknowledged.{HasLeft, IsOdd, IsParkedIn, acknowledgement}
+use Rattle.omi_park.specs.Acknowledged.{IsOdd, acknowledgement}
 use Rattle.omi_park.specs.Plays.{first_worker, loads, makes, says}
 use Rattle.omi_park.specs.Work.{HasGoneOn, HasLoaded, HasStepped, HasWorked, IsAtWork, IsBefore, IsLoose, IsPausing, IsSameBut, IsSeatOf, IsToPark, IsWaiting, IsWith, MayStep}
 use Rattle.omi_park.proofs.Parts.{one_value}

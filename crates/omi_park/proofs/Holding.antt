@@ -1,12 +1,11 @@
 -- The inspector within a stop: what its parts leave is what the next one finds.
-use Rattle.std.proofs.Common.{◌≡◌, ◌+◌, ◌++◌, ℕ, List, [], ◌∷◌, length, map, sym, ap, ◌∙◌, subst}
+use Rattle.std.proofs.Common.{◌≡◌, ◌+◌, ◌++◌, ℕ, List, [], ◌∷◌, length, sym, subst}
 use Rattle.omi_script.specs.declared.program.Program.{Program}
 use Rattle.omi_layout.specs.declared.layout.Layout.{Layout}
 use Rattle.omi_layout.specs.Place.{image_words}
 use Rattle.omi_seat.specs.Seats.{Seated}
 use Rattle.omi_park.specs.declared.known.InspectorPart.{InspectorPart}
 use Rattle.omi_park.specs.declared.known.Part.{Part}
-use Rattle.omi_park.specs.declared.known.Part.TheVariants as part
 use Rattle.omi_park.specs.declared.stopped.Stopped.{Stopped}
 use Rattle.omi_park.specs.Inspecting.{HasSeenAll, IsHolding, IsInspectorSeat, IsSeeing}
 use Rattle.omi_park.specs.Plays.{lets_go}

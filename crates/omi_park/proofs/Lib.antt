@@ -11,3 +11,8 @@ pub mod Copying
 pub mod Holding
 pub mod Joining
 pub mod Ending
+-- What a call of the top leaves, and what is printed of stops
+pub mod Asking
+pub mod Taken
+pub mod Showing
+pub mod Left

@@ -1,26 +1,21 @@
 -- Seats are made and taken in, and a table is opened, under the rule.
-use Rattle.std.proofs.Common.{◌≡◌, ◌≢◌, ◌⊎◌, inl, inr, ◌<◌, ◌≤◌, ◌+◌, ◌/◌, ◌++◌, ℕ, zero, suc, List, [], ◌∷◌, length, replicate, slice_get, Some, None, refl, sym, ap, ◌∙◌, subst, arith, ⊎_elim}
+use Rattle.std.proofs.Common.{◌≡◌, ◌≢◌, ◌⊎◌, inl, inr, ◌<◌, ◌+◌, ◌++◌, ℕ, zero, suc, List, [], ◌∷◌, replicate, slice_get, Some, refl, sym, ap, ◌∙◌, subst, arith, ⊎_elim}
 use mathlib.Core.Option.{some, some-injective, some-ne-none}
 use lib.ListN.{get_elem?}
-use Rattle.std.proofs.lemmas.Bool.{cases_lt}
 use Rattle.std.proofs.lemmas.List.{length-replicate}
-use Rattle.atomic_table.specs.Table.{Joins, Splits, State, opening}
+use Rattle.atomic_table.specs.Table.{Joins, Splits, opening}
 use Rattle.omi_script.specs.declared.program.Program.{Program}
 use Rattle.omi_layout.specs.declared.layout.Layout.{Layout}
 use Rattle.omi_layout.specs.OpeningWords.{AreOpening}
 use Rattle.omi_rep.specs.Suits.{Suits}
-use Rattle.omi_core.specs.declared.entry.Entry.{Entry}
-use Rattle.omi_core.specs.Steps.{steps_of}
 use Rattle.omi_seat.specs.Behind.{HasRun}
 use Rattle.omi_seat.specs.Seats.{AreSeated, all_below, first_alone, without_first}
 use Rattle.omi_seat.proofs.Lists.{get_more}
-use Rattle.omi_seat.proofs.Opened.{none_yet, opened, untouched_known}
+use Rattle.omi_seat.proofs.Opened.{opened, untouched_known}
 use Rattle.omi_seat.proofs.Seats.{one_below, one_joined, one_split}
-use Rattle.omi_park.specs.declared.known.InspectorPart.{InspectorPart}
 use Rattle.omi_park.specs.declared.known.Part.{Part}
 use Rattle.omi_park.specs.declared.known.Part.TheVariants as part
-use Rattle.omi_park.specs.declared.limits.TheConstants.{HALF}
-use Rattle.omi_park.specs.Acknowledged.{IsStill, steps_said}
+use Rattle.omi_park.specs.Acknowledged.{IsStill}
 use Rattle.omi_park.specs.Plays.{first_inspector, first_part, first_parts}
 use Rattle.omi_park.specs.Running.{IsInspector, IsPart, IsSaid, Keeps, number_of}
 use Rattle.omi_park.proofs.Kept.{Now, reseated}

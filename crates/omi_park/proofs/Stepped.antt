@@ -1,5 +1,5 @@
 -- A step of a worker's thread keeps the rule of the table: a worker that steps has not been seen, so no word was copied yet.
-use Rattle.std.proofs.Common.{◌≡◌, ◌≢◌, inr, ◌<◌, ◌≤◌, ◌==◌, ◌+◌, ◌++◌, ℕ, Bool, true, false, List, [], ◌∷◌, length, slice_get, slice_index, slice_set, Some, refl, sym, ap, ◌∙◌, subst, arith, eqb-true, eq-eqb}
+use Rattle.std.proofs.Common.{◌≡◌, ◌≢◌, inr, ◌<◌, ◌≤◌, ◌==◌, ◌+◌, ℕ, Bool, true, false, List, [], ◌∷◌, length, slice_get, slice_index, slice_set, Some, refl, sym, ap, ◌∙◌, subst, arith, eqb-true, eq-eqb}
 use mathlib.Core.Option.{some}
 use lib.ListN.{get_elem?}
 use Rattle.atomic_table.specs.Seated.{TableId}
@@ -30,7 +30,7 @@ use Rattle.omi_park.specs.Acknowledged.{IsStill}
 use Rattle.omi_park.specs.Plays.{makes, stepped}
 use Rattle.omi_park.specs.Running.{IsInspector, IsPart, IsSaid, Keeps, number_of}
 use Rattle.omi_park.specs.Work.{IsLoose}
-use Rattle.omi_park.proofs.Kept.{Now, image}
+use Rattle.omi_park.proofs.Kept.{Now}
 use Rattle.omi_park.proofs.Parts.{one_value, place_there, worker_is}
 use Rattle.omi_park.proofs.Stops.{stops_stand}
 use Rattle.omi_park.proofs.Worked.{not_seen, not_still, other_thread, worker}

@@ -1,5 +1,5 @@
 -- What acknowledgement words say.
-use Rattle.std.proofs.Common.{◌≡◌, ◌≤◌, ◌+◌, ◌*◌, ◌/◌, ◌%◌, ℕ, sym, ap, ◌∙◌, arith}
+use Rattle.std.proofs.Common.{◌≡◌, ◌≤◌, ◌+◌, ◌*◌, ◌/◌, ℕ, sym, ap, ◌∙◌, arith}
 use Rattle.std.proofs.lemmas.Nat.{div-mul-add, mod-mul-add}
 use Rattle.omi_seat.specs.declared.limits.TheConstants.{MOST_BUDGET}
 use Rattle.omi_park.specs.declared.limits.TheConstants.{HALF, LAST_EPOCH, LEFT}

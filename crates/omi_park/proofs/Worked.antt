@@ -1,5 +1,5 @@
 -- What a worker's load of the epoch and its acknowledgement keep.
-use Rattle.std.proofs.Common.{◌≡◌, ◌≢◌, ◌⊎◌, inl, inr, ◌<◌, ◌≤◌, ◌==◌, ◌+◌, ◌/◌, ◌++◌, ℕ, suc, Bool, true, false, List, [], ◌∷◌, length, slice_get, slice_index, slice_set, Some, None, refl, sym, ap, ◌∙◌, subst, arith, ⊎_elim, eqb-true, eq-eqb}
+use Rattle.std.proofs.Common.{◌≡◌, ◌≢◌, inl, inr, ◌≤◌, ◌==◌, ◌+◌, ◌/◌, ℕ, Bool, true, false, List, [], ◌∷◌, length, slice_get, slice_index, slice_set, Some, refl, sym, ap, ◌∙◌, subst, arith, eqb-true, eq-eqb}
 use mathlib.Core.Option.{some}
 use lib.ListN.{get_elem?}
 use Rattle.std.proofs.lemmas.List.{length-set}
@@ -10,23 +10,21 @@ use Rattle.omi_layout.specs.Place.{image_words}
 use Rattle.omi_core.specs.Steps.{steps_of}
 use Rattle.omi_seat.specs.declared.limits.TheConstants.{MOST_BUDGET}
 use Rattle.omi_seat.specs.Behind.{CanStep}
-use Rattle.omi_seat.specs.Known.{actor_known, steps_known}
-use Rattle.omi_seat.specs.Seats.{AreSeated}
+use Rattle.omi_seat.specs.Known.{actor_known}
 use Rattle.omi_seat.proofs.Learnt.{steps_found}
 use Rattle.omi_seat.proofs.Seats.{one_changed, own_part}
 use Rattle.omi_seat.proofs.Stepped.{can_step}
-use Rattle.omi_park.specs.declared.known.InspectorPart.{InspectorPart}
 use Rattle.omi_park.specs.declared.known.Part.{Part}
 use Rattle.omi_park.specs.declared.known.Part.TheVariants as part
 use Rattle.omi_park.specs.declared.known.WorkerPart.{WorkerPart}
 use Rattle.omi_park.specs.declared.limits.TheConstants.{HALF, LAST_EPOCH}
-use Rattle.omi_park.specs.Acknowledged.{HasLeft, IsParkedIn, IsStill, acknowledgement, farewell, steps_said}
+use Rattle.omi_park.specs.Acknowledged.{HasLeft, IsParkedIn, IsStill, steps_said}
 use Rattle.omi_park.specs.Plays.{loaded, loads, said, says}
 use Rattle.omi_park.specs.Running.{IsInspector, IsPart, IsSaid, IsWorker, Keeps, number_of}
 use Rattle.omi_park.specs.Work.{IsLoose, MaySay, leaves, parks}
 use Rattle.omi_park.proofs.Kept.{Now, ack_set, epoch_found, image, loaded_on, reseated, run_with}
 use Rattle.omi_park.proofs.Parts.{one_value, set_here, set_there, worker_is}
-use Rattle.omi_park.proofs.Words.{left_now, left_steps, parked_half, parked_steps, parked_stays}
+use Rattle.omi_park.proofs.Words.{left_now, left_steps, parked_half, parked_steps}
 
 module _ (p : Program) (l : Layout) (s : State (Unit {0}) (List Part)) (h : Keeps p l s) (id : ℕ)
     (x : WorkerPart) (at : get_elem? s.views id ≡ some (part.Worker x ∷ [])) where

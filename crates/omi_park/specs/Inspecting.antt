@@ -11,7 +11,6 @@ use Rattle.omi_park.specs.declared.known.InspectorPart.{InspectorPart}
 use Rattle.omi_park.specs.declared.known.Part.{Part}
 use Rattle.omi_park.specs.declared.known.Part.TheVariants as part
 use Rattle.omi_park.specs.declared.limits.TheConstants.{LAST_EPOCH}
-use Rattle.omi_park.specs.declared.stopped.Stopped.{Stopped}
 use Rattle.omi_park.specs.Acknowledged.{IsOdd, steps_said}
 
 -- ---- what its seat knows

@@ -2,6 +2,11 @@
 -- no further step stands in omi_seat.
 pub mod Acknowledged
 pub mod Parked
+-- What a command line asks for, what is printed of a stop and of a run with stops, and what a call answers and leaves
+pub mod Command
+pub mod Lines
+pub mod Shown
+pub mod Answer
 -- The rule of the table of words, and what an operation on it tells a seat
 pub mod Running
 pub mod Plays
@@ -9,3 +14,7 @@ pub mod Plays
 pub mod Work
 pub mod Inspecting
 pub mod Joined
+-- What private functions of the top call stand on: a request as a command, what its layers say alike, and what is kept of a stop
+pub mod Asked
+pub mod Causes
+pub mod Kept

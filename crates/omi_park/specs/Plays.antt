@@ -1,5 +1,5 @@
--- What one operation on the table tells the seat that makes it: four kinds of a worker, and three of the inspector, whose stores of the epoch
--- are of two sorts.
+-- What one operation on the table tells the seat that makes it: three of a worker (`loaded`, `stepped`, `said`), and four of the inspector
+-- (`called`, `seen`, `copied`, `let_go`).
 use Rattle.std.specs.Prelude.{◌≡◌, ◌≤◌, ℕ, ◌+◌, ◌++◌, List, [], ◌∷◌, Some, None, map, if◌then◌else◌}
 use Rattle.atomic_table.specs.Table.{Step}
 use Rattle.omi_script.specs.declared.program.Program.{Program}

@@ -1,6 +1,6 @@
 -- The rule of the table of words, between any two steps of any threads: its words are those of a run, the epoch word and the
 -- acknowledgement words, and what a seat knows of a thread is what the thread made in this run.
-use Rattle.std.specs.Prelude.{◌≡◌, ◌⊎◌, ◌≤◌, ℕ, ◌+◌, ◌/◌, List, [], ◌∷◌, length, slice_get, slice_index, Some}
+use Rattle.std.specs.Prelude.{◌≡◌, ◌⊎◌, ◌≤◌, ℕ, ◌+◌, ◌/◌, List, ◌∷◌, length, slice_get, slice_index, Some}
 use Rattle.atomic_table.specs.Table.{State}
 use Rattle.omi_script.specs.declared.program.Program.{Program}
 use Rattle.omi_layout.specs.declared.layout.Layout.{Layout}

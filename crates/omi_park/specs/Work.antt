@@ -21,7 +21,7 @@ use Rattle.omi_park.specs.declared.limits.TheConstants.{LAST_EPOCH}
 use Rattle.omi_park.specs.declared.rule.Given.{Given}
 use Rattle.omi_park.specs.declared.worker.Worker.{Worker}
 use Rattle.omi_park.specs.Acknowledged.{HasLeft, IsOdd, IsParkedIn, acknowledgement, farewell}
-use Rattle.omi_park.specs.Plays.{first_worker, loads, makes, says}
+use Rattle.omi_park.specs.Plays.{loads, makes}
 
 -- ---- the table
 

@@ -1,14 +1,22 @@
 //! A stop beside running threads: the inspector holds the threads of a program, copies the words of one moment, and lets the threads go on.
+//! All that the program `ompdpark` does.
 #![tactic(auto)]
 
+mod command;
+mod copies;
 mod inspector;
 mod known;
 mod limits;
+mod lines;
+mod printed;
 mod rule;
+mod run;
 mod stopped;
 mod threads;
+mod top;
 mod worker;
 
 pub use limits::{INSPECTOR, MOST_STOPS};
 pub use stopped::{StopList, Stopped};
 pub use threads::{ParkEnd, park};
+pub use top::park_top;

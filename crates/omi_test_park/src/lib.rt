@@ -5,3 +5,5 @@
 mod gates;
 #[cfg(test)]
 mod park_tests;
+#[cfg(test)]
+mod top_tests;

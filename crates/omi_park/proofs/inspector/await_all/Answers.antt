@@ -1,4 +1,4 @@
-use Rattle.std.proofs.Common.{◌≡◌, ◌<◌, ◌≤◌, ◌+◌, ◌++◌, List, [], ◌∷◌, ℕ, length, refl, sym, ap, ◌∙◌, subst, arith}
+use Rattle.std.proofs.Common.{◌≡◌, ◌+◌, List, ℕ, length, refl, sym, ap, ◌∙◌, subst, arith}
 use Rattle.omi_park.specs.Inspecting.{HasSeenAll}
 use Rattle.omi_park.proofs.Copying.{none_seen_yet, seen_more}
 use Rattle.omi_park.proofs.inspector.await_all.Goals as goal

@@ -1,4 +1,4 @@
-use Rattle.std.proofs.Common.{◌≡◌, ◌<◌, ◌≤◌, ◌+◌, ◌++◌, Bool, true, false, [], ◌∷◌, length, sym, ap, ◌∙◌, subst, arith, if◌then◌else◌}
+use Rattle.std.proofs.Common.{◌≡◌, ◌+◌, true, false, length, sym, ap, ◌∙◌, subst, arith}
 use mathlib.Core.Option.{none}
 use Rattle.atomic_table.specs.Table.{Allows, step}
 use Rattle.omi_script.specs.declared.program.Program.{Program}
@@ -6,11 +6,8 @@ use Rattle.omi_script.proofs.RuleLemmas.{Rules-from_accepted}
 use Rattle.omi_layout.specs.declared.layout.Layout.{Layout}
 use Rattle.omi_layout.specs.Place.{image_words}
 use Rattle.omi_seat.specs.Seats.{Seated}
-use Rattle.omi_park.specs.declared.known.InspectorPart.{InspectorPart}
 use Rattle.omi_park.specs.declared.known.Part.{Part}
-use Rattle.omi_park.specs.declared.known.Part.TheVariants as part
 use Rattle.omi_park.specs.Acknowledged.{IsOdd, is_still}
-use Rattle.omi_park.specs.Inspecting.{IsInspectorSeat}
 use Rattle.omi_park.specs.Plays.{seen}
 use Rattle.omi_park.specs.Running.{Keeps}
 use Rattle.omi_park.proofs.Copying.{has_seen, not_seen}

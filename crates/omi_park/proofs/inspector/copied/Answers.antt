@@ -1,6 +1,6 @@
-use Rattle.std.proofs.Common.{◌≡◌, ◌<◌, ◌+◌, ◌++◌, ℕ, List, [], ◌∷◌, length, slice_index, slice_set, refl, sym, ap, ◌∙◌, subst, arith}
+use Rattle.std.proofs.Common.{◌≡◌, ◌+◌, ℕ, List, length, slice_set, refl, sym, ap, ◌∙◌, subst, arith}
 use mathlib.Core.Option.{none}
-use Rattle.std.proofs.lemmas.List.{ext_get_or, length-append, length-set}
+use Rattle.std.proofs.lemmas.List.{ext_get_or, length-set}
 use Rattle.atomic_table.specs.Table.{Allows, step}
 use Rattle.omi_script.specs.declared.program.Program.{Program}
 use Rattle.omi_layout.specs.declared.layout.Layout.{Layout}
@@ -9,7 +9,6 @@ use Rattle.omi_word.proofs.Addresses.{place-address}
 use Rattle.omi_seat.specs.Seats.{Seated}
 use Rattle.omi_park.specs.declared.known.InspectorPart.{InspectorPart}
 use Rattle.omi_park.specs.declared.known.Part.{Part}
-use Rattle.omi_park.specs.declared.known.Part.TheVariants as part
 use Rattle.omi_park.specs.Inspecting.{HasCopied, IsInspectorSeat}
 use Rattle.omi_park.specs.Plays.{copied}
 use Rattle.omi_park.specs.Running.{Keeps}

@@ -1,13 +1,4 @@
 -- A stop: each part of it finds the inspector as the one before left it.
-use Rattle.std.proofs.Common.{◌≡◌, ◌<◌, ◌≤◌, ◌+◌, ◌++◌, ℕ, List, [], ◌∷◌, length, map, vec_capacity, refl, sym, ap, ◌∙◌, subst, arith}
-use Rattle.omi_seat.specs.Seats.{Seated}
-use Rattle.omi_park.specs.declared.inspector.Room.{Room}
-use Rattle.omi_park.specs.declared.known.InspectorPart.{InspectorPart}
-use Rattle.omi_park.specs.declared.known.Part.{Part}
-use Rattle.omi_park.specs.declared.known.Part.TheVariants as part
-use Rattle.omi_park.specs.declared.stopped.Stopped.{Stopped}
-use Rattle.omi_park.specs.Inspecting.{IsInspectorSeat}
-use Rattle.omi_park.specs.Plays.{lets_go}
 use Rattle.omi_park.proofs.Holding.{held_now, over_now, seeing_all}
 use Rattle.omi_park.proofs.inspector.stop.Goals as goal
 

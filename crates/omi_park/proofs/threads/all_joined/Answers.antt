@@ -1,4 +1,4 @@
-use Rattle.std.proofs.Common.{◌≡◌, ◌≤◌, ◌+◌, ◌++◌, List, [], ◌∷◌, length, slice_get, vec_capacity, vec_len, Some, sym, ap, ◌∙◌, subst, arith}
+use Rattle.std.proofs.Common.{◌≡◌, ◌++◌, List, [], ◌∷◌, length, slice_get, Some, sym, ap, ◌∙◌, subst, arith}
 use Rattle.omi_core.specs.declared.thread_run.ThreadRun.{ThreadRun}
 use Rattle.omi_seat.proofs.Lists.{get_front, get_last}
 use Rattle.omi_seat.specs.Seats.{Seated}

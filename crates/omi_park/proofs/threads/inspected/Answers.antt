@@ -1,4 +1,4 @@
-use Rattle.std.proofs.Common.{◌≡◌, ◌+◌, length, vec_len, sym, ap, subst, arith}
+use Rattle.std.proofs.Common.{◌≡◌, length, ap, subst, arith}
 use Rattle.omi_park.specs.Inspecting.{HasInspected}
 use Rattle.omi_park.specs.Plays.{first_inspector}
 use Rattle.omi_park.proofs.threads.inspected.Goals as goal

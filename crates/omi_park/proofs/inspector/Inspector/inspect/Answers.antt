@@ -1,11 +1,9 @@
 -- The inspector's stops, one after another.
-use Rattle.std.proofs.Common.{◌≡◌, ◌<◌, ◌≤◌, ◌+◌, ◌*◌, ◌%◌, ◌++◌, ℕ, List, [], ◌∷◌, length, slice_get, vec_capacity, vec_len, Some, sym, ap, ◌∙◌, subst, arith}
+use Rattle.std.proofs.Common.{◌≡◌, ◌+◌, ◌++◌, List, [], ◌∷◌, length, slice_get, sym, ap, ◌∙◌, arith}
 use Rattle.std.proofs.lemmas.List.{length-append}
 use Rattle.omi_seat.proofs.Lists.{get_front, get_last}
 use Rattle.omi_park.specs.declared.inspector.Room.{Room}
-use Rattle.omi_park.specs.declared.known.InspectorPart.{InspectorPart}
 use Rattle.omi_park.specs.declared.stopped.Stopped.{Stopped}
-use Rattle.omi_park.specs.Inspecting.{IsBetween}
 use Rattle.omi_park.proofs.inspector.Inspector.inspect.Goals as goal
 
 pub stop-stopped-requires-clause-room : goal.stop-stopped-requires-clause-room

@@ -1,6 +1,5 @@
 -- A worker that waits: it parks in each odd epoch that it loads anew, and goes on in an even one.
-use Rattle.std.proofs.Common.{◌≡◌, ◌<◌, ◌%◌, refl, sym, ap, ◌∙◌, subst, arith}
-use Rattle.omi_seat.specs.declared.step_log.StepLog.{StepLog}
+use Rattle.std.proofs.Common.{refl, ◌∙◌, arith}
 use Rattle.omi_park.specs.Plays.{loads}
 use Rattle.omi_park.proofs.Going.{is_to_park, waits_first, waits_on, waits_over, waits_still}
 use Rattle.omi_park.proofs.worker.Worker.go_on.Goals as goal

@@ -1,4 +1,3 @@
-use Rattle.std.proofs.Common.{◌≡◌}
 use Rattle.omi_park.specs.declared.known.WorkerPart.{WorkerPart}
 use Rattle.omi_park.specs.Work.{IsPausing, IsSameBut, IsWaiting}
 use Rattle.omi_park.proofs.worker.Worker.go_on.Given as goal

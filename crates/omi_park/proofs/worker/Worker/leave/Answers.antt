@@ -1,4 +1,4 @@
-use Rattle.std.proofs.Common.{◌≡◌, ◌≤◌, ◌+◌, length, Some, None, sym, ap, ◌∙◌, subst, arith}
+use Rattle.std.proofs.Common.{ap, ◌∙◌, subst}
 use Rattle.omi_park.specs.Acknowledged.{farewell}
 use Rattle.omi_park.specs.Plays.{says}
 use Rattle.omi_park.specs.Work.{IsSeatOf, leaves}

@@ -1,7 +1,4 @@
-use Rattle.std.proofs.Common.{◌≡◌, ◌≤◌, ◌+◌, ◌*◌, length, Some, sym, ap, ◌∙◌, subst, arith}
-use Rattle.omi_seat.specs.Seats.{Seated}
-use Rattle.omi_park.specs.declared.known.Part.{Part}
-use Rattle.omi_park.specs.declared.known.WorkerPart.{WorkerPart}
+use Rattle.std.proofs.Common.{ap, ◌∙◌, subst}
 use Rattle.omi_park.specs.Acknowledged.{IsParkedIn, acknowledgement}
 use Rattle.omi_park.specs.Plays.{says}
 use Rattle.omi_park.specs.Work.{IsSeatOf, parks}

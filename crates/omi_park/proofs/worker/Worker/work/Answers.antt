@@ -1,5 +1,5 @@
 -- A worker at work: each turn of its loop waits for an even epoch and makes a step.
-use Rattle.std.proofs.Common.{◌≡◌, ◌<◌, ◌≤◌, ◌+◌, ◌-◌, ℕ, Bool, true, false, length, sym, ap, ◌∙◌, subst, arith}
+use Rattle.std.proofs.Common.{◌≡◌, ◌-◌, true, false, length, sym, ap, ◌∙◌, arith}
 use Rattle.omi_script.specs.declared.program.Program.{Program}
 use Rattle.omi_step_words.specs.Outcomes.{outcome_of}
 use Rattle.omi_seat.specs.declared.known.Known.{Known}

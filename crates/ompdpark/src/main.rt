@@ -1,0 +1,27 @@
+// The program: `park_top` over real files and standard output.
+#![tactic(auto)]
+
+use omi_outside::{DiskFiles, Status, StdSink, hold_standard};
+use omi_park::park_top;
+use omi_seat::{MOST_TURNS, StartGate};
+use omi_verbs::{handed_over, words_of};
+use std::process::ExitCode;
+
+fn main(rt: HostRuntime) -> ExitCode {
+    // While these are held, no file gets a descriptor of standard output.
+    let _held = (hold_standard(&rt), hold_standard(&rt), hold_standard(&rt));
+    let Ok(words) = words_of(&rt) else {
+        return ExitCode::from(Status::OutOfMemory.code());
+    };
+    let mut files = DiskFiles::new(&rt);
+    let mut out = StdSink::new(&rt);
+    let status = park_top(
+        &rt,
+        rt.alloc(),
+        &words,
+        &mut files,
+        &mut out,
+        &StartGate::of(MOST_TURNS),
+    );
+    ExitCode::from(handed_over(status, &mut files).code())
+}
