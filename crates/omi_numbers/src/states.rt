@@ -20,7 +20,7 @@ pub const WAIT_BARRIER_EXPLICIT: u32 = 0x014;
 /// Waits for the children of its task.
 pub const WAIT_TASKWAIT: u32 = 0x020;
 
-/// Waits for the tasks of a taskgroup, which this profile's programs never do.
+/// Waits for the tasks of a taskgroup at its end.
 pub const WAIT_TASKGROUP: u32 = 0x021;
 
 /// Waits for a lock.
