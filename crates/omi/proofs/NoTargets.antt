@@ -1,5 +1,5 @@
 -- Why there is no session over the words of a core.
-use Rattle.std.proofs.Common.{◌≡◌, List, ℕ, Some, refl, sym, ap, subst}
+use Rattle.std.proofs.Common.{◌≡◌, List, ℕ, Some, None, refl, sym, ap, subst}
 use Rattle.omi_calls.specs.CoreWords.{words_of_segments}
 use Rattle.omi_calls.specs.Memory.{told_by, usual_sizes}
 use Rattle.omi_calls.specs.Told.{Told, aligned_word_at}
@@ -20,7 +20,7 @@ use Rattle.omi.specs.declared.opened.OpenError.TheVariants as error
 pub tells_core : (core : CoreImage) (told : Told) → told ≡ told_by core → Tells told (words_of_core core)
 tells_core core told is =
     subst (λ (t : Told). Tells t (words_of_core core)) (sym is)
-    (record { order = core.order; order_told = refl; words = words_of_segments core.segments; words_told = refl; is = refl })
+    (record { order = core.order; order_told = refl; words = words_of_segments core.segments; rest = λ _. None; words_told = refl; is = refl })
 
 pub no_target : (core : CoreImage) (told : Told) (rc : Rc) → told ≡ told_by core
     → ((memory : Words) → Tells told memory → told.sizes ≡ usual_sizes → Refuses memory rc)
@@ -33,7 +33,7 @@ pub told_again : (core other : CoreImage) → other.order ≡ 0 → other.segmen
     → told_by other ≡ told_lowest_first core
 told_again core other zero same = λ i. record {
   order = Some (zero i);
-  words = Some (words_of_segments (same i));
+  words = λ _. Some (words_of_segments (same i));
   symbols = Some (symbol_in (aligned_word_at (words_of_segments (same i))));
   sizes = usual_sizes;
 }

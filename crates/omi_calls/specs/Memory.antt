@@ -23,7 +23,7 @@ usual_sizes = record {
 abbrev pub told_by : CoreImage → Told
 told_by core = record {
   order = Some core.order;
-  words = Some (words_of_segments core.segments);
+  words = λ _. Some (words_of_segments core.segments);
   symbols = Some (symbol_in (aligned_word_at (words_of_segments core.segments)));
   sizes = usual_sizes;
 }

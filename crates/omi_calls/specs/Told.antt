@@ -11,7 +11,8 @@ Symbols = List ℕ → Option ℕ
 pub record Told : Type 0 where
   -- 0 where the lowest byte of a word comes first, 1 where the highest does
   pub order : Option ℕ
-  pub words : Option Words
+  -- the target's words, by those that are not told: where all are told, those make no difference
+  pub words : Words → Option Words
   pub symbols : Option Symbols
   pub sizes : Sizes
 

@@ -44,8 +44,10 @@ pub struct Sizes {
 /// What a debugger does for a tool: it reads the target's memory and knows its symbols.
 ///
 /// An implementation may tell the order of the bytes of a word, the words and the symbols, or
-/// leave each of them untold; the clauses on what a call answers of them then say nothing. No call
-/// changes what is told, and each read and look-up counts as one at most.
+/// leave each of them untold; the clauses on what a call answers of them then say nothing. It may
+/// tell some of the words: what is told is all of them by the `rest`, which stands for the others,
+/// and the clauses hold whatever that is. No call changes what is told, and each read and look-up
+/// counts as one at most.
 pub trait Callbacks {
     /// What is told of the target.
     ghost told: { Self → Told };
@@ -59,9 +61,9 @@ pub trait Callbacks {
     /// Reads the word at a byte address, and leaves its bytes in the target's order. Where words
     /// are told, NotMapped comes exactly where the address is unaligned or no word stands there.
     fn read_memory(&mut self, addr: u64, to: &mut [u8; 8]) -> Got
-        ensures mapped { (words : Words) → (told self.old).words ≡ Some words
+        ensures mapped { (words rest : Words) → (told self.old).words rest ≡ Some words
             → SaysMapped result (aligned_word_at words addr) }
-        ensures bytes { (words : Words) (order : ℕ) → (told self.old).words ≡ Some words
+        ensures bytes { (words rest : Words) (order : ℕ) → (told self.old).words rest ≡ Some words
             → (told self.old).order ≡ Some order → result ≡ Got.Bytes
             → aligned_word_at words addr ≡ Some (number_of order to.new) }
         ensures same { told self.new ≡ told self.old }
@@ -73,7 +75,7 @@ pub trait Callbacks {
     fn symbol_addr_lookup(&mut self, name: &str) -> Place
         ensures symbol { (symbols : Symbols) → (told self.old).symbols ≡ Some symbols
             → SaysPlace result (symbols name.now) }
-        ensures table { (words : Words) → (told self.old).words ≡ Some words
+        ensures table { (words rest : Words) → (told self.old).words rest ≡ Some words
             → SaysPlace result (symbol_in (aligned_word_at words) name.now) }
         ensures same { told self.new ≡ told self.old }
         ensures asked { asked self.new ≤ asked self.old + 1 }

@@ -82,9 +82,9 @@ impl Callbacks for MemCalls {
     ghost asked = { calls_made };
 
     fn read_memory(&mut self, addr: u64, to: &mut [u8; 8]) -> Got
-        ensures mapped { (words : Words) → (told_of self.old).words ≡ Some words
+        ensures mapped { (words rest : Words) → (told_of self.old).words rest ≡ Some words
             → SaysMapped result (aligned_word_at words addr) }
-        ensures bytes { (words : Words) (order : ℕ) → (told_of self.old).words ≡ Some words
+        ensures bytes { (words rest : Words) (order : ℕ) → (told_of self.old).words rest ≡ Some words
             → (told_of self.old).order ≡ Some order → result ≡ Got.Bytes
             → aligned_word_at words addr ≡ Some (number_of order to.new) }
         ensures same { told_of self.new ≡ told_of self.old }
@@ -111,7 +111,7 @@ impl Callbacks for MemCalls {
     fn symbol_addr_lookup(&mut self, name: &str) -> Place
         ensures symbol { (symbols : Symbols) → (told_of self.old).symbols ≡ Some symbols
             → SaysPlace result (symbols name.now) }
-        ensures table { (words : Words) → (told_of self.old).words ≡ Some words
+        ensures table { (words rest : Words) → (told_of self.old).words rest ≡ Some words
             → SaysPlace result (symbol_in (aligned_word_at words) name.now) }
         ensures same { told_of self.new ≡ told_of self.old }
         ensures cause { HasCause (faults_counted self.old) (faults_counted self.new)

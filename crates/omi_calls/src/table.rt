@@ -94,9 +94,9 @@ impl<C: Callbacks, F: ToHost> Table<C, F> {
 
     /// The number at a byte address. None exactly where the read was NotMapped.
     pub fn word(&mut self, addr: u64) -> Result<Option<u64>, CallbackFailed>
-        ensures mapped { (words : Words) → (C.told self.old.calls).words ≡ Some words
+        ensures mapped { (words rest : Words) → (C.told self.old.calls).words rest ≡ Some words
             → IfOk result (λ word. IsSome word ↔ IsSome (aligned_word_at words addr)) }
-        ensures word { (words : Words) (order : ℕ) → (C.told self.old.calls).words ≡ Some words
+        ensures word { (words rest : Words) (order : ℕ) → (C.told self.old.calls).words rest ≡ Some words
             → (C.told self.old.calls).order ≡ Some order
             → IfOk result (λ word. word ≡ aligned_word_at words addr) }
         ensures same { C.told self.new.calls ≡ C.told self.old.calls }
@@ -119,7 +119,7 @@ impl<C: Callbacks, F: ToHost> Table<C, F> {
     pub fn symbol_addr_lookup(&mut self, name: &str) -> Place
         ensures symbol { (symbols : Symbols) → (C.told self.old.calls).symbols ≡ Some symbols
             → SaysPlace result (symbols name.now) }
-        ensures table { (words : Words) → (C.told self.old.calls).words ≡ Some words
+        ensures table { (words rest : Words) → (C.told self.old.calls).words rest ≡ Some words
             → SaysPlace result (symbol_in (aligned_word_at words) name.now) }
         ensures same { C.told self.new.calls ≡ C.told self.old.calls }
         ensures order { self.new.order ≡ self.old.order }

@@ -93,9 +93,9 @@ same_words a b e = ap (λ o. unwrapped o) e
     unwrapped (Some w) = w
     unwrapped None = a
 
-by_reading : (bytes : List ℕ) (words : Words) (read : Result Parts ReadRefusal) → reading bytes ≡ read
-    → (told_by_reading read).words ≡ Some words → Tells (Some (Some bytes)) words
-by_reading bytes words (Ok parts) is e = record {
+by_reading : (bytes : List ℕ) (words rest : Words) (read : Result Parts ReadRefusal) → reading bytes ≡ read
+    → (told_by_reading read).words rest ≡ Some words → Tells (Some (Some bytes)) words
+by_reading bytes words rest (Ok parts) is e = record {
   bytes = bytes;
   parts = parts;
   holds = refl;
@@ -103,12 +103,12 @@ by_reading bytes words (Ok parts) is e = record {
   words_are = same_words (words_of_segments parts.segments) words e;
   order_is = ap (λ r. (told_by_reading r).order) is;
 }
-by_reading bytes words (Err refusal) is e = absurd cc
+by_reading bytes words rest (Err refusal) is e = absurd cc
 
-pub tells : (told : FileTold) (words : Words) → (told_by_file told).words ≡ Some words → Tells told words
-tells (Some (Some bytes)) words e = by_reading bytes words (reading bytes) refl e
-tells (Some None) words e = absurd cc
-tells None words e = absurd cc
+pub tells : (told : FileTold) (words rest : Words) → (told_by_file told).words rest ≡ Some words → Tells told words
+tells (Some (Some bytes)) words rest e = by_reading bytes words rest (reading bytes) refl e
+tells (Some None) words rest e = absurd cc
+tells None words rest e = absurd cc
 
 -- the word at an aligned address is the one at its place, in the order that is told
 pub record TellsPlaces (told : FileTold) (order : ℕ) (spans : List Span) (words : Words) (addr : ℕ) : Type 0 where
@@ -120,11 +120,11 @@ pub record TellsPlaces (told : FileTold) (order : ℕ) (spans : List Span) (word
 same_order : (a b : ℕ) → (let some : ℕ → Option ℕ = λ n. Some n in some a ≡ some b) → a ≡ b
 same_order a b e = cc
 
-pub tells_places : (told : FileTold) (order : ℕ) (contexts : List ℕ) (spans : List Span) (words : Words) (addr : ℕ)
-    → (told_by_file told).words ≡ Some words
+pub tells_places : (told : FileTold) (order : ℕ) (contexts : List ℕ) (spans : List Span) (words rest : Words) (addr : ℕ)
+    → (told_by_file told).words rest ≡ Some words
     → ArePartsOf told order contexts spans → addr % 8 ≡ 0 → TellsPlaces told order spans words addr
-tells_places told order contexts spans words addr e parts aligned =
-    let t = tells told words e in
+tells_places told order contexts spans words rest addr e parts aligned =
+    let t = tells told words rest e in
     let are = parts t.bytes t.parts t.holds t.read in
     let test : eqb (addr % 8) 0 ≡ true = eq-eqb (addr % 8) 0 aligned in
     record {
@@ -148,19 +148,19 @@ some_there f None stands = absurd cc
 some_there f (Some at) stands = refl
 
 -- no word stands there
-pub not_mapped : (told : FileTold) (order : ℕ) (contexts : List ℕ) (spans : List Span) (words : Words) (addr : ℕ)
-    → (told_by_file told).words ≡ Some words
+pub not_mapped : (told : FileTold) (order : ℕ) (contexts : List ℕ) (spans : List Span) (words rest : Words) (addr : ℕ)
+    → (told_by_file told).words rest ≡ Some words
     → ArePartsOf told order contexts spans → addr % 8 ≡ 0 → is_some (place_in spans addr) ≡ false → aligned_word_at words addr ≡ None
-not_mapped told order contexts spans words addr e parts aligned lacks =
-    let t = tells_places told order contexts spans words addr e parts aligned in
+not_mapped told order contexts spans words rest addr e parts aligned lacks =
+    let t = tells_places told order contexts spans words rest addr e parts aligned in
     t.word_is ∙ none_there (word_there order t.bytes) (place_in spans addr) lacks
 
 -- a word stands there
-pub mapped : (told : FileTold) (order : ℕ) (contexts : List ℕ) (spans : List Span) (words : Words) (addr : ℕ)
-    → (told_by_file told).words ≡ Some words
+pub mapped : (told : FileTold) (order : ℕ) (contexts : List ℕ) (spans : List Span) (words rest : Words) (addr : ℕ)
+    → (told_by_file told).words rest ≡ Some words
     → ArePartsOf told order contexts spans → addr % 8 ≡ 0 → is_some (place_in spans addr) ≡ true → IsSome (aligned_word_at words addr)
-mapped told order contexts spans words addr e parts aligned stands =
-    let t = tells_places told order contexts spans words addr e parts aligned in
+mapped told order contexts spans words rest addr e parts aligned stands =
+    let t = tells_places told order contexts spans words rest addr e parts aligned in
     subst IsSome (sym t.word_is) (some_there (word_there order t.bytes) (place_in spans addr) stands)
 
 by_place : (order : ℕ) (bytes word : List ℕ) (o : Option ℕ) → is_some o ≡ true
@@ -171,13 +171,13 @@ by_place order bytes word (Some at) stands is =
     ap (λ (w : List ℕ). Some (number_of order w)) (sym (is at refl))
 
 -- the word is the one in the page
-pub in_page : (told : FileTold) (order : ℕ) (contexts : List ℕ) (spans : List Span) (words : Words) (other addr : ℕ) (word items : List ℕ)
-    → (told_by_file told).words ≡ Some words → (told_by_file told).order ≡ Some other
+pub in_page : (told : FileTold) (order : ℕ) (contexts : List ℕ) (spans : List Span) (words rest : Words) (other addr : ℕ) (word items : List ℕ)
+    → (told_by_file told).words rest ≡ Some words → (told_by_file told).order ≡ Some other
     → ArePartsOf told order contexts spans → addr % 8 ≡ 0 → is_some (place_in spans addr) ≡ true
     → ((bytes : List ℕ) → Holds told bytes → IsPage bytes spans (addr / 4096) items) → word ≡ eight_at items (addr % 4096)
     → aligned_word_at words addr ≡ Some (number_of other word)
-in_page told order contexts spans words other addr word items e told_other parts aligned stands page is =
-    let t = tells_places told order contexts spans words addr e parts aligned in
+in_page told order contexts spans words rest other addr word items e told_other parts aligned stands page is =
+    let t = tells_places told order contexts spans words rest addr e parts aligned in
     let here : 4096 * (addr / 4096) + addr % 4096 ≡ addr = omega arith in
     let offset_aligned : addr % 4096 % 8 ≡ 0 = omega arith in
     let inside : addr % 4096 < 4096 = omega arith in
@@ -187,25 +187,27 @@ in_page told order contexts spans words other addr word items e told_other parts
     ∙ ap (λ o. Some (number_of o word)) (sym (t.order_is other told_other))
 
 -- where words are told, this order is
-pub told_order : (told : FileTold) (order : ℕ) (contexts : List ℕ) (spans : List Span) (words : Words)
-    → (told_by_file told).words ≡ Some words → ArePartsOf told order contexts spans
+pub told_order : (told : FileTold) (order : ℕ) (contexts : List ℕ) (spans : List Span) (words rest : Words)
+    → (told_by_file told).words rest ≡ Some words → ArePartsOf told order contexts spans
     → (told_by_file told).order ≡ Some order
-told_order told order contexts spans words e parts =
-    let t = tells told words e in
+told_order told order contexts spans words rest e parts =
+    let t = tells told words rest e in
     let are = parts t.bytes t.parts t.holds t.read in
     t.order_is ∙ ap (λ (n : ℕ). Some n) are.0
 
 -- where symbols are told, they are those of the table that the told words hold
 pub record TellsSymbols (told : FileTold) (symbols : Symbols) : Type 0 where
   pub words : Words
-  pub told_words : (told_by_file told).words ≡ Some words
+  pub rest : Words
+  pub told_words : (told_by_file told).words rest ≡ Some words
   pub symbols_are : symbol_in (aligned_word_at words) ≡ symbols
 
 symbols_by : (bytes : List ℕ) (symbols : Symbols) (read : Result Parts ReadRefusal) → reading bytes ≡ read
     → (told_by_reading read).symbols ≡ Some symbols → TellsSymbols (Some (Some bytes)) symbols
 symbols_by bytes symbols (Ok parts) is e = record {
   words = words_of_segments parts.segments;
-  told_words = ap (λ r. (told_by_reading r).words) is;
+  rest = λ _. None;
+  told_words = ap (λ r. (told_by_reading r).words (λ _. None)) is;
   symbols_are = same_symbols (symbol_in (aligned_word_at (words_of_segments parts.segments))) symbols e;
 }
 symbols_by bytes symbols (Err refusal) is e = absurd cc

@@ -9,13 +9,13 @@ use Rattle.omi_calls.specs.Memory.{usual_sizes}
 
 -- nothing but the sizes of the basic types
 abbrev pub told_nothing : Told
-told_nothing = record { order = None; words = None; symbols = None; sizes = usual_sizes }
+told_nothing = record { order = None; words = λ _. None; symbols = None; sizes = usual_sizes }
 
 -- what was read of a file
 abbrev pub told_by_reading : Result Parts ReadRefusal → Told
 told_by_reading (Ok parts) = record {
   order = Some parts.order;
-  words = Some (words_of_segments parts.segments);
+  words = λ _. Some (words_of_segments parts.segments);
   symbols = Some (symbol_in (aligned_word_at (words_of_segments parts.segments)));
   sizes = usual_sizes;
 }

@@ -33,7 +33,7 @@ impl<'a, F: Files> Pages<'a, F> {
 
     /// The word at a byte address. None where the address is unaligned or no word stands there.
     fn word(&mut self, addr: u64) -> Result<Option<u64>, CallbackFailed>
-        ensures word { (words : Words) → (told_of self.old).words ≡ Some words
+        ensures word { (words rest : Words) → (told_of self.old).words rest ≡ Some words
             → IfOk result (λ word. word ≡ aligned_word_at words addr) }
         ensures same { told_of self.new ≡ told_of self.old }
         ensures cause { HasCause (faults_counted self.old) (faults_counted self.new)
@@ -53,7 +53,7 @@ impl<'a, F: Files> Pages<'a, F> {
     /// The words of a symbol at a byte address, where each of them is mapped.
     fn five_words(&mut self, at: u64) -> Result<Option<[u64; 5]>, CallbackFailed>
         requires { at ≤ 66184 }
-        ensures words { (words : Words) → (told_of self.old).words ≡ Some words
+        ensures words { (words rest : Words) → (told_of self.old).words rest ≡ Some words
             → IfOk result (λ five. five ≡ words_from (aligned_word_at words) at 5) }
         ensures same { told_of self.new ≡ told_of self.old }
         ensures cause { HasCause (faults_counted self.old) (faults_counted self.new)
@@ -72,7 +72,7 @@ impl<'a, F: Files> Pages<'a, F> {
     /// The address of the first symbol of this name. None where the count or a word of the symbols that it counts isn't mapped, where
     /// the count exceeds 16, or where no symbol has the name.
     pub fn symbol(&mut self, name: &str) -> Result<Option<u64>, CallbackFailed>
-        ensures symbol { (words : Words) → (told_of self.old).words ≡ Some words
+        ensures symbol { (words rest : Words) → (told_of self.old).words rest ≡ Some words
             → IfOk result (λ addr. addr ≡ symbol_in (aligned_word_at words) name.now) }
         ensures same { told_of self.new ≡ told_of self.old }
         ensures cause { HasCause (faults_counted self.old) (faults_counted self.new)

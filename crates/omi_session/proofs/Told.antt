@@ -9,10 +9,10 @@ use Rattle.omi_session.specs.Tells.{Tells, KeepsTold}
 
 -- what holds of the told words holds of the memory that they are
 pub as_told : (told now : Told) (memory : Words) → now ≡ told → Tells told memory → (P : Words → Type 0)
-    → ((words : Words) (order : ℕ) → now.words ≡ Some words → now.order ≡ Some order → P (aligned_word_at words)) → P memory
+    → ((words rest : Words) (order : ℕ) → now.words rest ≡ Some words → now.order ≡ Some order → P (aligned_word_at words)) → P memory
 as_told told now memory same t P holds =
     subst P (sym t.is)
-    (holds t.words t.order (ap (λ x. x.words) same ∙ t.words_told) (ap (λ x. x.order) same ∙ t.order_told))
+    (holds t.words t.rest t.order (ap (λ x. x.words t.rest) same ∙ t.words_told) (ap (λ x. x.order) same ∙ t.order_told))
 
 -- callbacks that tell the same tell the same memory
 pub still_tells : (told now : Told) (memory : Words) → now ≡ told → Tells told memory → Tells now memory
@@ -20,7 +20,8 @@ still_tells told now memory same t = record {
   order = t.order;
   order_told = ap (λ x. x.order) same ∙ t.order_told;
   words = t.words;
-  words_told = ap (λ x. x.words) same ∙ t.words_told;
+  rest = t.rest;
+  words_told = ap (λ x. x.words t.rest) same ∙ t.words_told;
   is = t.is;
 }
 

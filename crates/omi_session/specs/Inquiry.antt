@@ -33,6 +33,11 @@ object kind address life =
     then Some (record { kind = kind; addr = address; life = life }) else None
 
 module _ (w : List ℕ) where
+  -- the object of a kind whose record begins at an address and has this life word
+  abbrev pub object_at : Kind → ℕ → ℕ → Option Held
+  object_at kind address life =
+      if is_some (slot_at w (record_kind kind) address) then object kind address life else None
+
   -- where a word of the record at an address stands
   abbrev pub place_of : ℕ → Field → ℕ → ℕ
   place_of address f at = address + 8 * (offset w (number f) + at)

@@ -1,13 +1,13 @@
 //! The parts of inquiries, over the public calls of a session: the word of a field, the object of a handle, and the live object to which
 //! a word points. Each answers what the definition of its reads does.
 
-ghost use Rattle.std.specs.Prelude.{◌≡◌, ◌≢◌, ◌≤◌, true, Err, IfOk, is_some};
+ghost use Rattle.std.specs.Prelude.{◌≡◌, ◌≢◌, ◌≤◌, true, Err, IfOk, IfSome, is_some};
 ghost use Rattle.std.specs.FinMap.{get};
 ghost use Rattle.omi_outside.specs.Outside.{HasCause};
 ghost use Rattle.omi_layout.specs.declared.limits.TheConstants.{LAST_END};
 ghost use Rattle.omi_rep.specs.Look.{slot_at, life_of};
 ghost use Rattle.omi_rep.specs.Look.{is_live as is_live_word};
-ghost use Rattle.omi_session.specs.Named.{record_kind, IsOfKind};
+ghost use Rattle.omi_session.specs.Named.{record_kind, IsNamed, IsOfKind};
 ghost use Rattle.omi_session.specs.Opened.{StaysWhole};
 ghost use Rattle.omi_session.specs.Reads.{Answers};
 ghost use Rattle.omi_session.specs.Inquiry as inquiry;
@@ -49,6 +49,19 @@ pub(crate) fn is_place(layout: &Layout, kind: Kind, addr: u64) -> bool
         Kind::Thread => layout.thread_of(addr).is_some(),
         Kind::Region => layout.region_of(addr).is_some(),
         Kind::Task => layout.task_of(addr).is_some(),
+    }
+}
+
+/// The object of a kind whose record begins at a byte address and has this life word. None where no record of the kind begins there,
+/// or the life word is not that of a live one.
+pub fn object_at(layout: &Layout, kind: Kind, addr: u64, life: u64) -> Option<Held>
+    ensures value { result ≡ inquiry.object_at layout.now.table kind addr life }
+    ensures named { IfSome result (IsNamed layout.now.table) }
+{
+    if is_place(layout, kind, addr) && is_live(kind, life) {
+        Some(Held { kind, addr, life })
+    } else {
+        None
     }
 }
 

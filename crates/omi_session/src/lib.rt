@@ -15,7 +15,7 @@ mod session;
 mod version;
 
 pub use asking::{
-    follow, follow_some, lead, life_field, live_handle, object, related, unchanged, word,
+    follow, follow_some, lead, life_field, live_handle, object, object_at, related, unchanged, word,
 };
 pub use handing::{hand_region, hand_task, hand_thread};
 pub use handled::{compare, let_go, name};

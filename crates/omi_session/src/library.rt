@@ -14,7 +14,6 @@ use crate::rc::Rc;
 use crate::session::Session;
 use crate::version::API_VERSION;
 use omi_calls::{Callbacks, Table, ToHost};
-use omi_handle::Handles;
 use std::alloc::Global;
 use std::marker::Model;
 
@@ -73,7 +72,7 @@ impl<C: Callbacks, F: ToHost> Library<C, F> {
     {
         let mut table = self.table;
         match published(&mut table) {
-            Ok(layout) => Ok(Session::over(table, layout, Handles::new(alloc))),
+            Ok(layout) => Ok(Session::in_layout(alloc, table, layout)),
             Err(rc) => Err((rc, Library { table })),
         }
     }

@@ -10,7 +10,7 @@ ghost use Rattle.omi_word.specs.Words.{Words};
 ghost use Rattle.omi_layout.specs.declared.limits.TheConstants.{LAST_END};
 ghost use Rattle.omi_session.specs.Tells.{Tells, KeepsTold};
 ghost use Rattle.omi_session.specs.Named.{IsNamed, AreNamed};
-ghost use Rattle.omi_session.specs.Opened.{Stays, StaysWhole};
+ghost use Rattle.omi_session.specs.Opened.{Stays, StaysWhole, IsFresh};
 ghost use Rattle.omi_rep.specs.Records.{runtime_address};
 ghost use Rattle.omi_session.specs.Reads.{Answers};
 ghost use Rattle.omi_session.specs.declared.limits.TheConstants.{HANDLES_BEFORE};
@@ -24,6 +24,7 @@ use crate::rc::Rc;
 use omi_calls::{CallbackFailed, Callbacks, Table, ToHost};
 use omi_handle::{Handles, Held};
 use omi_layout::{Field, Layout};
+use std::alloc::Global;
 use std::marker::Model;
 
 /// An open session. Contracts see the callbacks, the words of the layout's table, and the handles that are held.
@@ -75,6 +76,15 @@ impl<C: Callbacks, F: ToHost> Session<C, F> {
         }
     }
 
+    /// A session with a target whose layout is known. No word is read, and no handle is held.
+    pub fn in_layout(alloc: Global, table: Table<C, F>, layout: Layout) -> Session<C, F>
+        ensures table { result.table ≡ table }
+        ensures layout { result.layout ≡ layout.table }
+        ensures fresh { IsFresh result.handles }
+    {
+        Session::over(table, layout, Handles::new(alloc))
+    }
+
     /// The layout that the target's words published when the session was opened.
     pub fn layout(&self) -> &Layout
         ensures { result.now.table ≡ self.now.layout }
@@ -86,7 +96,7 @@ impl<C: Callbacks, F: ToHost> Session<C, F> {
     pub fn peek(&mut self, addr: u64) -> Result<Option<u64>, CallbackFailed>
         ensures word { (memory : Words) → Tells (C.told self.old.table.calls) memory
             → IfOk result (λ word. word ≡ memory addr) }
-        ensures mapped { (words : Words) → (C.told self.old.table.calls).words ≡ Some words
+        ensures mapped { (words rest : Words) → (C.told self.old.table.calls).words rest ≡ Some words
             → IfOk result (λ word. IsSome word ↔ IsSome (aligned_word_at words addr)) }
         ensures same { StaysWhole C.told self.old self.new }
         ensures asked { C.asked self.new.table.calls ≤ C.asked self.old.table.calls + 1 }

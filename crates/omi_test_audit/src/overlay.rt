@@ -47,7 +47,7 @@ fn changed(new: Option<u64>, to: &mut [u8; 8]) -> Got
 impl<'a> Callbacks for Overlay<'a> {
     ghost told = { λ _. record {
       order = None;
-      words = None;
+      words = λ _. None;
       symbols = None;
       sizes = usual_sizes;
     } };

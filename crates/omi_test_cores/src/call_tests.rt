@@ -18,7 +18,7 @@ struct OneBigWord;
 impl Callbacks for OneBigWord {
     ghost told = { λ _. record {
       order = Some 1;
-      words = Some (λ (addr : ℕ). if addr == 65536 then Some 72623859790382856 else None);
+      words = λ _. Some (λ (addr : ℕ). if addr == 65536 then Some 72623859790382856 else None);
       symbols = None;
       sizes = usual_sizes;
     } };

@@ -49,7 +49,7 @@ pub const BIG: ByteOrder = ByteOrder {
 impl<'a> Callbacks for Target<'a> {
     ghost told = { λ _. record {
       order = None;
-      words = None;
+      words = λ _. None;
       symbols = None;
       sizes = usual_sizes;
     } };

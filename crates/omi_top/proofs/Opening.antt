@@ -1,6 +1,6 @@
 -- A session over the words of a core: what they tell, why there is none, and what a walk in it answers.
 use Rattle.std.proofs.Common.{◌≡◌, inl, inr, ℕ, List, Ok, Err, refl, sym, ◌∙◌, ap, subst}
-use Rattle.std.specs.Prelude.{Result, IfErr, IsErrAnd}
+use Rattle.std.specs.Prelude.{Result, None, IfErr, IsErrAnd}
 use Rattle.omi_calls.specs.CoreWords.{words_of_segments as segment_words}
 use Rattle.omi_calls.specs.Memory.{told_by, usual_sizes}
 use Rattle.omi_calls.specs.Told.{Told}
@@ -32,7 +32,7 @@ use Rattle.omi_walk.specs.declared.fault.WalkFault.TheVariants as walk
 pub tells_core : (core : CoreImage) (told : Told) → told ≡ told_by core → Tells told (words_of_core core)
 tells_core core told is =
     subst (λ (t : Told). Tells t (words_of_core core)) (sym is)
-    (record { order = core.order; order_told = refl; words = segment_words core.segments; words_told = refl; is = refl })
+    (record { order = core.order; order_told = refl; words = segment_words core.segments; rest = λ _. None; words_told = refl; is = refl })
 
 -- ---- a session that doesn't open
 

@@ -16,7 +16,7 @@ refusal-requires g c = named_within c.in_ok-words.words c.in-Err.fault c.in-Err.
 pub returns-in-NoSuch-clause-words : goal.returns-in-NoSuch-clause-words
 returns-in-NoSuch-clause-words g c = λ memory t sizes ne. record {
   error = NoSymbol;
-  gives_none = subst (λ (m : Words). symbol_in m (codes "omi_layout") ≡ None) (sym t.is) (c.in-NoSuch.ensures.table t.words t.words_told);
+  gives_none = subst (λ (m : Words). symbol_in m (codes "omi_layout") ≡ None) (sym t.is) (c.in-NoSuch.ensures.table t.words t.rest t.words_told);
   is = refl;
 }
 
@@ -24,7 +24,7 @@ pub returns-in_err-words-clause-words : goal.returns-in_err-words-clause-words
 returns-in_err-words-clause-words g c = λ memory t sizes.
     let symbol : symbol_in memory (codes "omi_layout") ≡ Some c.in-At.address =
     subst (λ (m : Words). symbol_in m (codes "omi_layout") ≡ Some c.in-At.address) (sym t.is)
-    (c.in-At.ensures.table t.words t.words_told) in
+    (c.in-At.ensures.table t.words t.rest t.words_told) in
     let p = err_from_is_err_and c.from_residual.result c.from_residual.ensures.1 in
     rw (p.1, p.2)
     (stopped memory c.in-At.address symbol _ (c.in_err-words.ensures.words memory (still_tells _ _ memory c.symbol_addr_lookup.ensures.same t)))
@@ -32,7 +32,7 @@ returns-in_err-words-clause-words g c = λ memory t sizes.
 pub returns-in-Ok-clause-words : goal.returns-in-Ok-clause-words
 returns-in-Ok-clause-words g c = λ memory t sizes. record {
   address = c.in-At.address;
-  symbol = subst (λ (m : Words). symbol_in m (codes "omi_layout") ≡ Some c.in-At.address) (sym t.is) (c.in-At.ensures.table t.words t.words_told);
+  symbol = subst (λ (m : Words). symbol_in m (codes "omi_layout") ≡ Some c.in-At.address) (sym t.is) (c.in-At.ensures.table t.words t.rest t.words_told);
   table = c.in_ok-words.ensures.words memory (still_tells _ _ memory c.symbol_addr_lookup.ensures.same t) ∙ ap Some (sym c.in-Ok.ensures);
 }
 
@@ -41,7 +41,7 @@ returns-in-Err-clause-words g c = λ memory t sizes ne. record {
   error = Refused (table_address c.in-At.address (word_named c.in-Err.fault)) c.in-Err.fault;
   gives_none = record {
     address = c.in-At.address;
-    symbol = subst (λ (m : Words). symbol_in m (codes "omi_layout") ≡ Some c.in-At.address) (sym t.is) (c.in-At.ensures.table t.words t.words_told);
+    symbol = subst (λ (m : Words). symbol_in m (codes "omi_layout") ≡ Some c.in-At.address) (sym t.is) (c.in-At.ensures.table t.words t.rest t.words_told);
     table = c.in_ok-words.words;
     read = c.in_ok-words.ensures.words memory (still_tells _ _ memory c.symbol_addr_lookup.ensures.same t);
     refused = c.in-Err.ensures;

@@ -7,10 +7,10 @@ use Rattle.omi_page.proofs.pages.Pages.read_word.Goals.{then-addr-ne0-via-then-a
 use Rattle.omi_page.proofs.pages.Pages.read_word.Goals as goal
 
 pub returns-then-addr-ne0-clause-mapped : goal.returns-then-addr-ne0-clause-mapped
-returns-then-addr-ne0-clause-mapped g c = λ words told.
+returns-then-addr-ne0-clause-mapped g c = λ words rest told.
     elim c.then-addr-ne0.branch [
       | then-addr-ne0-via-then-addr-ne0 w ↦ unaligned words c.args.addr w.if-addr-ne0.true
-      | then-addr-ne0-via-else-addr-ne0+then-not-stands w ↦ not_mapped _ c.args.self.now.order c.args.self.now.contexts c.args.self.now.spans words c.args.addr told c.args.self.now.parts w.if-addr-ne0.false (sym w.stands.ensures.stands ∙ w.if-not-stands.true)
+      | then-addr-ne0-via-else-addr-ne0+then-not-stands w ↦ not_mapped _ c.args.self.now.order c.args.self.now.contexts c.args.self.now.spans words rest c.args.addr told c.args.self.now.parts w.if-addr-ne0.false (sym w.stands.ensures.stands ∙ w.if-not-stands.true)
     ]
 
 pub invariant_of-self-in-Some-1 : goal.invariant_of-self-in-Some-1
@@ -27,14 +27,14 @@ invariant_of-self-in-Some-1 g c = record {
 }
 
 pub returns-in-Some-clause-mapped : goal.returns-in-Some-clause-mapped
-returns-in-Some-clause-mapped g c = λ words told.
-    mapped _ c.args.self.now.order c.args.self.now.contexts c.args.self.now.spans words c.args.addr told c.args.self.now.parts c.if-addr-ne0.false
+returns-in-Some-clause-mapped g c = λ words rest told.
+    mapped _ c.args.self.now.order c.args.self.now.contexts c.args.self.now.spans words rest c.args.addr told c.args.self.now.parts c.if-addr-ne0.false
     (sym c.stands.ensures.stands ∙ c.if-not-stands.false)
 
 pub returns-in-Some-clause-bytes : goal.returns-in-Some-clause-bytes
-returns-in-Some-clause-bytes g c = λ words order told told_order got.
+returns-in-Some-clause-bytes g c = λ words rest order told told_order got.
     let word = c.in-Some.ensures.word in
-    in_page _ c.args.self.now.order c.args.self.now.contexts c.args.self.now.spans words order c.args.addr c.in-Some.word word.0.items told told_order c.args.self.now.parts c.if-addr-ne0.false
+    in_page _ c.args.self.now.order c.args.self.now.contexts c.args.self.now.spans words rest order c.args.addr c.in-Some.word word.0.items told told_order c.args.self.now.parts c.if-addr-ne0.false
     (sym c.stands.ensures.stands ∙ c.if-not-stands.false)
     (λ bytes holds. c.args.self.now.pages bytes holds _ word.0 word.1) word.2
 
@@ -82,17 +82,17 @@ invariant_of-self-2 g c =
     }
 
 pub returns-clause-mapped : goal.returns-clause-mapped
-returns-clause-mapped g c = λ words told.
-    mapped _ c.args.self.now.order c.args.self.now.contexts c.args.self.now.spans words c.args.addr told c.args.self.now.parts c.if-addr-ne0.false
+returns-clause-mapped g c = λ words rest told.
+    mapped _ c.args.self.now.order c.args.self.now.contexts c.args.self.now.spans words rest c.args.addr told c.args.self.now.parts c.if-addr-ne0.false
     (sym c.stands.ensures.stands ∙ c.if-not-stands.false)
 
 pub returns-clause-bytes : goal.returns-clause-bytes
-returns-clause-bytes g c = λ words order told told_order got.
+returns-clause-bytes g c = λ words rest order told told_order got.
     let room : c.args.self.now.buffer.len ≡ length c.load-loaded.new.buffer =
     sym (c.load-loaded.ensures.length ∙ c.deref_mut.ensures.len) in
     let whole =
     c.deref-2.ensures.value ∙ lent_whole c.args.self.now.buffer.len c.load-loaded.new.buffer _ room in
-    in_page _ c.args.self.now.order c.args.self.now.contexts c.args.self.now.spans words order c.args.addr c.word_of.result c.load-loaded.new.buffer told told_order c.args.self.now.parts c.if-addr-ne0.false
+    in_page _ c.args.self.now.order c.args.self.now.contexts c.args.self.now.spans words rest order c.args.addr c.word_of.result c.load-loaded.new.buffer told told_order c.args.self.now.parts c.if-addr-ne0.false
     (sym c.stands.ensures.stands ∙ c.if-not-stands.false)
     (λ bytes holds. not_err c.load-loaded.result _ (sym c.is_err.ensures.value ∙ c.if-is_err.false) (c.load-loaded.ensures.page bytes holds))
     (c.word_of.ensures ∙ ap (λ items. eight_at items (c.args.addr % 4096)) whole)

@@ -9,8 +9,8 @@ use Rattle.omi_page.proofs.pages.Pages.symbol.Given as goal
 abbrev pub invariant-loop-left : goal.invariant-loop-left
 invariant-loop-left g l = record {
   within : l.left ≤ l.count;
-  read : (words : Words)
-      → (told_by_file (g.F.Files.told l.fn.self.files.now l.fn.self.name.now)).words ≡ Some words
+  read : (words rest : Words)
+      → (told_by_file (g.F.Files.told l.fn.self.files.now l.fn.self.name.now)).words rest ≡ Some words
       → Reads (aligned_word_at words) l.name (65544 + 40 * l.left) (l.count - l.left) l.found;
   same : told_by_file (g.F.Files.told l.self.files.now l.self.name.now) ≡ told_by_file (g.F.Files.told l.fn.self.files.now l.fn.self.name.now);
   asked : l.self.asked ≡ l.fn.self.asked;
