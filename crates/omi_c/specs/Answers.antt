@@ -1,0 +1,91 @@
+-- How replies are spelled in the answers that C gets.
+use Rattle.std.specs.Prelude.{ℕ, List, length}
+use Rattle.omi_handle.specs.declared.handle.Held.{Held}
+use Rattle.omi_asktask.specs.declared.words.Frames.{Frames}
+use Rattle.omi_layout.specs.Valid.{word_named}
+use Rattle.omi_session.specs.declared.rc.Rc.{Rc}
+use Rattle.omi_session.specs.declared.rc.Rc.TheVariants.{Error, Incompatible, Incomplete}
+use Rattle.omi_session.specs.Rc.{code_of}
+use Rattle.omi_session.specs.Opening.{fault_code}
+use Rattle.omi_c.specs.declared.answers.Refusal.{Refusal}
+use Rattle.omi_c.specs.declared.answers.Object.{Object}
+use Rattle.omi_c.specs.declared.answers.Found.{Found}
+use Rattle.omi_c.specs.declared.answers.Number.{Number}
+use Rattle.omi_c.specs.declared.answers.State.{State}
+use Rattle.omi_c.specs.declared.answers.TaskFrames.{TaskFrames}
+use Rattle.omi_c.specs.declared.answers.Text.{Text}
+use Rattle.omi_c.specs.declared.answers.TheConstants.{OK, NEEDS_WORD, STRAY_WORD}
+use Rattle.omi_c.specs.Replies.{Cause, WrongLength, Refused, Needs, Stray, Says, Reply, Gives, Lacks}
+
+-- the place that a return code names
+abbrev pub place_named : Rc → ℕ
+place_named (Error addr field) = addr
+place_named rc = 0
+
+abbrev pub refusal_of : Cause → Refusal
+refusal_of WrongLength = record { code = code_of Incompatible; place = 0 }
+refusal_of (Refused fault) = record { code = code_of (fault_code 0 fault); place = word_named fault }
+refusal_of (Needs addr) = record { code = NEEDS_WORD; place = addr }
+refusal_of Stray = record { code = STRAY_WORD; place = 0 }
+refusal_of (Says rc) = record { code = code_of rc; place = place_named rc }
+
+abbrev pub no_object : Object
+no_object = record { addr = 0; life = 0 }
+
+abbrev pub found_by : Refusal → Found
+found_by r = record { code = r.code; place = r.place; object = no_object }
+
+abbrev pub found_of : Reply Held → Found
+found_of (Gives h) = record { code = OK; place = 0; object = record { addr = h.addr; life = h.life } }
+found_of (Lacks cause) = found_by (refusal_of cause)
+
+-- the first number of a value that has several
+abbrev pub first_said : Rc → ℕ
+first_said (Incomplete first) = first
+first_said rc = 0
+
+abbrev pub first_of : Cause → ℕ
+first_of (Says rc) = first_said rc
+first_of cause = 0
+
+abbrev pub number_by : Refusal → ℕ → Number
+number_by r first = record { code = r.code; place = r.place; number = first }
+
+abbrev pub number_of : Reply ℕ → Number
+number_of (Gives n) = record { code = OK; place = 0; number = n }
+number_of (Lacks cause) = number_by (refusal_of cause) (first_of cause)
+
+abbrev pub state_by : Refusal → State
+state_by r = record { code = r.code; place = r.place; state = 0; wait = 0 }
+
+abbrev pub state_of : Reply (ℕ × ℕ) → State
+state_of (Gives s) = record { code = OK; place = 0; state = s.0; wait = s.1 }
+state_of (Lacks cause) = state_by (refusal_of cause)
+
+abbrev pub frames_by : Refusal → TaskFrames
+frames_by r = record {
+  code = r.code;
+  place = r.place;
+  exit = 0;
+  enter = 0;
+  exit_flag = 0;
+  enter_flag = 0;
+}
+
+abbrev pub frames_of : Reply Frames → TaskFrames
+frames_of (Gives f) = record {
+  code = OK;
+  place = 0;
+  exit = f.exit;
+  enter = f.enter;
+  exit_flag = f.exit_flag;
+  enter_flag = f.enter_flag;
+}
+frames_of (Lacks cause) = frames_by (refusal_of cause)
+
+abbrev pub text_by : Refusal → Text
+text_by r = record { code = r.code; place = r.place; length = 0 }
+
+abbrev pub text_of : Reply (List ℕ) → Text
+text_of (Gives bytes) = record { code = OK; place = 0; length = length bytes }
+text_of (Lacks cause) = text_by (refusal_of cause)

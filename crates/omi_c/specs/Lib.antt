@@ -1,0 +1,10 @@
+pub mod Known
+pub mod Calls
+pub mod Replies
+pub mod Answers
+pub mod Opened
+pub mod Causes
+pub mod Texts
+pub mod Scopes
+pub mod Judged
+pub mod Order

@@ -1,0 +1,20 @@
+//! The library's inquiries for C. C reads the target's words itself and hands in those that are known so far; an inquiry answers its
+//! result, or the byte address of the word that it needs next, and is then asked again. docs/GDB.md shows it at work in a debugger.
+#![tactic(auto)]
+
+mod answers;
+mod calls;
+mod closing;
+mod comparing;
+mod enumerations;
+mod finding;
+mod known;
+mod library;
+mod opening;
+mod regions;
+mod scopes;
+mod task_words;
+mod tasks;
+mod texts;
+mod threads;
+mod variables;
