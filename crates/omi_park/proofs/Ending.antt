@@ -50,7 +50,7 @@ module _ (p : Program) (l : Layout) (budget : ℕ) (s : State (Unit {0}) (List P
     (parts : List Part) (at : get_elem? s.views id ≡ some parts) (i : InspectorPart) (runs : List ThreadRun)
     (known : AreRunsKnown p l budget i parts runs) where
   part_of_run : (k : ℕ) (r : ThreadRun) → slice_get runs k ≡ Some r
-      → (x : WorkerPart) × IsWorker p l h.behind.keeps.entries h.behind.run.actors h.epoch h.acks x × IsRunKnown p l budget k x r
+      → (x : WorkerPart) × IsWorker p l h.behind.keeps.entries h.behind.run.actors h.epoch h.acks h.inspector.seen x × IsRunKnown p l budget k x r
   part_of_run k r got =
       let one = known.each k r got in
       let there : slice_get parts (suc k) ≡ Some (part.Worker one.0) =

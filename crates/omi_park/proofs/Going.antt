@@ -19,20 +19,18 @@ use Rattle.omi_seat.proofs.Learnt.{steps_found, steps_one_more}
 use Rattle.omi_seat.proofs.Logged.{count_is, less_room}
 use Rattle.omi_park.specs.declared.known.WorkerPart.{WorkerPart}
 use Rattle.omi_park.specs.declared.worker.Worker.{Worker}
-use Rattle.omi_park.specs.Acknowledged.{IsOdd, acknowledgement}
+use Rattle.omi_park.specs.Acknowledged.{HasNotBegun, IsOdd, acknowledgement, running}
 use Rattle.omi_park.specs.Plays.{first_worker, loads, makes, says}
-use Rattle.omi_park.specs.Work.{HasGoneOn, HasLoaded, HasStepped, HasWorked, IsAtWork, IsBefore, IsLoose, IsPausing, IsSameBut, IsSeatOf, IsToPark, IsWaiting, IsWith, MayStep}
-use Rattle.omi_park.proofs.Parts.{one_value}
-use Rattle.omi_park.proofs.Words.{parked_stays}
+use Rattle.omi_park.specs.Work.{HasBegun, HasGoneOn, HasLoaded, HasStepped, HasTold, HasWorked, IsAtWork, IsBefore, IsLoose, IsPausing, IsSameBut, IsSeatOf, IsToGoOn, IsToPark, IsWaiting, IsWith}
+use Rattle.omi_park.proofs.Parts.{never_some, one_value}
+use Rattle.omi_park.proofs.Words.{parked_begun, parked_stays, runs_begun, runs_now, runs_stays}
 
-pub loose_of : (x : WorkerPart) → MayStep x → IsLoose x
-loose_of x may = record {
-  stays = may.stays;
-  runs = λ epoch loaded parked.
-      may.even (subst IsOdd (one_value x.loaded epoch may.epoch loaded may.loaded) parked.0);
+-- it has loaded no epoch, so it is parked in none
+pub loose_before : (x : WorkerPart) → IsBefore x → IsLoose x
+loose_before x before = record {
+  stays = before.stays;
+  runs = λ epoch loaded parked. never_some x.loaded epoch before.loaded loaded;
 }
-
--- ---- it waits for an even epoch
 
 -- it keeps the same of its thread
 pub same_with : {x y : WorkerPart} {old new : Worker} → IsWith x old → IsSameBut old new → y.known ≡ x.known
@@ -44,14 +42,46 @@ same_with {x = x} {y = y} {old = old} {new = new} is same known knows = record {
   few = subst (λ (k : Known). length k.found ≤ MOST_BUDGET) (sym known) is.few;
 }
 
--- before it loads the first one
-pub waits_first : (x : WorkerPart) (worker : Worker) → IsPausing x worker → IsWaiting x 0 worker
-waits_first x worker pausing = record {
+-- ---- it says that it runs
+
+pub told_now : {x : WorkerPart} {old new : Worker} → IsPausing x old → IsSameBut old new
+    → IsSeatOf (says (running (length x.known.found)) x) new.seat.me → HasTold x new
+told_now {x = x} pausing same knows =
+    let word = running (length x.known.found) in
+    let runs = runs_now 0 (length x.known.found) pausing.with_it.few in
+    record {
+      part = says word x;
+      same = refl;
+      goes = record {
+        pausing = record {
+          with_it = same_with pausing.with_it same refl knows;
+          before = record { stays = runs_stays word runs; loaded = pausing.before.loaded };
+          first = λ none. absurd (runs_begun word runs none);
+        };
+        begun = runs_begun word runs;
+      };
+    }
+
+-- behind a step it has begun
+pub told_before : (x : WorkerPart) (worker : Worker) → IsPausing x worker → (length x.known.found ≡ 0 → ⊥)
+    → HasTold x worker
+told_before x worker pausing some = record {
   part = x;
   same = refl;
-  with_it = pausing.with_it;
-  stays = pausing.before.stays;
-  loaded = λ epoch is. absurd (let none = pausing.before.loaded in cc (none, is));
+  goes = record { pausing = pausing; begun = λ none. some (ap length (pausing.first none)) };
+}
+
+-- ---- it waits for an even epoch
+
+-- before it loads the first one
+pub waits_first : (x : WorkerPart) (worker : Worker) → IsToGoOn x worker → IsWaiting x 0 worker
+waits_first x worker goes = record {
+  part = x;
+  same = refl;
+  with_it = goes.pausing.with_it;
+  stays = goes.pausing.before.stays;
+  begun = goes.begun;
+  loaded = λ epoch is. absurd (let none = goes.pausing.before.loaded in cc (none, is));
 }
 
 module _ {x : WorkerPart} {parked epoch : ℕ} {old new : Worker} (w : IsWaiting x parked old)
@@ -65,7 +95,7 @@ module _ {x : WorkerPart} {parked epoch : ℕ} {old new : Worker} (w : IsWaiting
     part = loads epoch w.part;
     same = w.same;
     knows = has.knows;
-    may = record { stays = w.stays; epoch = epoch; loaded = refl; even = even; able = has.able };
+    may = record { stays = w.stays; begun = w.begun; epoch = epoch; loaded = refl; even = even; able = has.able };
   }
 
   -- it is the one in which it parked
@@ -75,28 +105,31 @@ module _ {x : WorkerPart} {parked epoch : ℕ} {old new : Worker} (w : IsWaiting
     same = w.same;
     with_it = with_now;
     stays = w.stays;
+    begun = w.begun;
     loaded = λ e loaded. sym (one_value (Some epoch) epoch e refl loaded) ∙ is;
   }
 
   -- it is another one, in which it is to park
-  pub is_to_park : (epoch ≡ parked → ⊥) → IsToPark epoch (loads epoch w.part) new
-  is_to_park other = record {
+  pub is_to_park : IsOdd epoch → (epoch ≡ parked → ⊥) → IsToPark epoch (loads epoch w.part) new
+  is_to_park odd other = record {
     with_it = with_now;
     stays = w.stays;
     loaded = refl;
+    odd = odd;
     last = has.last;
     runs = λ is_parked. other (w.loaded epoch (has.parked is_parked));
   }
 
   -- and has parked
-  pub waits_on : {after : Worker} → IsSameBut new after
+  pub waits_on : {after : Worker} → IsOdd epoch → IsSameBut new after
       → IsSeatOf (says (acknowledgement epoch (length w.part.known.found)) (loads epoch w.part)) after.seat.me
       → IsWaiting x epoch after
-  waits_on same_too knows = record {
+  waits_on odd same_too knows = record {
     part = says (acknowledgement epoch (length w.part.known.found)) (loads epoch w.part);
     same = w.same;
     with_it = same_with with_now same_too refl knows;
     stays = parked_stays epoch (length w.part.known.found) w.with_it.few has.last;
+    begun = parked_begun epoch (length w.part.known.found) w.with_it.few odd;
     loaded = λ e loaded. sym (one_value (Some epoch) epoch e refl loaded);
   }
 
@@ -111,6 +144,7 @@ pub record IsWorking (p : Program) (l : Layout) (id : TableId) (budget made thre
   pub room : HasRoom (budget - made) part.known worker.log
   pub goes : GoesOn None (steps_known part.known)
   pub before : IsBefore part
+  pub first : HasNotBegun part.said → part.known.found ≡ []
 
 pub with_work : {p : Program} {l : Layout} {id : TableId} {x : WorkerPart} {worker : Worker}
     → IsAtWork p l id x worker → length x.known.found ≤ MOST_BUDGET → IsWith x worker
@@ -126,6 +160,7 @@ pub pauses : {p : Program} {l : Layout} {id : TableId} {budget made thread : ℕ
 pauses few w = record {
   with_it = with_work w.work (let count = w.count in omega (arith, few, count));
   before = w.before;
+  first = w.first;
 }
 
 -- what a worker has before its first step
@@ -141,7 +176,21 @@ not_begun p l id budget worker work room = record {
   room = less_room (budget - 0) budget (first_worker p l worker.log.thread).known worker.log (omega arith) room;
   goes = tt;
   before = record { stays = λ left. omega (arith, left); loaded = refl };
+  first = λ none. refl;
 }
+
+-- it said how far it is, and went on
+pub gone_on : {x : WorkerPart} {mid new : Worker} → (told : HasTold x mid) → HasGoneOn told.part new
+    → HasGoneOn x new
+gone_on told gone = record {
+  part = gone.part;
+  same = gone.same ∙ told.same;
+  knows = gone.knows;
+  may = gone.may;
+}
+
+pub same_both : {old mid new : Worker} → IsSameBut old mid → IsSameBut mid new → IsSameBut old new
+same_both first then = record { table = then.table ∙ first.table; log = then.log ∙ first.log }
 
 -- ---- one more step of its thread
 
@@ -158,6 +207,7 @@ pub record Behind (p : Program) (l : Layout) (id : TableId) (budget made thread 
   pub steps : steps_known part.known ≡ steps_before ++ last ∷ []
   pub room : HasRoom (budget - (made + 1)) part.known worker.log
   pub before : IsBefore part
+  pub begun : HasBegun part
 
 -- the worker that has gone on is at work as before
 pub gone_work : {p : Program} {l : Layout} {id : TableId} {budget made thread : ℕ} {old new : Worker}
@@ -198,6 +248,16 @@ stepped_on {budget = budget} {made = made} {mid = mid} w gone same below stepped
       stepped.room (budget - (made + 1))
       (subst (λ n. HasRoom n gone.part.known mid.log) (omega (arith, below)) (gone_room w gone same));
   before = record { stays = gone.may.stays; loaded = refl };
+  begun = gone.may.begun;
+}
+
+-- and is between two steps again
+pub behind_pauses : {p : Program} {l : Layout} {id : TableId} {budget made thread : ℕ} {worker : Worker} {out : Outcome}
+    → made < MOST_BUDGET → (b : Behind p l id budget made thread worker out) → IsPausing b.part worker
+behind_pauses few b = record {
+  with_it = with_work b.work (let count = b.count in omega (arith, few, count));
+  before = b.before;
+  first = λ none. absurd (b.begun none);
 }
 
 -- it committed `done`
@@ -227,6 +287,7 @@ behind_goes not b = record {
       subst (GoesOn None) (sym b.steps)
       (goes_more None b.steps_before b.last b.goes (ap ends_at (sym b.out_is) ∙ not) refl);
   before = b.before;
+  first = λ none. absurd (b.begun none);
 }
 
 -- it makes no further step, and leaves

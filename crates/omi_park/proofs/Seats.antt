@@ -1,5 +1,5 @@
 -- Seats are made and taken in, and a table is opened, under the rule.
-use Rattle.std.proofs.Common.{◌≡◌, ◌≢◌, ◌⊎◌, inl, inr, ◌<◌, ◌+◌, ◌++◌, ℕ, zero, suc, List, [], ◌∷◌, replicate, slice_get, Some, refl, sym, ap, ◌∙◌, subst, arith, ⊎_elim}
+use Rattle.std.proofs.Common.{◌≡◌, ◌≢◌, ◌⊎◌, inl, inr, ◌<◌, ◌+◌, ◌++◌, ℕ, zero, suc, List, [], ◌∷◌, length, replicate, slice_get, Some, refl, sym, ap, ◌∙◌, subst, arith, ⊎_elim}
 use mathlib.Core.Option.{some, some-injective, some-ne-none}
 use lib.ListN.{get_elem?}
 use Rattle.std.proofs.lemmas.List.{length-replicate}
@@ -10,12 +10,11 @@ use Rattle.omi_layout.specs.OpeningWords.{AreOpening}
 use Rattle.omi_rep.specs.Suits.{Suits}
 use Rattle.omi_seat.specs.Behind.{HasRun}
 use Rattle.omi_seat.specs.Seats.{AreSeated, all_below, first_alone, without_first}
-use Rattle.omi_seat.proofs.Lists.{get_more}
+use Rattle.omi_seat.proofs.Lists.{get_more, get_within}
 use Rattle.omi_seat.proofs.Opened.{opened, untouched_known}
 use Rattle.omi_seat.proofs.Seats.{one_below, one_joined, one_split}
 use Rattle.omi_park.specs.declared.known.Part.{Part}
 use Rattle.omi_park.specs.declared.known.Part.TheVariants as part
-use Rattle.omi_park.specs.Acknowledged.{IsStill}
 use Rattle.omi_park.specs.Plays.{first_inspector, first_part, first_parts}
 use Rattle.omi_park.specs.Running.{IsInspector, IsPart, IsSaid, Keeps, number_of}
 use Rattle.omi_park.proofs.Kept.{Now, reseated}
@@ -67,11 +66,6 @@ zero_there zero k below = absurd (omega (arith, below))
 zero_there (suc n) zero below = refl
 zero_there (suc n) (suc k) below = zero_there n k (omega (arith, below))
 
--- a word that is 0 says nothing
-says_nothing : IsStill 0 0 → ⊥
-says_nothing (inl left) = omega (arith, left)
-says_nothing (inr parked) = let odd = parked.0 in omega (arith, odd)
-
 module _ (p : Program) (l : Layout) (words : List ℕ) (suits : Suits p l.table) (opens : AreOpening p l.table words) where
   abbrev acks : List ℕ
   acks = replicate p.threads 0
@@ -82,8 +76,12 @@ module _ (p : Program) (l : Layout) (words : List ℕ) (suits : Suits p l.table)
   first_said : (k word : ℕ) → slice_get acks k ≡ Some word → IsSaid run.keeps.entries 0 k word
   first_said k word got =
       let is : word ≡ 0 = zeros p.threads k word got in
+      let none : ℕ = 0 in
+      let many = length-replicate p.threads none in
+      let within = get_within acks word k got in
+      let known = untouched_known p l words (0 ∷ acks) suits opens k (omega (arith, many, within)) in
       subst (λ w. IsSaid run.keeps.entries 0 k w) (sym is)
-      record { steps = λ still. absurd (says_nothing still); past = inr (omega arith) }
+      record { steps = λ still. ap length (sym known.steps); past = inr (inr (omega arith)) }
 
   first_inspects : IsInspector p l run.keeps.entries 0 run.run.words acks first_inspector
   first_inspects = record {
@@ -105,7 +103,9 @@ module _ (p : Program) (l : Layout) (words : List ℕ) (suits : Suits p l.table)
         known = untouched_known p l words (0 ∷ acks) suits opens k below;
         said = zero_there p.threads k below;
         loaded = λ n loaded. absurd (grind (arith, loaded));
-        parked = λ parked. absurd (says_nothing (inr parked));
+        begins = λ none. refl;
+        parked = λ parked. absurd (let odd = parked.0 in omega (arith, odd));
+        waits = λ word n got none loaded. absurd (grind (arith, loaded));
       }
   first_is z (inr is) = subst IsFirst is refl
 

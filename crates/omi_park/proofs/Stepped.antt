@@ -17,7 +17,7 @@ use Rattle.omi_core.specs.Steps.{steps_of}
 use Rattle.omi_core.proofs.History.{other_one_more}
 use Rattle.omi_seat.specs.declared.limits.TheConstants.{MOST_BUDGET}
 use Rattle.omi_seat.specs.Applied.{MayApply, WasTold}
-use Rattle.omi_seat.specs.Behind.{CanStep, HasRun}
+use Rattle.omi_seat.specs.Behind.{HasRun}
 use Rattle.omi_seat.specs.Known.{IsKnown, actor_known, claims_known, entry_known}
 use Rattle.omi_seat.specs.Seats.{Seated}
 use Rattle.omi_seat.proofs.OneStep.{entry_of}
@@ -28,15 +28,15 @@ use Rattle.omi_park.specs.declared.known.Part.TheVariants as part
 use Rattle.omi_park.specs.declared.known.WorkerPart.{WorkerPart}
 use Rattle.omi_park.specs.Acknowledged.{IsStill}
 use Rattle.omi_park.specs.Plays.{makes, stepped}
-use Rattle.omi_park.specs.Running.{IsInspector, IsPart, IsSaid, Keeps, number_of}
-use Rattle.omi_park.specs.Work.{IsLoose}
+use Rattle.omi_park.specs.Running.{HasSaid, IsInspector, IsPart, IsSaid, Keeps, number_of, staying, waiting}
+use Rattle.omi_park.specs.Work.{MayStep}
 use Rattle.omi_park.proofs.Kept.{Now}
 use Rattle.omi_park.proofs.Parts.{one_value, place_there, worker_is}
 use Rattle.omi_park.proofs.Stops.{stops_stand}
 use Rattle.omi_park.proofs.Worked.{not_seen, not_still, other_thread, worker}
 
 module _ (p : Program) (l : Layout) (s : State (Unit {0}) (List Part)) (h : Keeps p l s) (id : ℕ)
-    (x : WorkerPart) (at : get_elem? s.views id ≡ some (part.Worker x ∷ [])) (loose : IsLoose x)
+    (x : WorkerPart) (at : get_elem? s.views id ≡ some (part.Worker x ∷ [])) (may : MayStep x)
     (room : length x.known.found < MOST_BUDGET) where
   known : IsKnown p l h.behind.keeps.entries h.behind.run.actors x.known
   known = (worker p l s h id x at).known
@@ -66,16 +66,17 @@ module _ (p : Program) (l : Layout) (s : State (Unit {0}) (List Part)) (h : Keep
   own_said n got =
       let n_is : x.said ≡ n = one_value (slice_get h.acks x.known.thread) x.said n (worker p l s h id x at).said got in
       record {
-        steps = λ still. absurd (not_still p l s h id x at loose (subst (IsStill h.epoch) (sym n_is) still));
+        steps = λ still. absurd (not_still p l s h id x at may (subst (IsStill h.epoch) (sym n_is) still));
         past = (h.said x.known.thread n got).past;
       }
+
+  other_steps : (k : ℕ) → k ≢ x.known.thread → steps_of k entries ≡ steps_of k h.behind.keeps.entries
+  other_steps k other = other_one_more k x.known.thread h.behind.keeps.entries e (λ is. other (sym is))
 
   other_said : (k n : ℕ) → k ≢ x.known.thread → slice_get h.acks k ≡ Some n → IsSaid entries h.epoch k n
   other_said k n other got =
       let was = h.said k n got in
-      let same : steps_of k entries ≡ steps_of k h.behind.keeps.entries =
-      other_one_more k x.known.thread h.behind.keeps.entries e (λ is. other (sym is)) in
-      record { steps = λ still. was.steps still ∙ ap length (sym same); past = was.past }
+      record { steps = λ still. was.steps still ∙ ap length (sym (other_steps k other)); past = was.past }
 
   all_said : (k n : ℕ) → slice_get h.acks k ≡ Some n → IsSaid entries h.epoch k n
   all_said k n got = go (k == x.known.thread) refl
@@ -94,16 +95,23 @@ module _ (p : Program) (l : Layout) (s : State (Unit {0}) (List Part)) (h : Keep
       let count = h.inspects.all k n got in
       let below = known.thread in
       let there = place_there h.inspector.seen x.known.thread (omega (arith, below, count)) in
-      not_seen p l s h id x at loose there.0 there.1
+      not_seen p l s h id x at may there.0 there.1
 
   still_inspects : IsInspector p l entries h.epoch next.run.words h.acks h.inspector
   still_inspects = record {
     current = h.inspects.current;
-    seen = h.inspects.seen;
+    seen = λ k n got. still_seen k n got (h.inspects.seen k n got);
     all = h.inspects.all;
     held = λ k n got. absurd (none_copied k n got);
     stops = stops_stand p l 0 h.behind.keeps.entries (x.known.thread, e) h.inspector.stops h.inspects.stops;
   }
+    where
+      still_seen : (k n : ℕ) → slice_get h.inspector.seen k ≡ Some n
+          → HasSaid h.behind.keeps.entries h.epoch h.acks k n → HasSaid entries h.epoch h.acks k n
+      still_seen k n got (waiting none odd steps) =
+          waiting none odd
+          (other_steps k (λ is. not_seen p l s h id x at may n (ap (slice_get h.inspector.seen) (sym is) ∙ got)) ∙ steps)
+      still_seen k n got (staying here stays) = staying here stays
 
   -- ---- the parts
 
@@ -115,7 +123,9 @@ module _ (p : Program) (l : Layout) (s : State (Unit {0}) (List Part)) (h : Keep
     known = known_now p l s.words (h.epoch ∷ h.acks) h.behind x.known known room;
     said = (worker p l s h id x at).said;
     loaded = λ n is. absurd (grind (arith, is));
-    parked = λ parked. absurd (not_still p l s h id x at loose (inr parked));
+    begins = λ none. refl;
+    parked = λ parked. absurd (not_still p l s h id x at may (inr (inr parked)));
+    waits = λ word n got none is. absurd (grind (arith, is));
   }
 
   part_there : (z : Part) → number_of z ≢ number_of (part.Worker x) → Now p l s h h.inspector z → StepNow z
@@ -123,7 +133,9 @@ module _ (p : Program) (l : Layout) (s : State (Unit {0}) (List Part)) (h : Keep
     known = known_there p l s.words (h.epoch ∷ h.acks) h.behind x.known known room z.known (other_thread p l s h id x at z other) is.known;
     said = is.said;
     loaded = is.loaded;
+    begins = is.begins;
     parked = is.parked;
+    waits = is.waits;
   }
   part_there (part.Inspector i) other is = is
 
@@ -141,12 +153,12 @@ module _ (p : Program) (l : Layout) (s : State (Unit {0}) (List Part)) (h : Keep
   }
 
 -- whatever the table is, the operation of a thread keeps the rule, and the worker learns what it found
-pub step_allowed : (p : Program) (l : Layout) (slots id : ℕ) (x : WorkerPart) (st : Step (Unit {0})) → IsLoose x
+pub step_allowed : (p : Program) (l : Layout) (slots id : ℕ) (x : WorkerPart) (st : Step (Unit {0})) → MayStep x
     → length x.known.found < MOST_BUDGET
     → (o : Op) → o ≡ next_of x.known.program x.known.layout.table (actor_known x.known)
     → Allows (Keeps p l) slots id (part.Worker x ∷ [], []) (place_of (address_of o)) (left_of o)
     (stepped st (part.Worker x ∷ [], []))
-step_allowed p l slots id x st loose room o is s h homes at small =
+step_allowed p l slots id x st may room o is s h homes at small =
     subst
     (λ (q : Op). (w : List Part) × (a : Act (Unit {0})) × Valid s.homes [] a
     × Keeps p l
@@ -156,7 +168,7 @@ step_allowed p l slots id x st loose room o is s h homes at small =
       part.Worker (makes (entry_of h.behind.run x.known.thread).old x) ∷ [],
       keeps,
       tt,
-      keeps_step p l s h id x at loose room,
+      keeps_step p l s h id x at may room,
       told,
     )
   where
@@ -178,16 +190,16 @@ step_allowed p l slots id x st loose room o is s h homes at small =
 -- a seat that stands for one worker may make its thread's next operation
 pub may_step : (p : Program) (l : Layout) (id : TableId) (seat : ℕ) (x : WorkerPart) (me : Seated Part) (o : Op)
     → me ≡ (part.Worker x ∷ [], []) → o ≡ next_of x.known.program x.known.layout.table (actor_known x.known)
-    → IsLoose x → CanStep x.known.program x.known.layout.table (actor_known x.known) → length x.known.found < MOST_BUDGET
+    → MayStep x → length x.known.found < MOST_BUDGET
     → image_words x.known.layout.table ≤ id.words → MayApply (Keeps p l) id seat me o stepped
-may_step p l id seat x me o knows is_next loose able few count = record {
-  above = subst (λ (q : Op). FIRST_ADDRESS ≤ address_of q) (sym is_next) able.above;
+may_step p l id seat x me o knows is_next may few count = record {
+  above = subst (λ (q : Op). FIRST_ADDRESS ≤ address_of q) (sym is_next) may.able.above;
   inside =
-      let below = able.inside in
+      let below = may.able.inside in
       subst (λ (q : Op). place_of (address_of q) < id.words) (sym is_next) (omega (arith, below, count));
   allows = λ st.
       subst (λ (m : Seated Part). Allows (Keeps p l) id.slots seat m (place_of (address_of o)) (left_of o) (stepped st m)) (sym knows)
-      (step_allowed p l id.slots seat x st loose few o is_next);
+      (step_allowed p l id.slots seat x st may few o is_next);
 }
 
 -- what it has learnt

@@ -18,57 +18,81 @@ use Rattle.omi_park.specs.declared.known.Part.{Part}
 use Rattle.omi_park.specs.declared.known.Part.TheVariants as part
 use Rattle.omi_park.specs.declared.known.WorkerPart.{WorkerPart}
 use Rattle.omi_park.specs.declared.limits.TheConstants.{HALF, LAST_EPOCH}
-use Rattle.omi_park.specs.Acknowledged.{HasLeft, IsParkedIn, IsStill, steps_said}
+use Rattle.omi_park.specs.Acknowledged.{HasLeft, HasNotBegun, IsOdd, IsParkedIn, IsRunning, IsStill, Stays, steps_said}
 use Rattle.omi_park.specs.Plays.{loaded, loads, said, says}
-use Rattle.omi_park.specs.Running.{IsInspector, IsPart, IsSaid, IsWorker, Keeps, number_of}
-use Rattle.omi_park.specs.Work.{IsLoose, MaySay, leaves, parks}
+use Rattle.omi_park.specs.Running.{HasSaid, IsInspector, IsPart, IsSaid, IsWorker, Keeps, number_of, staying, waiting}
+use Rattle.omi_park.specs.Work.{HasBegun, IsLoose, MaySay, MayStep, leaves, parks, tells}
 use Rattle.omi_park.proofs.Kept.{Now, ack_set, epoch_found, image, loaded_on, reseated, run_with}
 use Rattle.omi_park.proofs.Parts.{one_value, set_here, set_there, worker_is}
-use Rattle.omi_park.proofs.Words.{left_now, left_steps, parked_half, parked_steps}
+use Rattle.omi_park.proofs.Words.{left_now, left_steps, parked_begun, parked_half, parked_steps, runs_begun, runs_free, runs_now, runs_on}
+
+-- a worker that may step is neither parked nor has it left
+pub loose_of : (x : WorkerPart) → MayStep x → IsLoose x
+loose_of x may = record {
+  stays = may.stays;
+  runs = λ epoch loaded parked.
+      may.even (subst IsOdd (one_value x.loaded epoch may.epoch loaded may.loaded) parked.0);
+}
 
 module _ (p : Program) (l : Layout) (s : State (Unit {0}) (List Part)) (h : Keeps p l s) (id : ℕ)
     (x : WorkerPart) (at : get_elem? s.views id ≡ some (part.Worker x ∷ [])) where
   abbrev pub thread : ℕ
   thread = x.known.thread
 
-  pub worker : IsWorker p l h.behind.keeps.entries h.behind.run.actors h.epoch h.acks x
+  pub worker : IsWorker p l h.behind.keeps.entries h.behind.run.actors h.epoch h.acks h.inspector.seen x
   worker = own_part number_of (Now p l s h h.inspector) (Now p l s h h.inspector) s.views h.seats id (part.Worker x) at
 
   -- a part of another worker, whose number is its thread's and one more
   pub other_thread : (z : WorkerPart) → number_of (part.Worker z) ≢ number_of (part.Worker x) → z.known.thread ≢ thread
   other_thread z other same = other (ap (λ n. n + 1) same)
 
-  -- ---- a worker that is not still has not been seen
+  -- ---- a worker that may step is not still, and has not been seen
 
-  pub not_still : IsLoose x → IsStill h.epoch x.said → ⊥
-  not_still loose (inl left) = loose.stays left
-  not_still loose (inr parked) = loose.runs h.epoch (worker.parked parked) parked
+  not_staying : IsLoose x → Stays h.epoch x.said → ⊥
+  not_staying loose (inl left) = loose.stays left
+  not_staying loose (inr parked) = loose.runs h.epoch (worker.parked parked) parked
 
-  pub not_seen : IsLoose x → (n : ℕ) → slice_get h.inspector.seen thread ≡ Some n → ⊥
-  not_seen loose n got =
-      let seen = h.inspects.seen thread n got in
-      not_still loose (subst (IsStill h.epoch) (one_value (slice_get h.acks thread) n x.said seen.0 worker.said) seen.1)
+  -- what was seen of one that is neither parked nor has left does not stay
+  pub none_stays : IsLoose x → (n : ℕ) → slice_get h.acks thread ≡ Some n → Stays h.epoch n → ⊥
+  none_stays loose n got stays =
+      not_staying loose (subst (Stays h.epoch) (one_value (slice_get h.acks thread) n x.said got worker.said) stays)
+
+  pub not_still : MayStep x → IsStill h.epoch x.said → ⊥
+  not_still may (inl none) = may.begun none
+  not_still may (inr stays) = not_staying (loose_of x may) stays
+
+  pub not_seen : MayStep x → (n : ℕ) → slice_get h.inspector.seen thread ≡ Some n → ⊥
+  not_seen may n got = go (h.inspects.seen thread n got)
+    where
+      go : HasSaid h.behind.keeps.entries h.epoch h.acks thread n → ⊥
+      go (waiting none odd steps) =
+          may.even (subst IsOdd (sym (worker.waits n may.epoch got none may.loaded)) odd)
+      go (staying here stays) = none_stays (loose_of x may) n here stays
 
   -- ---- it loads the epoch
 
-  loads_worker : IsWorker p l h.behind.keeps.entries h.behind.run.actors h.epoch h.acks (loads h.epoch x)
-  loads_worker = record {
+  loads_worker : HasBegun x
+      → IsWorker p l h.behind.keeps.entries h.behind.run.actors h.epoch h.acks h.inspector.seen (loads h.epoch x)
+  loads_worker begun = record {
     known = worker.known;
     said = worker.said;
     loaded = λ n is. let same : h.epoch ≡ n = one_value (Some h.epoch) h.epoch n refl is in omega (arith, same);
+    begins = λ none. absurd (begun none);
     parked = λ parked. refl;
+    waits = λ word n got none is. sym (one_value (Some h.epoch) h.epoch n refl is);
   }
 
   load_others : (z : Part) → number_of z ≢ number_of (part.Worker x) → Now p l s h h.inspector z
       → Now p l s h h.inspector z
   load_others z other is = is
 
-  pub keeps_load : Keeps p l (state_after s (image_words l.table) (slice_index s.words (image_words l.table)) id [] (part.Worker (loads h.epoch x) ∷ []) keeps)
-  keeps_load =
+  pub keeps_load : HasBegun x
+      → Keeps p l (state_after s (image_words l.table) (slice_index s.words (image_words l.table)) id [] (part.Worker (loads h.epoch x) ∷ []) keeps)
+  keeps_load begun =
       loaded_on p l s h (image_words l.table) id (part.Worker (loads h.epoch x) ∷ [])
       (reseated p l s h h.inspector (slice_set s.views id (part.Worker (loads h.epoch x) ∷ [])) h.inspects
       (one_changed number_of (Now p l s h h.inspector) (Now p l s h h.inspector) s.views h.seats id (part.Worker x) at
-      (part.Worker (loads h.epoch x)) refl loads_worker load_others))
+      (part.Worker (loads h.epoch x)) refl (loads_worker begun) load_others))
 
   -- ---- it stores its acknowledgement
 
@@ -99,15 +123,17 @@ module _ (p : Program) (l : Layout) (s : State (Unit {0}) (List Part)) (h : Keep
     still_inspects : IsInspector p l h.behind.keeps.entries h.epoch (image p l s h) acks h.inspector
     still_inspects = record {
       current = h.inspects.current;
-      seen = λ k n got.
-          let was = h.inspects.seen k n got in (
-            said_there k (λ same. not_seen loose n (ap (slice_get h.inspector.seen) (sym same) ∙ got)) ∙ was.0,
-            was.1,
-          );
+      seen = λ k n got. still_seen k n (h.inspects.seen k n got);
       all = h.inspects.all;
       held = h.inspects.held;
       stops = h.inspects.stops;
     }
+      where
+        still_seen : (k n : ℕ) → HasSaid h.behind.keeps.entries h.epoch h.acks k n
+            → HasSaid h.behind.keeps.entries h.epoch acks k n
+        still_seen k n (waiting none odd steps) = waiting none odd steps
+        still_seen k n (staying here stays) =
+            staying (said_there k (λ same. none_stays loose n (ap (slice_get h.acks) (sym same) ∙ here) stays) ∙ here) stays
 
     abbrev SaidNow : Part → Type 0
     SaidNow = IsPart p l h.behind.keeps.entries h.behind.run.actors h.epoch acks h.inspector
@@ -117,13 +143,16 @@ module _ (p : Program) (l : Layout) (s : State (Unit {0}) (List Part)) (h : Keep
       known = is.known;
       said = said_there z.known.thread (other_thread z other) ∙ is.said;
       loaded = is.loaded;
+      begins = is.begins;
       parked = is.parked;
+      waits = is.waits;
     }
     said_others (part.Inspector i) other is = is
 
     keeps_word : IsSaid h.behind.keeps.entries h.epoch thread word → (IsParkedIn h.epoch word → x.loaded ≡ Some h.epoch)
+        → (HasNotBegun word → ⊥)
         → Keeps p l (state_after s (image_words l.table + 1 + thread) word id [] (part.Worker (says word x) ∷ []) keeps)
-    keeps_word own parked = record {
+    keeps_word own parked begun = record {
       epoch = h.epoch;
       last = h.last;
       acks = acks;
@@ -134,7 +163,14 @@ module _ (p : Program) (l : Layout) (s : State (Unit {0}) (List Part)) (h : Keep
       inspects = still_inspects;
       seats =
           one_changed number_of (Now p l s h h.inspector) SaidNow s.views h.seats id (part.Worker x) at (part.Worker (says word x)) refl
-          (record { known = worker.known; said = said_here; loaded = worker.loaded; parked = parked })
+          record {
+            known = worker.known;
+            said = said_here;
+            loaded = worker.loaded;
+            begins = λ none. absurd (begun none);
+            parked = parked;
+            waits = worker.waits;
+          }
           said_others;
     }
 
@@ -143,14 +179,25 @@ module _ (p : Program) (l : Layout) (s : State (Unit {0}) (List Part)) (h : Keep
 
     may_say : length x.known.found ≤ MOST_BUDGET → MaySay word x
         → IsSaid h.behind.keeps.entries h.epoch thread word × (IsParkedIn h.epoch word → x.loaded ≡ Some h.epoch)
-    may_say few (parks epoch is last word_is) =
+        × (HasNotBegun word → ⊥)
+    may_say few (tells none word_is) =
+        let runs : IsRunning word = subst IsRunning (sym word_is) (runs_now 0 (length x.known.found) few) in (
+          record {
+            steps = λ still. absurd (runs_on word runs h.epoch h.last still);
+            past = inr (inl runs);
+          },
+          (λ parked. absurd (runs_free word runs h.epoch h.last parked)),
+          runs_begun word runs,
+        )
+    may_say few (parks epoch is odd last word_is) =
         let half : word / HALF ≡ epoch = ap (λ n. n / HALF) word_is ∙ parked_half epoch (length x.known.found) few in
         let before = worker.loaded epoch is in (
           record {
             steps = λ still. ap steps_said word_is ∙ parked_steps epoch (length x.known.found) few ∙ steps_here;
-            past = inr (omega (arith, half, before));
+            past = inr (inr (omega (arith, half, before)));
           },
-          λ parked. is ∙ ap (λ (n : ℕ). Some n) (sym half ∙ parked.1),
+          (λ parked. is ∙ ap (λ (n : ℕ). Some n) (sym half ∙ parked.1)),
+          (λ none. parked_begun epoch (length x.known.found) few odd (sym word_is ∙ none)),
         )
     may_say few (leaves none word_is) =
         let left : HasLeft word = subst HasLeft (sym word_is) (left_now 0 (length x.known.found) few) in (
@@ -158,7 +205,8 @@ module _ (p : Program) (l : Layout) (s : State (Unit {0}) (List Part)) (h : Keep
             steps = λ still. ap steps_said word_is ∙ left_steps 0 (length x.known.found) few ∙ steps_here;
             past = inl left;
           },
-          λ parked. absurd (left_is_not_parked left parked),
+          (λ parked. absurd (left_is_not_parked left parked)),
+          (λ none. let top = left in omega (arith, top, none)),
         )
       where
         left_is_not_parked : HasLeft word → IsParkedIn h.epoch word → ⊥
@@ -170,17 +218,17 @@ module _ (p : Program) (l : Layout) (s : State (Unit {0}) (List Part)) (h : Keep
 
     pub keeps_said : length x.known.found ≤ MOST_BUDGET → MaySay word x
         → Keeps p l (state_after s (image_words l.table + 1 + thread) word id [] (part.Worker (says word x) ∷ []) keeps)
-    keeps_said few may = let own = may_say few may in keeps_word own.0 own.1
+    keeps_said few may = let own = may_say few may in keeps_word own.0 own.1 own.2
 
 -- whatever the table is, a load of the epoch keeps the rule, and the worker learns that its thread may step
-pub load_allowed : (p : Program) (l : Layout) (slots id : ℕ) (x : WorkerPart) (st : Step (Unit {0}))
+pub load_allowed : (p : Program) (l : Layout) (slots id : ℕ) (x : WorkerPart) (st : Step (Unit {0})) → HasBegun x
     → Allows (Keeps p l) slots id (part.Worker x ∷ [], []) (image_words l.table) (λ n. n)
     (loaded st (part.Worker x ∷ [], []))
-load_allowed p l slots id x st s h homes at small = (
+load_allowed p l slots id x st begun s h homes at small = (
   part.Worker (loads h.epoch x) ∷ [],
   keeps,
   tt,
-  keeps_load p l s h id x at,
+  keeps_load p l s h id x at begun,
   (λ y same.
       let y_is : x ≡ y = worker_is x y same in
       let found = epoch_found p l s h in
@@ -193,7 +241,7 @@ load_allowed p l slots id x st s h homes at small = (
       )),
 )
 
--- a worker that is not still may store its acknowledgement
+-- a worker that is neither parked nor has left may store its acknowledgement
 pub say_allowed : (p : Program) (l : Layout) (slots id : ℕ) (x : WorkerPart) (word : ℕ) (st : Step (Unit {0}))
     → IsLoose x → length x.known.found ≤ MOST_BUDGET → MaySay word x
     → Allows (Keeps p l) slots id (part.Worker x ∷ [], []) (image_words l.table + 1 + x.known.thread) (λ _. word)

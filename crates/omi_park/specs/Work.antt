@@ -20,7 +20,7 @@ use Rattle.omi_park.specs.declared.known.WorkerPart.{WorkerPart}
 use Rattle.omi_park.specs.declared.limits.TheConstants.{LAST_EPOCH}
 use Rattle.omi_park.specs.declared.rule.Given.{Given}
 use Rattle.omi_park.specs.declared.worker.Worker.{Worker}
-use Rattle.omi_park.specs.Acknowledged.{HasLeft, IsOdd, IsParkedIn, acknowledgement, farewell}
+use Rattle.omi_park.specs.Acknowledged.{HasLeft, HasNotBegun, IsOdd, IsParkedIn, acknowledgement, farewell, running}
 use Rattle.omi_park.specs.Plays.{loads, makes}
 
 -- ---- the table
@@ -47,6 +47,10 @@ pub record IsLoose (x : WorkerPart) : Type 0 where
   pub stays : HasLeft x.said → ⊥
   pub runs : (epoch : ℕ) → x.loaded ≡ Some epoch → IsParkedIn epoch x.said → ⊥
 
+-- it has begun
+abbrev pub HasBegun : WorkerPart → Type 0
+HasBegun x = HasNotBegun x.said → ⊥
+
 -- it has loaded no epoch since its thread's last step
 pub record IsBefore (x : WorkerPart) : Type 0 where
   pub stays : HasLeft x.said → ⊥
@@ -55,14 +59,16 @@ pub record IsBefore (x : WorkerPart) : Type 0 where
 -- it loaded an even epoch, so its thread may make its next step
 pub record MayStep (x : WorkerPart) : Type 0 where
   pub stays : HasLeft x.said → ⊥
+  pub begun : HasBegun x
   pub epoch : ℕ
   pub loaded : x.loaded ≡ Some epoch
   pub even : IsOdd epoch → ⊥
   pub able : CanStep x.known.program x.known.layout.table (actor_known x.known)
 
--- it may store this word: it is to park in an odd epoch that it has loaded, or to leave, with its number of steps
+-- it may store this word: it runs, is to park in an odd epoch that it has loaded, or is to leave, with its number of steps
 pub data MaySay (word : ℕ) (x : WorkerPart) : Type 0 where
-  parks : (epoch : ℕ) → x.loaded ≡ Some epoch → epoch ≤ LAST_EPOCH
+  tells : x.loaded ≡ None → word ≡ running (length x.known.found) → MaySay word x
+  parks : (epoch : ℕ) → x.loaded ≡ Some epoch → IsOdd epoch → epoch ≤ LAST_EPOCH
       → word ≡ acknowledgement epoch (length x.known.found) → MaySay word x
   leaves : x.loaded ≡ None → word ≡ farewell (length x.known.found) → MaySay word x
 
@@ -86,13 +92,26 @@ pub record IsToPark (epoch : ℕ) (x : WorkerPart) (worker : Worker) : Type 0 wh
   pub with_it : IsWith x worker
   pub stays : HasLeft x.said → ⊥
   pub loaded : x.loaded ≡ Some epoch
+  pub odd : IsOdd epoch
   pub last : epoch ≤ LAST_EPOCH
   pub runs : IsParkedIn epoch x.said → ⊥
 
--- it is between two steps of its thread
+-- it is between two steps of its thread, or before the first one
 pub record IsPausing (x : WorkerPart) (worker : Worker) : Type 0 where
   pub with_it : IsWith x worker
   pub before : IsBefore x
+  pub first : HasNotBegun x.said → x.known.found ≡ []
+
+-- it has begun, and is between two steps
+pub record IsToGoOn (x : WorkerPart) (worker : Worker) : Type 0 where
+  pub pausing : IsPausing x worker
+  pub begun : HasBegun x
+
+-- it has said that it runs where that was due, and is to go on
+pub record HasTold (x : WorkerPart) (worker : Worker) : Type 0 where
+  pub part : WorkerPart
+  pub same : part.known ≡ x.known
+  pub goes : IsToGoOn part worker
 
 -- it waits for an even epoch: the one that it loaded last, if any, is the one in which it parked
 pub record IsWaiting (x : WorkerPart) (parked : ℕ) (worker : Worker) : Type 0 where
@@ -100,6 +119,7 @@ pub record IsWaiting (x : WorkerPart) (parked : ℕ) (worker : Worker) : Type 0 
   pub same : part.known ≡ x.known
   pub with_it : IsWith part worker
   pub stays : HasLeft part.said → ⊥
+  pub begun : HasBegun part
   pub loaded : (epoch : ℕ) → part.loaded ≡ Some epoch → epoch ≡ parked
 
 -- this worker is at work at a table, for one thread of a program in a layout

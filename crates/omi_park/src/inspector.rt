@@ -1,4 +1,5 @@
-//! The inspector: it calls the workers to stop, waits until each is still, copies the words, and lets the workers go.
+//! The inspector: it waits for the workers to make a share of their steps, calls them to stop, waits until each is still, copies the words, and
+//! lets the workers go.
 
 ghost use Rattle.std.specs.Prelude.{◌≡◌, ◌<◌, ◌≤◌, ◌+◌, ◌++◌, [], ◌∷◌, length, vec_capacity, vec_len, IfOk};
 ghost use Rattle.omi_word.specs.declared.limits.TheConstants.{MOST_WORDS};
@@ -15,9 +16,10 @@ ghost use Rattle.omi_park.specs.Work.{IsTableFor, IsTableOf};
 
 use crate::known::Part;
 use crate::limits::{HALF, INSPECTOR, LEFT};
+use crate::progress::await_share;
 use crate::rule::{Calls, Copies, LetsGo, Sees};
 use crate::stopped::{StopList, Stopped};
-use crate::worker::Words;
+use crate::table::{Words, acknowledgement_place};
 use atomic_table::Seat;
 use omi_core::OutOfMemory;
 use omi_layout::Layout;
@@ -59,11 +61,11 @@ fn rooms_for(alloc: Global, threads: u8, words: usize, stops: u8) -> Result<Vec<
     Ok(rooms)
 }
 
-/// Whether an acknowledgement says that its worker is parked in this odd epoch, or has left.
+/// Whether an acknowledgement says that its worker makes no step in this odd epoch: it has not begun, has left, or is parked in it.
 fn is_still(epoch: u64, said: u64) -> bool
     ensures { result ≡ is_still epoch said }
 {
-    said / LEFT == 1 || said / HALF == epoch
+    said == 0 || (said / LEFT == 1 || said / HALF == epoch)
 }
 
 /// Loads the acknowledgement of the next worker, until it says that the worker is still in this epoch, and answers how many steps it says.
@@ -84,7 +86,7 @@ fn await_still<R: Wait>(
     ensures seen { (i : InspectorPart) → IsSeeing epoch thread i seat.old.me
         → HasSeen i result seat.new.me }
 {
-    let place = l.image_words() + 1 + usize::from(thread);
+    let place = acknowledgement_place(l, words, thread);
     for _ in rt.forever() {
         let said = words.load::<Sees>(seat, place);
         if is_still(epoch, said) {
@@ -175,7 +177,8 @@ fn let_go(p: &Program, l: &Layout, words: &Words, seat: &mut Seat<(), List<Part>
     words.store::<LetsGo>(seat, l.image_words(), epoch + 1);
 }
 
-/// Makes a stop, in the room for one: it calls in an odd epoch, waits until all are still, copies the words, and lets all go.
+/// Makes a stop, in the room for one: it calls in an odd epoch, waits until all are still, copies the words, and lets all go. The gate was
+/// passed before the call, and is passed behind it.
 fn stop<R: Wait, G: Gate>(
     rt: &R,
     p: &Program,
@@ -196,7 +199,6 @@ fn stop<R: Wait, G: Gate>(
         seat.new.me }
 {
     let Room { image, steps } = room;
-    gate.pass(INSPECTOR, epoch);
     call(l, words, seat, epoch);
     gate.pass(INSPECTOR, epoch + 1);
     let steps = await_all(rt, p, l, words, seat, epoch, steps);
@@ -240,13 +242,15 @@ impl Inspector {
         (seat, StopList::from_vec(stops))
     }
 
-    /// Makes all its stops, one after another. Takes no memory.
+    /// Makes all its stops, one after another: each where the workers have made an equal share of the steps that are still to come, or make none.
+    /// Takes no memory.
     pub(crate) fn inspect<R: Wait, G: Gate>(
         &mut self,
         rt: &R,
         p: &Program,
         l: &Layout,
         words: &Words,
+        budget: u64,
         gate: &G,
     )
         requires table { IsTableFor p.now l.now words.now.key words.now.table_id }
@@ -257,6 +261,8 @@ impl Inspector {
     {
         let mut epoch = 2 * self.stops.len() as u64 + 1;
         while let Some(room) = self.rooms.pop() {
+            gate.pass(INSPECTOR, epoch);
+            await_share(p, l, words, budget, self.rooms.len() as u64 + 2);
             let stopped = stop(rt, p, l, words, &mut self.seat, epoch, room, gate);
             self.stops.push_reserved(stopped);
             epoch += 2;

@@ -9,14 +9,16 @@ mod known;
 mod limits;
 mod lines;
 mod printed;
+mod progress;
 mod rule;
 mod run;
 mod stopped;
+mod table;
 mod threads;
 mod top;
 mod worker;
 
 pub use limits::{INSPECTOR, MOST_STOPS};
 pub use stopped::{StopList, Stopped};
-pub use threads::{ParkEnd, park};
+pub use threads::{ParkEnd, park, park_within};
 pub use top::park_top;

@@ -14,3 +14,12 @@ pub const HALF: u64 = 4_294_967_296;
 
 /// The top bit of a word, which the acknowledgement of a worker has that has left.
 pub const LEFT: u64 = 9_223_372_036_854_775_808;
+
+/// The bit below it, which the acknowledgement of a worker has that runs.
+pub const RUNS: u64 = 4_611_686_018_427_387_904;
+
+/// Before its first step, and behind each so many, a worker says that it runs.
+pub const STEPS_UNTOLD: u64 = 100;
+
+/// So often the inspector looks at most for one more step, before it calls the workers to stop.
+pub const MOST_LOOKS: u64 = 10_000;

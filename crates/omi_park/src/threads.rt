@@ -19,7 +19,8 @@ use crate::inspector::Inspector;
 use crate::known::Part;
 use crate::rule::{Given, Running};
 use crate::stopped::StopList;
-use crate::worker::{Words, Worker};
+use crate::table::Words;
+use crate::worker::Worker;
 use atomic_table::{Seat, Table};
 use omi_core::{OutOfMemory, RunList, ThreadRun, Until, opening_image};
 use omi_layout::{Layout, MOST_THREADS};
@@ -160,7 +161,7 @@ fn all_joined(
     RunList::from_vec(runs)
 }
 
-/// Lets each worker work, in a thread of its own where one can be made. Takes no memory.
+/// Lets each worker work, in at most so many threads. One for which no thread can be made works behind another one. Takes no memory.
 fn all_worked<R: Threads + Wait + Sync, G: Gate>(
     rt: &R,
     p: &Program,
@@ -168,9 +169,11 @@ fn all_worked<R: Threads + Wait + Sync, G: Gate>(
     words: &Words,
     budget: u64,
     gate: &G,
+    threads: u8,
     workers: &mut Vec<Runner>,
 )
     requires suits { Suits p.now l.now.table }
+    requires some { 0 < threads }
     requires table { IsTableFor p.now l.now words.now.key words.now.table_id }
     requires budget { budget ≤ MOST_BUDGET }
     requires begin { AreToBegin p.now l.now words.now.table_id budget (vec_len workers.old)
@@ -189,7 +192,7 @@ fn all_worked<R: Threads + Wait + Sync, G: Gate>(
     {
         runner.until = runner.worker.work(rt, p, l, words, budget, gate);
     };
-    thread::for_each_mut(rt, workers, MOST_THREADS as usize, &work);
+    thread::for_each_mut(rt, workers, usize::from(threads), &work);
 }
 
 /// The workers behind their work.
@@ -200,9 +203,11 @@ fn worked<R: Threads + Wait + Sync, G: Gate>(
     words: &Words,
     budget: u64,
     gate: &G,
+    threads: u8,
     mut workers: Vec<Runner>,
 ) -> Vec<Runner>
     requires suits { Suits p.now l.now.table }
+    requires some { 0 < threads }
     requires table { IsTableFor p.now l.now words.now.key words.now.table_id }
     requires budget { budget ≤ MOST_BUDGET }
     requires begin { AreToBegin p.now l.now words.now.table_id budget (vec_len workers)
@@ -211,7 +216,7 @@ fn worked<R: Threads + Wait + Sync, G: Gate>(
     ensures ended { HaveEnded p.now l.now words.now.table_id budget (vec_len workers)
         result.items }
 {
-    all_worked(rt, p, l, words, budget, gate, &mut workers);
+    all_worked(rt, p, l, words, budget, gate, threads, &mut workers);
     workers
 }
 
@@ -221,6 +226,7 @@ fn inspected<R: Threads + Wait + Sync, G: Gate>(
     p: &Program,
     l: &Layout,
     words: &Words,
+    budget: u64,
     gate: &G,
     mut inspector: Inspector,
 ) -> Inspector
@@ -228,12 +234,12 @@ fn inspected<R: Threads + Wait + Sync, G: Gate>(
     requires between { IsBetween p.now l.now words.now.table_id first_inspector inspector }
     ensures { HasInspected words.now.table_id (vec_len inspector.rooms) result }
 {
-    inspector.inspect(rt, p, l, words, gate);
+    inspector.inspect(rt, p, l, words, budget, gate);
     inspector
 }
 
-/// Lets the workers work and the inspector make its stops beside them. Where no thread can be made for the inspector, it makes them behind
-/// the workers.
+/// Lets the workers work, in at most so many threads, and the inspector make its stops beside them. Where no thread can be made for the
+/// inspector, it makes them behind the workers.
 fn beside<R: Threads + Wait + Sync, G: Gate>(
     rt: &R,
     p: &Program,
@@ -241,6 +247,7 @@ fn beside<R: Threads + Wait + Sync, G: Gate>(
     words: &Words,
     budget: u64,
     gate: &G,
+    threads: u8,
     workers: Vec<Runner>,
     inspector: Inspector,
 ) -> (Inspector, Vec<Runner>)
@@ -255,6 +262,10 @@ fn beside<R: Threads + Wait + Sync, G: Gate>(
     ensures ended { HaveEnded p.now l.now words.now.table_id budget (vec_len workers)
         result.1.items }
 {
+    if threads == 0 {
+        let workers = worked(rt, p, l, words, budget, gate, 1, workers);
+        return (inspected(rt, p, l, words, budget, gate, inspector), workers);
+    }
     thread::join(
         rt,
         move || -> Inspector
@@ -262,9 +273,9 @@ fn beside<R: Threads + Wait + Sync, G: Gate>(
                 × IsTableFor p.now l.now words.now.key words.now.table_id
                 × IsBetween p.now l.now words.now.table_id first_inspector inspector }
             ensures { HasInspected words.entry.now.table_id (vec_len inspector.rooms) result }
-        { inspected(rt, p, l, words, gate, inspector) },
+        { inspected(rt, p, l, words, budget, gate, inspector) },
         move || -> Vec<Runner>
-            requires { IsSync R.row × IsSync G.row × Suits p.now l.now.table
+            requires { IsSync R.row × IsSync G.row × (0 < threads) × Suits p.now l.now.table
                 × IsTableFor p.now l.now words.now.key words.now.table_id
                 × (budget ≤ MOST_BUDGET)
                 × AreToBegin p.now l.now words.now.table_id budget (vec_len workers)
@@ -272,8 +283,59 @@ fn beside<R: Threads + Wait + Sync, G: Gate>(
             ensures { (vec_len result ≡ vec_len workers)
                 × HaveEnded p.entry.now l.entry.now words.entry.now.table_id budget
                 (vec_len workers) result.items }
-        { worked(rt, p, l, words, budget, gate, workers) },
+        { worked(rt, p, l, words, budget, gate, threads, workers) },
     )
+}
+
+/// As `park`, where at most so many threads can be made for the program's threads, and where none can, none for the inspector either. Work
+/// that gets no thread runs behind other work: a thread of the program that has not begun holds no stop up, and an inspector makes its stops
+/// behind the threads.
+pub fn park_within<R: Threads + Wait + Sync, G: Gate>(
+    rt: &R,
+    alloc: Global,
+    p: &Program,
+    l: &Layout,
+    budget: u64,
+    stops: u8,
+    gate: &G,
+    threads: u8,
+) -> Result<ParkEnd, OutOfMemory>
+    requires suits { Suits p.now l.now.table }
+    requires budget { budget ≤ MOST_BUDGET }
+    requires stops { stops ≤ MOST_STOPS }
+    ensures parked { IfOk result
+        (λ end. IsParked p.now l.now budget end.image end.runs end.stops) }
+    ensures stops { IfOk result (λ end. length end.stops ≡ stops) }
+{
+    let first = opening_image(alloc, p, l)?;
+    let opening = words_of(alloc, &first, 1 + usize::from(p.threads))?;
+    let given = Given {
+        program: Snapshot::of(p),
+        layout: Snapshot::of(l),
+    };
+    let (table, mut seat) = Table::of_words(alloc, &opening, &given)?;
+    drop(opening);
+    let workers = workers_at(alloc, p, l, budget, &table.shared, &mut seat)?;
+    let room = Vec::with_capacity(alloc, workers.len())?;
+    let inspector = Inspector::opening(alloc, p, l, stops, seat)?;
+    gate.open(p.threads, budget);
+    let (inspector, workers) = beside(
+        rt,
+        p,
+        l,
+        &table.shared,
+        budget,
+        gate,
+        threads,
+        workers,
+        inspector,
+    );
+    let (mut seat, stops) = inspector.parts();
+    let runs = all_joined(&table.shared, &mut seat, workers, room);
+    let closed = table.close_with(seat);
+    let image = image_of(first, &closed);
+    closed.free();
+    Ok(ParkEnd { stops, runs, image })
 }
 
 /// Runs a program in a layout that suits it, each thread as work of its own over one table of words, for at most `budget` steps of each
@@ -295,23 +357,5 @@ pub fn park<R: Threads + Wait + Sync, G: Gate>(
         (λ end. IsParked p.now l.now budget end.image end.runs end.stops) }
     ensures stops { IfOk result (λ end. length end.stops ≡ stops) }
 {
-    let first = opening_image(alloc, p, l)?;
-    let opening = words_of(alloc, &first, 1 + usize::from(p.threads))?;
-    let given = Given {
-        program: Snapshot::of(p),
-        layout: Snapshot::of(l),
-    };
-    let (table, mut seat) = Table::of_words(alloc, &opening, &given)?;
-    drop(opening);
-    let workers = workers_at(alloc, p, l, budget, &table.shared, &mut seat)?;
-    let room = Vec::with_capacity(alloc, workers.len())?;
-    let inspector = Inspector::opening(alloc, p, l, stops, seat)?;
-    gate.open(p.threads, budget);
-    let (inspector, workers) = beside(rt, p, l, &table.shared, budget, gate, workers, inspector);
-    let (mut seat, stops) = inspector.parts();
-    let runs = all_joined(&table.shared, &mut seat, workers, room);
-    let closed = table.close_with(seat);
-    let image = image_of(first, &closed);
-    closed.free();
-    Ok(ParkEnd { stops, runs, image })
+    park_within(rt, alloc, p, l, budget, stops, gate, MOST_THREADS as u8)
 }

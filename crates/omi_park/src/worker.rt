@@ -1,4 +1,5 @@
-//! A worker: its seat at the table, and what it made so far. It stops where the inspector calls, and leaves at its end.
+//! A worker: its seat at the table, and what it made so far. It says now and then how far it is, stops where the inspector calls, and leaves at
+//! its end.
 
 ghost use Rattle.std.specs.Prelude.{◌≡◌, ◌<◌, ◌≤◌, length};
 ghost use Rattle.omi_rep.specs.Suits.{Suits};
@@ -8,12 +9,13 @@ ghost use Rattle.omi_seat.specs.StepLog.{HasRoom};
 ghost use Rattle.omi_park.specs.declared.known.WorkerPart.{WorkerPart};
 ghost use Rattle.omi_park.specs.Acknowledged.{acknowledgement, farewell};
 ghost use Rattle.omi_park.specs.Plays.{first_worker, says};
-ghost use Rattle.omi_park.specs.Work.{HasGoneOn, HasLoaded, HasStepped, HasWorked, IsAtWork, IsPausing, IsReady, IsSameBut, IsSeatOf, IsTableFor, IsTableOf, IsToPark, IsToSay};
+ghost use Rattle.omi_park.specs.Work.{HasBegun, HasGoneOn, HasLoaded, HasStepped, HasTold, HasWorked, IsAtWork, IsPausing, IsReady, IsSameBut, IsSeatOf, IsTableFor, IsTableOf, IsToGoOn, IsToPark, IsToSay};
 
 use crate::known::Part;
-use crate::limits::{HALF, LEFT};
+use crate::limits::{HALF, LEFT, RUNS, STEPS_UNTOLD};
 use crate::rule::{Given, Loads, Running, Says, Steps};
-use atomic_table::{Seat, Shared};
+use crate::table::{Words, acknowledgement_place};
+use atomic_table::Seat;
 use omi_actor::next;
 use omi_core::Until;
 use omi_layout::Layout;
@@ -24,9 +26,6 @@ use omi_seat::{StepLog, apply, ends_at};
 use omi_step_words::CompactOutcome;
 use std::sync::Wait;
 use std::thread::yield_now;
-
-/// The table of words, as its threads see it: the image's words, the epoch word, and an acknowledgement word of each worker.
-pub(crate) type Words = Shared<(), List<Part>, Given, Running>;
 
 /// A worker. Its events have the numbers of its own steps.
 pub(crate) struct Worker {
@@ -58,7 +57,7 @@ impl Worker {
     fn load_epoch(&mut self, l: &Layout, words: &Words) -> u64
         requires at { IsTableOf l.now words.now.key words.now.table_id }
         requires seated { self.old.seat.table_id ≡ words.now.table_id }
-        requires alone { (x : WorkerPart) × IsSeatOf x self.old.seat.me }
+        requires alone { (x : WorkerPart) × IsSeatOf x self.old.seat.me × HasBegun x }
         ensures loaded { (x : WorkerPart) → IsSeatOf x self.old.seat.me
             → HasLoaded x result self.new }
         ensures same { IsSameBut self.old self.new }
@@ -76,7 +75,7 @@ impl Worker {
             → IsSeatOf (says word x) self.new.seat.me }
         ensures same { IsSameBut self.old self.new }
     {
-        let own = l.image_words() + 1 + usize::from(self.log.thread);
+        let own = acknowledgement_place(l, words, self.log.thread);
         words.store::<Says>(&mut self.seat, own, word);
     }
 
@@ -95,13 +94,28 @@ impl Worker {
         self.say(l, words, epoch * HALF + steps);
     }
 
+    /// Says that it runs, by its number of steps: before its first step, and behind each `STEPS_UNTOLD`.
+    fn tell(&mut self, l: &Layout, words: &Words)
+        requires at { IsTableOf l.now words.now.key words.now.table_id }
+        requires seated { self.old.seat.table_id ≡ words.now.table_id }
+        requires below { self.old.log.thread < words.now.key.program.value.threads }
+        requires before { (x : WorkerPart) × IsPausing x self.old }
+        ensures told { (x : WorkerPart) → IsPausing x self.old → HasTold x self.new }
+        ensures same { IsSameBut self.old self.new }
+    {
+        let steps = self.log.made.len() as u64;
+        if steps % STEPS_UNTOLD == 0 {
+            self.say(l, words, RUNS + steps);
+        }
+    }
+
     /// Goes on once it loads an even epoch: in each odd one it parks, and loads the epoch until there is another.
     fn go_on<R: Wait>(&mut self, rt: &R, l: &Layout, words: &Words)
         requires at { IsTableOf l.now words.now.key words.now.table_id }
         requires seated { self.old.seat.table_id ≡ words.now.table_id }
         requires below { self.old.log.thread < words.now.key.program.value.threads }
-        requires before { (x : WorkerPart) × IsPausing x self.old }
-        ensures gone { (x : WorkerPart) → IsPausing x self.old → HasGoneOn x self.new }
+        requires before { (x : WorkerPart) × IsToGoOn x self.old }
+        ensures gone { (x : WorkerPart) → IsToGoOn x self.old → HasGoneOn x self.new }
         ensures same { IsSameBut self.old self.new }
     {
         let mut parked = 0;
@@ -172,6 +186,7 @@ impl Worker {
     {
         for step in 0..budget {
             gate.pass(self.log.thread, step + 1);
+            self.tell(l, words);
             self.go_on(rt, l, words);
             let came = self.step(p, l, words);
             if ends_at(came) {

@@ -84,39 +84,55 @@ impl Gate for MidRun {
     }
 }
 
-/// Holds one thread before a step until the inspector has called, and the inspector before its first call until the thread has come there.
+/// Holds one thread before a step until the inspector has called for its first stop, and before a later one until it has called for its second;
+/// and the inspector before each call until the thread has come there. A run has as many stops as there are steps, which are one or two.
 #[derive(Drop)]
-pub struct AtStep {
+pub struct AtSteps {
     pub holds: Holds,
     thread: u8,
-    step: u64,
+    first: u64,
+    second: Option<u64>,
     came: AtomicU64,
     called: AtomicU64,
 }
 
-impl AtStep {
-    pub fn of(thread: u8, step: u64) -> AtStep {
-        AtStep {
+impl AtSteps {
+    pub fn of(thread: u8, first: u64, second: Option<u64>) -> AtSteps {
+        AtSteps {
             holds: Holds::new(),
             thread,
-            step,
+            first,
+            second,
             came: AtomicU64::new(0),
             called: AtomicU64::new(0),
         }
     }
+
+    /// The inspector comes to the call for a stop, which is counted from 1, or has called for it.
+    fn pass_inspector(&self, number: u64) {
+        let stop = number.div_ceil(2);
+        if number % 2 == 1 {
+            self.holds.hold(&self.came, stop);
+        } else {
+            self.called.store(stop, SeqCst);
+        }
+    }
+
+    /// The thread comes to the step at which it stands in a stop.
+    fn pass_thread(&self, stop: u64) {
+        self.came.store(stop, SeqCst);
+        self.holds.hold(&self.called, stop);
+    }
 }
 
-impl Gate for AtStep {
+impl Gate for AtSteps {
     fn pass(&self, thread: u8, step: u64) {
-        if thread == INSPECTOR && step == 1 {
-            self.holds.hold(&self.came, 1);
-        }
-        if thread == INSPECTOR && step == 2 {
-            self.called.store(1, SeqCst);
-        }
-        if thread == self.thread && step == self.step {
-            self.came.store(1, SeqCst);
-            self.holds.hold(&self.called, 1);
+        if thread == INSPECTOR {
+            self.pass_inspector(step);
+        } else if thread == self.thread && step == self.first {
+            self.pass_thread(1);
+        } else if thread == self.thread && Some(step) == self.second {
+            self.pass_thread(2);
         }
     }
 }

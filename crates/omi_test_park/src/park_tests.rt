@@ -1,14 +1,15 @@
 //! Worked runs of threads with stops.
 
-ghost use Rattle.std.specs.Prelude.{◌≤◌};
+ghost use Rattle.std.specs.Prelude.{◌≤◌, IfSome};
+ghost use Rattle.omi_rep.specs.Suits.{Suits};
 ghost use Rattle.omi_park.specs.declared.limits.TheConstants.{MOST_STOPS};
 ghost use Rattle.omi_seat.specs.declared.limits.TheConstants.{MOST_BUDGET};
 
-use crate::gates::{AtStep, Counting, MidRun};
+use crate::gates::{AtSteps, Counting, MidRun};
 use omi_core::Until;
 use omi_layout::{Layout, MOST_THREADS};
 use omi_outside::{FreeGate, Gate};
-use omi_park::{MOST_STOPS, ParkEnd, Stopped, park};
+use omi_park::{MOST_STOPS, ParkEnd, Stopped, park, park_within};
 use omi_rep::suits;
 use omi_script::{Program, parse};
 use omi_test_rows::A_TEAM_OF_TWO;
@@ -20,6 +21,10 @@ use std::thread::Threads;
 
 /// One thread that does nothing.
 const NOTHING: &str = "func main\nend\n";
+
+/// One thread that works longer than any budget.
+const A_LONG_RUN: &str =
+    "func w\nwork\nend\nfunc r\nrepeat 1000 w\nend\nfunc main\nrepeat 1000 r\nend\n";
 
 /// Four threads that wait for each other, and for a lock.
 const A_LOCK: &str =
@@ -34,6 +39,21 @@ fn program(alloc: Global, script: &str) -> Option<Program> {
     parse(alloc, script.as_bytes()).ok()
 }
 
+/// The program of a script, and the layout of family 0 for it.
+fn made_for(alloc: Global, script: &str) -> Option<(Program, Layout)>
+    ensures { IfSome result (λ made. Suits made.0 made.1.table) }
+{
+    let p = program(alloc, script)?;
+    if u64::from(p.threads) > MOST_THREADS {
+        return None;
+    }
+    let l = Layout::family(0, p.threads);
+    if !suits(&p, &l) {
+        return None;
+    }
+    Some((p, l))
+}
+
 /// What the threads of a script's program make, in the layout of family 0, with so many stops.
 fn run<R: Threads + Wait + Sync, G: Gate>(
     rt: &R,
@@ -46,14 +66,7 @@ fn run<R: Threads + Wait + Sync, G: Gate>(
     requires budget { budget ≤ MOST_BUDGET }
     requires stops { stops ≤ MOST_STOPS }
 {
-    let p = program(alloc, script)?;
-    if u64::from(p.threads) > MOST_THREADS {
-        return None;
-    }
-    let l = Layout::family(0, p.threads);
-    if !suits(&p, &l) {
-        return None;
-    }
+    let (p, l) = made_for(alloc, script)?;
     park(rt, alloc, &p, &l, budget, stops, gate).ok()
 }
 
@@ -144,7 +157,7 @@ fn in_mid_run(rt: HostRuntime) -> Result<(), Fail> {
 fn at_each_step(rt: HostRuntime) -> Result<(), Fail> {
     for script in [A_TEAM_OF_TWO, A_LOCK] {
         for step in 1..60u64 {
-            let gate = AtStep::of(0, step);
+            let gate = AtSteps::of(0, step, None);
             let end = run(&rt, rt.alloc(), script, 300, 1, &gate);
             assert!(rt; end.is_some());
             assert!(rt; gate.holds.all_ended());
@@ -203,5 +216,66 @@ fn behind_its_end(rt: HostRuntime) -> Result<(), Fail> {
         assert!(rt; made.wrapping_add(1) == steps || made == steps);
     }
     assert_eq!(rt; end.runs.find(0).ok_or("no run")?.until, Until::Ended);
+    Ok(())
+}
+
+/// How many threads stand between their first and their last step at a stop.
+fn in_work(end: &ParkEnd, stop: &Stopped) -> usize {
+    let mut count = 0usize;
+    for thread in 0..end.runs.len() {
+        let (Some(steps), Some(run)) = (steps_of(stop, thread), end.runs.find(thread)) else {
+            continue;
+        };
+        if 0 < steps && steps < run.steps {
+            count = count.wrapping_add(1);
+        }
+    }
+    count
+}
+
+/// Work that gets no thread runs behind other work, and the run ends: no more threads of the program stand in mid-run than there are threads, one that
+/// has not begun holds no stop up, and an inspector without a thread makes its stops behind the run.
+#[test]
+fn fewer_threads(rt: HostRuntime) -> Result<(), Fail> {
+    let alloc = rt.alloc();
+    for threads in [2u8, 3, 4, 8] {
+        let script = format!(in alloc;
+            "threads {threads}\nfunc f\nwork\nbarrier\nend\nfunc main\nparallel f num {threads}\nend\n"
+        )?;
+        let (p, l) = made_for(alloc, script.as_str()).ok_or("no program")?;
+        for limit in 0..=threads {
+            let gate = Counting::new();
+            let end = park_within(&rt, alloc, &p, &l, 1_000, MOST_STOPS, &gate, limit);
+            let end = end.map_err(|_| "no memory")?;
+            assert_eq!(rt; gate.passes(), (16, 16));
+            assert_eq!(rt; end.stops.len(), 8);
+            for stop in end.stops.as_slice() {
+                assert_eq!(rt; stop.steps.len(), usize::from(threads));
+                assert!(rt; in_work(&end, stop) <= usize::from(limit));
+                if limit == 0 {
+                    assert!(rt; are_same(&stop.image, &end.image));
+                }
+            }
+            for run in end.runs.as_slice() {
+                assert!(rt; run.steps == 1_000 || run.until == Until::Ended);
+            }
+        }
+    }
+    Ok(())
+}
+
+/// Where the threads spend their budgets, the stops lie apart. Each thread of this program works without waiting for another one.
+#[test]
+fn stops_are_apart(rt: HostRuntime) -> Result<(), Fail> {
+    let end = run(&rt, rt.alloc(), A_LONG_RUN, 50_000, MOST_STOPS, &FreeGate);
+    assert!(rt; end.is_some());
+    let end = end.unwrap();
+    let mut last = None;
+    for stop in end.stops.as_slice() {
+        let made = steps_of(stop, 0);
+        assert!(rt; made.is_some() && made != last);
+        last = made;
+    }
+    assert!(rt; last < Some(50_000));
     Ok(())
 }

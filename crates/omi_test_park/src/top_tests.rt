@@ -1,6 +1,6 @@
 //! Runs of threads with stops through the top call, and each of its refusals.
 
-use crate::gates::{AtStep, MidRun};
+use crate::gates::{AtSteps, MidRun};
 use omi_outside::{Call, FreeGate, Gate, MemFiles, MemSink, Status};
 use omi_park::park_top;
 use omi_test_rows::{A_TEAM_OF_TWO, AN_EMPTY_RUN};
@@ -156,7 +156,7 @@ fn in_the_middle_of_an_update(rt: HostRuntime) -> Result<(), Fail> {
     let alloc = rt.alloc();
     for (script, threads) in [(A_TEAM_OF_TWO, 2), (A_LOCK, 4)] {
         for step in [1u64, 7, 23, 41, 59] {
-            let gate = AtStep::of(0, step);
+            let gate = AtSteps::of(0, step, None);
             let done = call(&rt, alloc, "300 1 s", script, &gate)?;
             assert_eq!(rt; done.status, Status::Success);
             assert!(rt; gate.holds.all_ended());
@@ -168,6 +168,34 @@ fn in_the_middle_of_an_update(rt: HostRuntime) -> Result<(), Fail> {
             assert!(rt; printed.as_str().split_once(report.as_str()).is_some());
         }
     }
+    Ok(())
+}
+
+/// A task that is there at the first stop has ended before the second one, so its handle is stale; that of the initial task is current.
+#[test]
+fn a_task_that_has_ended(rt: HostRuntime) -> Result<(), Fail> {
+    let alloc = rt.alloc();
+    let script = "func t\nwork\nend\nfunc main\ntask t\ntaskwait\nend\n";
+    let gate = AtSteps::of(0, 67, Some(90));
+    let done = call(&rt, alloc, "200 2 s", script, &gate)?;
+    assert_eq!(rt; done.status, Status::Success);
+    assert!(rt; gate.holds.all_ended());
+    let printed = done.printed(alloc)?;
+    let (first, second) = printed
+        .as_str()
+        .split_once("\nstop 2\nthread 0 steps 89\n")
+        .ok_or("no second stop")?;
+    assert!(rt; first.starts_with("stop 1\nthread 0 steps 66\n"));
+    assert!(rt;
+        first
+            .split_once("\ntask k0.1.0 thread 0 kind explicit ")
+            .is_some()
+    );
+    assert!(rt;
+        second
+            .split_once("\ntask k0.1.0 stale\ntask k0.0.0 current\n")
+            .is_some()
+    );
     Ok(())
 }
 

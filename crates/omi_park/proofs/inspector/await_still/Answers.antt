@@ -2,7 +2,6 @@ use Rattle.std.proofs.Common.{◌≡◌, ◌+◌, true, false, length, sym, ap, 
 use mathlib.Core.Option.{none}
 use Rattle.atomic_table.specs.Table.{Allows, step}
 use Rattle.omi_script.specs.declared.program.Program.{Program}
-use Rattle.omi_script.proofs.RuleLemmas.{Rules-from_accepted}
 use Rattle.omi_layout.specs.declared.layout.Layout.{Layout}
 use Rattle.omi_layout.specs.Place.{image_words}
 use Rattle.omi_seat.specs.Seats.{Seated}
@@ -14,20 +13,11 @@ use Rattle.omi_park.proofs.Copying.{has_seen, not_seen}
 use Rattle.omi_park.proofs.Inspected.{see_allowed}
 use Rattle.omi_park.proofs.inspector.await_still.Goals as goal
 
-pub overflow_add-place : goal.overflow_add-place
-overflow_add-place g c =
-    let size = c.requires.table.of.size in
-    let is = c.image_words.ensures in
-    omega (arith, size, is)
-
-pub overflow_add-place-2 : goal.overflow_add-place-2
-overflow_add-place-2 g c =
-    let size = c.requires.table.of.size in
-    let is = c.image_words.ensures in
-    let few = (Rules-from_accepted c.args.p.now).threads.1 in
+pub acknowledgement_place-place-requires-clause-below : goal.acknowledgement_place-place-requires-clause-below
+acknowledgement_place-place-requires-clause-below g c =
     let below = c.requires.below in
-    let from = c.from.ensures in
-    omega (arith, size, is, few, below, from)
+    let threads = ap (λ (q : Program). q.threads) c.requires.table.program in
+    omega (arith, below, threads)
 
 pub load-said-requires : goal.load-said-requires
 load-said-requires g c =
@@ -36,19 +26,18 @@ load-said-requires g c =
     let now = c.loop.invariant in
     let key = c.args.words.now.key in
     let of = c.requires.table.of in
-    let image : c.image_words.result ≡ image_words key.layout.value.table =
-    c.image_words.ensures ∙ ap (λ (z : Layout). image_words z.table) (sym of.layout) in
+    let image : image_words c.args.l.now.table ≡ image_words key.layout.value.table =
+    ap (λ (z : Layout). image_words z.table) (sym of.layout) in
     let threads : key.program.value.threads ≡ c.args.p.now.threads =
     ap (λ (q : Program). q.threads) c.requires.table.program in
-    let count = of.count in
     let below = c.requires.below in
-    let is = c.image_words.ensures in
+    let place = c.acknowledgement_place-place.ensures.place in
     let many = seeing.seen in (
       now.seated ∙ c.requires.seated,
-      omega (arith, count, is, below, threads),
+      c.acknowledgement_place-place.ensures.inside,
       subst
           (λ n. Allows (Keeps key.program.value key.layout.value) c.args.words.now.table_id.slots c.loop.seat.id c.loop.seat.me n (λ found. found) (seen (step 0 0 0 0 none) c.loop.seat.me))
-          (omega (arith, image, many))
+          (omega (arith, image, many, place))
           (subst (λ (m : Seated Part). Allows (Keeps key.program.value key.layout.value) c.args.words.now.table_id.slots c.loop.seat.id m (image_words key.layout.value.table + 1 + length i.seen) (λ found. found) (seen (step 0 0 0 0 none) m)) (sym (now.same ∙ seeing.knows))
           (see_allowed key.program.value key.layout.value c.args.words.now.table_id.slots c.loop.seat.id i (step 0 0 0 0 none)
           (subst IsOdd (sym seeing.called) seeing.odd) seeing.none_copied (omega (arith, many, below, threads)))),

@@ -1,5 +1,6 @@
 -- A worker that waits: it parks in each odd epoch that it loads anew, and goes on in an even one.
 use Rattle.std.proofs.Common.{refl, ◌∙◌, arith}
+use Rattle.omi_park.specs.Acknowledged.{IsOdd}
 use Rattle.omi_park.specs.Plays.{loads}
 use Rattle.omi_park.proofs.Going.{is_to_park, waits_first, waits_on, waits_over, waits_still}
 use Rattle.omi_park.proofs.worker.Worker.go_on.Goals as goal
@@ -7,7 +8,7 @@ use Rattle.omi_park.proofs.worker.Worker.go_on.Goals as goal
 pub loop-init : goal.loop-init
 loop-init g c = record {
   same = record { table = refl; log = refl };
-  waits = λ x pausing. waits_first x c.args.self.now pausing;
+  waits = λ x goes. waits_first x c.args.self.now goes;
 }
 
 pub load_epoch-epoch-requires-clause-seated : goal.load_epoch-epoch-requires-clause-seated
@@ -15,11 +16,11 @@ load_epoch-epoch-requires-clause-seated g c = c.loop.invariant.same.table ∙ c.
 
 pub load_epoch-epoch-requires-clause-alone : goal.load_epoch-epoch-requires-clause-alone
 load_epoch-epoch-requires-clause-alone g c =
-    let w = c.loop.invariant.waits c.requires.before.0 c.requires.before.1 in (w.part, w.with_it.knows)
+    let w = c.loop.invariant.waits c.requires.before.0 c.requires.before.1 in (w.part, w.with_it.knows, w.begun)
 
 pub returns-then-epoch-eq0-clause-gone : goal.returns-then-epoch-eq0-clause-gone
-returns-then-epoch-eq0-clause-gone g c x pausing =
-    let w = c.loop.invariant.waits x pausing in
+returns-then-epoch-eq0-clause-gone g c x goes =
+    let w = c.loop.invariant.waits x goes in
     waits_over w (c.load_epoch-epoch.ensures.loaded w.part w.with_it.knows) c.load_epoch-epoch.ensures.same
     (λ odd. let even = c.if-epoch-eq0.true in omega (arith, even, odd))
 
@@ -29,8 +30,8 @@ loop-preserved-then-epoch-parked g c =
     let same = c.load_epoch-epoch.ensures.same in
     record {
       same = record { table = same.table ∙ now.same.table; log = same.log ∙ now.same.log };
-      waits = λ x pausing.
-          let w = now.waits x pausing in
+      waits = λ x goes.
+          let w = now.waits x goes in
           waits_still w (c.load_epoch-epoch.ensures.loaded w.part w.with_it.knows) same c.if-epoch-parked.true;
     }
 
@@ -39,6 +40,7 @@ park-requires-clause-may g c =
     let w = c.loop.invariant.waits c.requires.before.0 c.requires.before.1 in (
       loads c.load_epoch-epoch.result w.part,
       is_to_park w (c.load_epoch-epoch.ensures.loaded w.part w.with_it.knows) c.load_epoch-epoch.ensures.same
+          (let not_even = c.if-epoch-eq0.false in omega (arith, not_even))
           (λ is. let other = c.if-epoch-parked.false in omega (arith, other, is)),
     )
 
@@ -52,10 +54,11 @@ loop-preserved g c =
         table = parked.table ∙ same.table ∙ now.same.table;
         log = parked.log ∙ same.log ∙ now.same.log;
       };
-      waits = λ x pausing.
-          let w = now.waits x pausing in
+      waits = λ x goes.
+          let w = now.waits x goes in
           let has = c.load_epoch-epoch.ensures.loaded w.part w.with_it.knows in
-          waits_on w has same parked
+          let odd : IsOdd c.load_epoch-epoch.result = (let not_even = c.if-epoch-eq0.false in omega (arith, not_even)) in
+          waits_on w has same odd parked
           (c.park.ensures.parked (loads c.load_epoch-epoch.result w.part)
-          (is_to_park w has same (λ is. let other = c.if-epoch-parked.false in omega (arith, other, is))));
+          (is_to_park w has same odd (λ is. let other = c.if-epoch-parked.false in omega (arith, other, is))));
     }

@@ -2,7 +2,7 @@ use Rattle.std.proofs.Common.{ap, ◌∙◌, subst}
 use Rattle.omi_park.specs.Acknowledged.{farewell}
 use Rattle.omi_park.specs.Plays.{says}
 use Rattle.omi_park.specs.Work.{IsSeatOf, leaves}
-use Rattle.omi_park.proofs.Parts.{never_some}
+use Rattle.omi_park.proofs.Going.{loose_before}
 use Rattle.omi_park.proofs.worker.Worker.leave.Goals as goal
 
 pub say-requires-clause-may : goal.say-requires-clause-may
@@ -12,10 +12,7 @@ say-requires-clause-may c =
       x,
       record {
         with_it = before.with_it;
-        loose = record {
-          stays = before.before.stays;
-          runs = λ epoch loaded parked. never_some x.loaded epoch before.before.loaded loaded;
-        };
+        loose = loose_before x before.before;
         may = leaves before.before.loaded (ap farewell (c.len-steps.ensures ∙ before.with_it.count));
       },
     )

@@ -24,7 +24,7 @@ load-requires c =
           (λ n. Allows (Keeps key.program.value key.layout.value) c.args.words.now.table_id.slots c.args.self.now.seat.id c.args.self.now.seat.me n (λ found. found) (loaded (step 0 0 0 0 none) c.args.self.now.seat.me))
           (sym at)
           (subst (λ (m : Seated Part). Allows (Keeps key.program.value key.layout.value) c.args.words.now.table_id.slots c.args.self.now.seat.id m (image_words key.layout.value.table) (λ found. found) (loaded (step 0 0 0 0 none) m)) (sym alone.1)
-          (load_allowed key.program.value key.layout.value c.args.words.now.table_id.slots c.args.self.now.seat.id alone.0 (step 0 0 0 0 none))),
+          (load_allowed key.program.value key.layout.value c.args.words.now.table_id.slots c.args.self.now.seat.id alone.0 (step 0 0 0 0 none) alone.2)),
     )
 
 pub returns-clause-loaded : goal.returns-clause-loaded

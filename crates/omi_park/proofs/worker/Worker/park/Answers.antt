@@ -17,7 +17,7 @@ say-requires-clause-may c =
           runs = λ epoch loaded parked.
               may.runs (subst (λ e. IsParkedIn e x.said) (one_value x.loaded epoch c.args.epoch loaded may.loaded) parked);
         };
-        may = parks c.args.epoch may.loaded may.last
+        may = parks c.args.epoch may.loaded may.odd may.last
             (ap (λ n. acknowledgement c.args.epoch n) (c.len-steps.ensures ∙ may.with_it.count));
       },
     )

@@ -1,7 +1,6 @@
-use Rattle.std.proofs.Common.{◌≡◌, ◌+◌, sym, ap, ◌∙◌, subst, arith}
+use Rattle.std.proofs.Common.{◌≡◌, ◌+◌, sym, ap, subst, arith}
 use mathlib.Core.Option.{none}
 use Rattle.atomic_table.specs.Table.{Allows, step}
-use Rattle.omi_script.proofs.RuleLemmas.{Rules-from_accepted}
 use Rattle.omi_layout.specs.declared.layout.Layout.{Layout}
 use Rattle.omi_layout.specs.Place.{image_words}
 use Rattle.omi_seat.specs.Seats.{Seated}
@@ -11,37 +10,20 @@ use Rattle.omi_park.specs.Running.{Keeps}
 use Rattle.omi_park.proofs.Worked.{say_allowed}
 use Rattle.omi_park.proofs.worker.Worker.say.Goals as goal
 
-pub overflow_add-own : goal.overflow_add-own
-overflow_add-own c =
-    let size = c.requires.at.size in
-    let is = c.image_words.ensures in
-    omega (arith, size, is)
-
-pub overflow_add-own-2 : goal.overflow_add-own-2
-overflow_add-own-2 c =
-    let size = c.requires.at.size in
-    let is = c.image_words.ensures in
-    let few = (Rules-from_accepted c.args.words.now.key.program.value).threads.1 in
-    let below = c.requires.below in
-    let from = c.from.ensures in
-    omega (arith, size, is, few, below, from)
-
 pub store-requires : goal.store-requires
 store-requires c =
     let x = c.requires.may.0 in
     let may = c.requires.may.1 in
     let key = c.args.words.now.key in
-    let image : c.image_words.result ≡ image_words key.layout.value.table =
-    c.image_words.ensures ∙ ap (λ (z : Layout). image_words z.table) (sym c.requires.at.layout) in
+    let image : image_words c.args.l.now.table ≡ image_words key.layout.value.table =
+    ap (λ (z : Layout). image_words z.table) (sym c.requires.at.layout) in
     let thread = may.with_it.thread in
-    let count = c.requires.at.count in
-    let below = c.requires.below in
-    let is = c.image_words.ensures in (
+    let place = c.acknowledgement_place-own.ensures.place in (
       c.requires.seated,
-      omega (arith, count, is, below),
+      c.acknowledgement_place-own.ensures.inside,
       subst
           (λ n. Allows (Keeps key.program.value key.layout.value) c.args.words.now.table_id.slots c.args.self.now.seat.id c.args.self.now.seat.me n (λ found. c.args.word) (λ found. said (step 0 0 0 0 none) c.args.self.now.seat.me c.args.word))
-          (omega (arith, image, thread))
+          (omega (arith, image, thread, place))
           (subst (λ (m : Seated Part). Allows (Keeps key.program.value key.layout.value) c.args.words.now.table_id.slots c.args.self.now.seat.id m (image_words key.layout.value.table + 1 + x.known.thread) (λ found. c.args.word) (λ found. said (step 0 0 0 0 none) m c.args.word)) (sym may.with_it.knows)
           (say_allowed key.program.value key.layout.value c.args.words.now.table_id.slots c.args.self.now.seat.id x c.args.word (step 0 0 0 0 none) may.loose may.with_it.few may.may)),
     )

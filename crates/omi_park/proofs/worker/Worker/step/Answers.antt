@@ -3,7 +3,6 @@ use Rattle.std.proofs.Common.{◌≡◌, ap, ◌∙◌, arith}
 use Rattle.omi_layout.specs.declared.layout.Layout.{Layout}
 use Rattle.omi_layout.specs.Place.{image_words}
 use Rattle.omi_seat.proofs.Logged.{can_step, next_is}
-use Rattle.omi_park.proofs.Going.{loose_of}
 use Rattle.omi_park.proofs.Stepped.{has_found, may_step}
 use Rattle.omi_park.proofs.worker.Worker.step.Goals as goal
 
@@ -32,7 +31,7 @@ apply-old-requires-clause-may c =
     ap (λ (z : Layout). image_words z.table) work.log.layout in
     may_step key.program.value key.layout.value c.args.words.now.table_id c.args.self.now.seat.id ready.0 c.args.self.now.seat.me c.next-op.result work.knows
     (c.next-op.ensures ∙ next_is c.args.p.now c.args.l.now ready.0.known c.args.self.now.log work.log)
-    (loose_of ready.0 ready.1.may) ready.1.may.able ready.1.few
+    ready.1.may ready.1.few
     (omega (arith, count, same))
 
 pub list-requires-clause-may : goal.list-requires-clause-may

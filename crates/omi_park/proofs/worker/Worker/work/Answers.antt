@@ -1,13 +1,14 @@
--- A worker at work: each turn of its loop waits for an even epoch and makes a step.
+-- A worker at work: each turn of its loop says how far it is, waits for an even epoch, and makes a step.
 use Rattle.std.proofs.Common.{◌≡◌, ◌-◌, true, false, length, sym, ap, ◌∙◌, arith}
 use Rattle.omi_script.specs.declared.program.Program.{Program}
 use Rattle.omi_step_words.specs.Outcomes.{outcome_of}
 use Rattle.omi_seat.specs.declared.known.Known.{Known}
+use Rattle.omi_seat.specs.declared.step_log.StepLog.{StepLog}
 use Rattle.omi_seat.specs.Stops.{ends_at}
 use Rattle.omi_seat.proofs.Logged.{less_room}
 use Rattle.omi_park.specs.Acknowledged.{farewell}
 use Rattle.omi_park.specs.Plays.{says}
-use Rattle.omi_park.proofs.Going.{behind_done, behind_goes, budget_spent, gone_room, gone_work, left_work, not_begun, pauses, says_worked, stepped_on, with_work}
+use Rattle.omi_park.proofs.Going.{behind_done, behind_goes, behind_pauses, budget_spent, gone_on, gone_room, gone_work, left_work, not_begun, pauses, same_both, says_worked, stepped_on}
 use Rattle.omi_park.proofs.worker.Worker.work.Goals as goal
 
 pub loop-step-init : goal.loop-step-init
@@ -15,20 +16,40 @@ loop-step-init g c =
     not_begun c.args.p.now c.args.l.now c.args.words.now.table_id c.args.budget c.args.self.now
     c.requires.start c.requires.room
 
-pub go_on-requires-clause-below : goal.go_on-requires-clause-below
-go_on-requires-clause-below g c =
+pub tell-requires-clause-below : goal.tell-requires-clause-below
+tell-requires-clause-below g c =
     let now = c.loop-step.invariant in
     let thread = now.work.log.thread in
     let below = now.work.log.below in
     let threads = ap (λ (q : Program). q.threads) c.requires.table.program in
     omega (arith, thread, below, threads)
 
+pub tell-requires-clause-before : goal.tell-requires-clause-before
+tell-requires-clause-before g c =
+    let now = c.loop-step.invariant in
+    let below = c.loop-step-test.true in
+    let most = c.requires.budget in
+    (now.part, pauses (omega (arith, below, most)) now)
+
+pub go_on-requires-clause-below : goal.go_on-requires-clause-below
+go_on-requires-clause-below g c =
+    let now = c.loop-step.invariant in
+    let same = ap (λ (k : StepLog). k.thread) c.tell.ensures.same.log in
+    let thread = now.work.log.thread in
+    let below = now.work.log.below in
+    let threads = ap (λ (q : Program). q.threads) c.requires.table.program in
+    omega (arith, same, thread, below, threads)
+
+pub go_on-requires-clause-seated : goal.go_on-requires-clause-seated
+go_on-requires-clause-seated g c = c.tell.ensures.same.table ∙ c.loop-step.invariant.work.table
+
 pub go_on-requires-clause-before : goal.go_on-requires-clause-before
 go_on-requires-clause-before g c =
     let now = c.loop-step.invariant in
     let below = c.loop-step-test.true in
     let most = c.requires.budget in
-    (now.part, pauses (omega (arith, below, most)) now)
+    let told = c.tell.ensures.told now.part (pauses (omega (arith, below, most)) now) in
+    (told.part, told.goes)
 
 pub step-came-requires-clause-ready : goal.step-came-requires-clause-ready
 step-came-requires-clause-ready g c =
@@ -36,8 +57,9 @@ step-came-requires-clause-ready g c =
     let below = c.loop-step-test.true in
     let most = c.requires.budget in
     let count = now.count in
-    let gone = c.go_on.ensures.gone now.part (pauses (omega (arith, below, most)) now) in
-    let same = c.go_on.ensures.same in
+    let told = c.tell.ensures.told now.part (pauses (omega (arith, below, most)) now) in
+    let gone = gone_on told (c.go_on.ensures.gone told.part told.goes) in
+    let same = same_both c.tell.ensures.same c.go_on.ensures.same in
     let found : length gone.part.known.found ≡ length now.part.known.found =
     ap (λ (k : Known). length k.found) gone.same in (
       gone.part,
@@ -56,9 +78,11 @@ leave-requires-clause-below g c =
     let now = c.loop-step.invariant in
     let below = c.loop-step-test.true in
     let most = c.requires.budget in
-    let gone = c.go_on.ensures.gone now.part (pauses (omega (arith, below, most)) now) in
-    let b = stepped_on now gone c.go_on.ensures.same below
-    (c.step-came.ensures.stepped gone.part (gone_work now gone c.go_on.ensures.same)) c.step-came.ensures.thread in
+    let told = c.tell.ensures.told now.part (pauses (omega (arith, below, most)) now) in
+    let gone = gone_on told (c.go_on.ensures.gone told.part told.goes) in
+    let same = same_both c.tell.ensures.same c.go_on.ensures.same in
+    let b = stepped_on now gone same below
+    (c.step-came.ensures.stepped gone.part (gone_work now gone same)) c.step-came.ensures.thread in
     let thread = b.work.log.thread in
     let less = b.work.log.below in
     let threads = ap (λ (q : Program). q.threads) c.requires.table.program in
@@ -69,9 +93,11 @@ leave-requires-clause-seated g c =
     let now = c.loop-step.invariant in
     let below = c.loop-step-test.true in
     let most = c.requires.budget in
-    let gone = c.go_on.ensures.gone now.part (pauses (omega (arith, below, most)) now) in
-    let b = stepped_on now gone c.go_on.ensures.same below
-    (c.step-came.ensures.stepped gone.part (gone_work now gone c.go_on.ensures.same)) c.step-came.ensures.thread in
+    let told = c.tell.ensures.told now.part (pauses (omega (arith, below, most)) now) in
+    let gone = gone_on told (c.go_on.ensures.gone told.part told.goes) in
+    let same = same_both c.tell.ensures.same c.go_on.ensures.same in
+    let b = stepped_on now gone same below
+    (c.step-came.ensures.stepped gone.part (gone_work now gone same)) c.step-came.ensures.thread in
     b.work.table
 
 pub leave-requires-clause-before : goal.leave-requires-clause-before
@@ -79,25 +105,26 @@ leave-requires-clause-before g c =
     let now = c.loop-step.invariant in
     let below = c.loop-step-test.true in
     let most = c.requires.budget in
-    let gone = c.go_on.ensures.gone now.part (pauses (omega (arith, below, most)) now) in
-    let b = stepped_on now gone c.go_on.ensures.same below
-    (c.step-came.ensures.stepped gone.part (gone_work now gone c.go_on.ensures.same)) c.step-came.ensures.thread in
-    let count = b.count in
-    (b.part, record { with_it = with_work b.work (omega (arith, count, below, most)); before = b.before })
+    let told = c.tell.ensures.told now.part (pauses (omega (arith, below, most)) now) in
+    let gone = gone_on told (c.go_on.ensures.gone told.part told.goes) in
+    let same = same_both c.tell.ensures.same c.go_on.ensures.same in
+    let b = stepped_on now gone same below
+    (c.step-came.ensures.stepped gone.part (gone_work now gone same)) c.step-came.ensures.thread in
+    (b.part, behind_pauses (omega (arith, below, most)) b)
 
 pub returns-then-ends_at-clause-worked : goal.returns-then-ends_at-clause-worked
 returns-then-ends_at-clause-worked g c =
     let now = c.loop-step.invariant in
     let below = c.loop-step-test.true in
     let most = c.requires.budget in
-    let gone = c.go_on.ensures.gone now.part (pauses (omega (arith, below, most)) now) in
-    let b = stepped_on now gone c.go_on.ensures.same below
-    (c.step-came.ensures.stepped gone.part (gone_work now gone c.go_on.ensures.same)) c.step-came.ensures.thread in
+    let told = c.tell.ensures.told now.part (pauses (omega (arith, below, most)) now) in
+    let gone = gone_on told (c.go_on.ensures.gone told.part told.goes) in
+    let same = same_both c.tell.ensures.same c.go_on.ensures.same in
+    let b = stepped_on now gone same below
+    (c.step-came.ensures.stepped gone.part (gone_work now gone same)) c.step-came.ensures.thread in
     let done : ends_at (outcome_of c.go_on.new.self.log.actor c.step-came.result) ≡ true =
     sym (c.ends_at.ensures c.go_on.new.self.log.actor.gathered.team) ∙ c.if-ends_at.true in
-    let count = b.count in
-    let left = c.leave.ensures.left b.part
-    record { with_it = with_work b.work (omega (arith, count, below, most)); before = b.before } in (
+    let left = c.leave.ensures.left b.part (behind_pauses (omega (arith, below, most)) b) in (
       says (farewell (length b.part.known.found)) b.part,
       left_work (farewell (length b.part.known.found)) b.work c.leave.ensures.same left,
       says_worked (farewell (length b.part.known.found)) (behind_done below done b),
@@ -108,9 +135,11 @@ loop-step-preserved g c =
     let now = c.loop-step.invariant in
     let below = c.loop-step-test.true in
     let most = c.requires.budget in
-    let gone = c.go_on.ensures.gone now.part (pauses (omega (arith, below, most)) now) in
-    let b = stepped_on now gone c.go_on.ensures.same below
-    (c.step-came.ensures.stepped gone.part (gone_work now gone c.go_on.ensures.same)) c.step-came.ensures.thread in
+    let told = c.tell.ensures.told now.part (pauses (omega (arith, below, most)) now) in
+    let gone = gone_on told (c.go_on.ensures.gone told.part told.goes) in
+    let same = same_both c.tell.ensures.same c.go_on.ensures.same in
+    let b = stepped_on now gone same below
+    (c.step-came.ensures.stepped gone.part (gone_work now gone same)) c.step-came.ensures.thread in
     let not_done : ends_at (outcome_of c.go_on.new.self.log.actor c.step-came.result) ≡ false =
     sym (c.ends_at.ensures c.go_on.new.self.log.actor.gathered.team) ∙ c.if-ends_at.false in
     behind_goes not_done b

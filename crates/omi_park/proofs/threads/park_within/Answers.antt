@@ -17,7 +17,7 @@ use Rattle.omi_park.specs.Plays.{first_inspector, first_parts}
 use Rattle.omi_park.specs.Running.{Keeps}
 use Rattle.omi_park.proofs.Ending.{is_parked}
 use Rattle.omi_park.proofs.Seats.{opening_keeps}
-use Rattle.omi_park.proofs.threads.park.Goals as goal
+use Rattle.omi_park.proofs.threads.park_within.Goals as goal
 
 pub of_words-requires : goal.of_words-requires
 of_words-requires g c =
