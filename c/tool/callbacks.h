@@ -1,0 +1,67 @@
+/* The callbacks of OMPT, by what they tell of. */
+#ifndef CALLBACKS_H
+#define CALLBACKS_H
+
+#include <omp-tools.h>
+
+#include "records.h"
+
+/* OMPT's word of a task or region. Of an implicit task it is left 0. */
+enum holds {
+  A_RECORD, /* its address, or 0 */
+  A_TICKET, /* all that the record needs, of a task that has not started */
+  A_STATE, /* that of the thread below a task, or nothing: no record was free */
+  NOTHING /* of a task that waits to be started or resumed without a record, or has ended */
+};
+
+union data_word {
+  uint64_t value;
+  struct {
+    uint64_t holds : 2, is_final : 1, group : 3, function : 16, maker : 18;
+  } ticket;
+  struct {
+    uint64_t holds : 2, state : 16;
+  } passed;
+};
+
+/* threads.c */
+void on_thread_begin(ompt_thread_t type, ompt_data_t *data);
+void on_thread_end(ompt_data_t *data);
+
+/* Gives the calling thread a record, where there is one, and shows it. */
+void begin_thread(void);
+
+/* regions.c */
+void on_parallel_begin(ompt_data_t *task_data, const ompt_frame_t *frame, ompt_data_t *region_data,
+                       unsigned requested, int flags, const void *code);
+void on_parallel_end(ompt_data_t *region_data, ompt_data_t *task_data, int flags, const void *code);
+void on_implicit_task(ompt_scope_endpoint_t endpoint, ompt_data_t *region_data, ompt_data_t *task_data,
+                      unsigned size, unsigned number, int flags);
+
+/* Begins the initial task of a thread, in a region of its own. */
+void begin_initial_task(struct thread *me);
+
+/* tasks.c */
+void on_task_create(ompt_data_t *maker_data, const ompt_frame_t *frame, ompt_data_t *data, int flags,
+                    int has_dependences, const void *code);
+void on_task_schedule(ompt_data_t *prior_data, ompt_task_status_t status, ompt_data_t *next_data);
+
+/* waits.c */
+void on_sync_region(ompt_sync_region_t kind, ompt_scope_endpoint_t endpoint, ompt_data_t *region_data,
+                    ompt_data_t *task_data, const void *code);
+void on_sync_region_wait(ompt_sync_region_t kind, ompt_scope_endpoint_t endpoint, ompt_data_t *region_data,
+                         ompt_data_t *task_data, const void *code);
+void on_mutex_acquire(ompt_mutex_t kind, unsigned hint, unsigned implementation, ompt_wait_id_t wait_id,
+                      const void *code);
+void on_mutex_acquired(ompt_mutex_t kind, ompt_wait_id_t wait_id, const void *code);
+void on_nest_lock(ompt_scope_endpoint_t endpoint, ompt_wait_id_t wait_id, const void *code);
+
+/* The current task waits, and goes on. */
+void begin_wait(struct thread *me, uint64_t state);
+void end_wait(struct thread *me);
+
+/* The thread's state: the one that is named, and the one in which its current task's own code runs. */
+void enter_state(struct thread *me, uint64_t state, uint64_t wait_id);
+void enter_work(struct thread *me);
+
+#endif

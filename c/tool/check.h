@@ -1,0 +1,12 @@
+/* The stores of the check build, each made alone and judged. */
+#ifndef CHECK_H
+#define CHECK_H
+
+#include <stdbool.h>
+
+#include "word.h"
+
+void checked_store(word_t *at, uint64_t value);
+bool checked_swap(word_t *at, uint64_t expected, uint64_t value);
+
+#endif

@@ -1,0 +1,103 @@
+/* Records: which are free, what the tool keeps of each beside its words, and how long an explicit task's lives.
+ *
+ * Only the thread that a record belongs to takes it, any thread gives it back, and between the two one thread
+ * at a time stores in it. A region lives from its fork to the end of it, and so do its implicit tasks. An
+ * explicit task takes a record as it starts, and keeps it while it has not ended and while a task that it made
+ * has not: for each of these it has a reference. So each address that a debugger can reach is that of a live
+ * record. */
+#ifndef RECORDS_H
+#define RECORDS_H
+
+#include "arenas.h"
+
+struct task_notes {
+  _Atomic unsigned references; /* of an explicit task */
+  unsigned next_free;
+  unsigned passed; /* tasks without a record that stand on this one */
+  unsigned deeper_groups; /* open ones behind the fourth */
+  bool under_way; /* it runs, or others run on it: it neither waits to be resumed nor has it ended */
+  bool detached; /* its code has ended, and its event was not fulfilled */
+  uint64_t state_below; /* that of its thread, where it was started or resumed */
+  uint64_t state_of_work; /* that of its thread while the task's own code runs */
+};
+
+struct region_notes {
+  unsigned next_free;
+  unsigned made; /* members' tasks */
+  unsigned passed; /* regions without a record that the thread forked behind this one */
+  bool is_initial; /* of an initial thread: nobody forked it */
+  bool is_league; /* of a teams construct: its members are initial tasks */
+  word_t *before; /* the region that the thread forked before, and which has not ended */
+};
+
+/* The free records of one kind that belong to a thread. */
+struct pool {
+  unsigned own; /* the first of those that it gave back itself */
+  unsigned unused; /* those from here on were never taken */
+  _Atomic unsigned returned; /* the first of those that others gave back */
+};
+
+/* What the tool keeps of a thread's record. One thread at a time has it. */
+struct thread {
+  _Alignas(64) word_t *record;
+  unsigned index;
+  struct pool tasks, regions;
+  word_t *forked; /* the last region that it forked and which has not ended */
+  unsigned passed_regions, passed_tasks; /* those in front of the first that has a record */
+  _Atomic bool taken;
+};
+
+/* The calling thread's, or NULL where it has no record. */
+extern _Thread_local struct thread *self __attribute__((tls_model("initial-exec")));
+
+/* The calling thread's, or NULL where nothing of it is shown. */
+static inline struct thread *shown_thread(void)
+{
+  return is_published() ? self : NULL;
+}
+
+/* Gives the calling thread a record. Whether there was one. */
+bool take_thread(void);
+void give_back_thread(void);
+
+static inline word_t *current_task(const struct thread *me)
+{
+  return record_at(load(me->record + TH_CUR));
+}
+
+struct task_notes *notes_of_task(const word_t *task);
+struct region_notes *notes_of_region(const word_t *region);
+
+/* A task by the place of its record among all of them. */
+unsigned place_of_task(const word_t *task);
+word_t *task_at(unsigned place);
+
+/* How many tasks without a record stand on this thread's current task, and how many regions without one it has
+ * forked behind its last region. A task or region without a record is passed over: it is not shown, and the
+ * last one that has a record stands for it. As begin and end are nested in a thread, to count them is enough. */
+unsigned *tasks_passed(struct thread *me);
+unsigned *regions_passed(struct thread *me);
+
+/* A live record, or NULL where there is no free one: then that is counted, and said once. */
+word_t *take_task(struct thread *me);
+word_t *take_region(struct thread *me);
+
+/* `me` is NULL for a thread without a record. */
+void give_back_task(struct thread *me, word_t *task);
+void give_back_region(struct thread *me, word_t *region);
+
+/* Takes and drops a reference to an explicit task; implicit ones need none. */
+void hold_task(word_t *task);
+void release_task(struct thread *me, word_t *task);
+
+/* One more that is not shown: says so once, and what to do about it. */
+enum kind { THREADS, REGIONS, TASKS, KINDS };
+void count_unshown(enum kind kind);
+
+/* Says how many were not shown, and how many records are live. */
+void say_counts(void);
+
+/* Forgets all records, in a process that was just forked. */
+void forget_records(void);
+
+#endif

@@ -1,0 +1,138 @@
+/* States of threads: what they wait for, and open task groups. */
+#include "callbacks.h"
+#include "codes.h"
+#include "inquiries.h"
+
+void enter_state(struct thread *me, uint64_t state, uint64_t wait_id)
+{
+  store(me->record + TH_STATE, state_code(state, wait_id));
+}
+
+void enter_work(struct thread *me)
+{
+  word_t *task = current_task(me);
+  uint64_t alone = me->passed_tasks ? ompt_state_work_parallel : ompt_state_idle;
+  enter_state(me, task ? notes_of_task(task)->state_of_work : alone, 0);
+}
+
+void begin_wait(struct thread *me, uint64_t state)
+{
+  word_t *task = current_task(me);
+  if (task && !*tasks_passed(me)) {
+    store_variables(task);
+    ask_frames(task);
+  }
+  enter_state(me, state, 0);
+}
+
+void end_wait(struct thread *me)
+{
+  word_t *task = current_task(me);
+  if (task && !*tasks_passed(me))
+    leave_runtime(task);
+  enter_work(me);
+}
+
+static uint64_t state_of_wait(ompt_sync_region_t kind)
+{
+  switch (kind) {
+  case ompt_sync_region_barrier_explicit:
+    return ompt_state_wait_barrier_explicit;
+  case ompt_sync_region_barrier_implicit:
+    return ompt_state_wait_barrier_implicit;
+  case ompt_sync_region_barrier_implicit_workshare:
+    return ompt_state_wait_barrier_implicit_workshare;
+  case ompt_sync_region_barrier_implicit_parallel:
+    return ompt_state_wait_barrier_implicit_parallel;
+  case ompt_sync_region_barrier_implementation:
+    return ompt_state_wait_barrier_implementation;
+  case ompt_sync_region_barrier_teams:
+    return ompt_state_wait_barrier_teams;
+  case ompt_sync_region_taskwait:
+    return ompt_state_wait_taskwait;
+  case ompt_sync_region_taskgroup:
+    return ompt_state_wait_taskgroup;
+  default:
+    return ompt_state_wait_barrier;
+  }
+}
+
+/* The barrier behind which a region is over: a worker may leave it when the region is another one's record. */
+static bool ends_region(ompt_sync_region_t kind)
+{
+  return kind == ompt_sync_region_barrier_implicit_parallel || kind == ompt_sync_region_barrier_teams;
+}
+
+void on_sync_region_wait(ompt_sync_region_t kind, ompt_scope_endpoint_t endpoint, ompt_data_t *region_data,
+                         ompt_data_t *task_data, const void *code)
+{
+  (void)region_data, (void)task_data, (void)code;
+  struct thread *me = shown_thread();
+  if (!me || kind == ompt_sync_region_reduction)
+    return;
+  if (endpoint == ompt_scope_begin)
+    begin_wait(me, state_of_wait(kind));
+  else if (ends_region(kind))
+    enter_state(me, ompt_state_overhead, 0);
+  else
+    end_wait(me);
+}
+
+/* Of a task's open groups the words have room for four. Further ones are only counted. */
+void on_sync_region(ompt_sync_region_t kind, ompt_scope_endpoint_t endpoint, ompt_data_t *region_data,
+                    ompt_data_t *task_data, const void *code)
+{
+  (void)region_data, (void)task_data, (void)code;
+  struct thread *me = kind == ompt_sync_region_taskgroup ? shown_thread() : NULL;
+  word_t *task = me ? current_task(me) : NULL;
+  if (!task || *tasks_passed(me))
+    return;
+  struct task_notes *notes = notes_of_task(task);
+  uint64_t open = load(task + TK_OPEN);
+  if (endpoint == ompt_scope_begin) {
+    if (open < MOST_GROUPS)
+      store(task + TK_OPEN, open + 1);
+    else
+      notes->deeper_groups++;
+  } else if (notes->deeper_groups)
+    notes->deeper_groups--;
+  else if (open)
+    store(task + TK_OPEN, open - 1);
+}
+
+static bool waits(ompt_mutex_t kind)
+{
+  return kind != ompt_mutex_test_lock && kind != ompt_mutex_test_nest_lock;
+}
+
+void on_mutex_acquire(ompt_mutex_t kind, unsigned hint, unsigned implementation, ompt_wait_id_t wait_id,
+                      const void *code)
+{
+  (void)hint, (void)implementation, (void)code;
+  struct thread *me = shown_thread();
+  if (!me || !waits(kind))
+    return;
+  enter_state(me,
+              kind == ompt_mutex_critical  ? ompt_state_wait_critical
+              : kind == ompt_mutex_atomic  ? ompt_state_wait_atomic
+              : kind == ompt_mutex_ordered ? ompt_state_wait_ordered
+                                           : ompt_state_wait_lock,
+              wait_id);
+}
+
+void on_mutex_acquired(ompt_mutex_t kind, ompt_wait_id_t wait_id, const void *code)
+{
+  (void)wait_id, (void)code;
+  struct thread *me = shown_thread();
+  if (me && waits(kind))
+    enter_work(me);
+}
+
+/* The thread has the lock already, and sets it once more. */
+void on_nest_lock(ompt_scope_endpoint_t endpoint, ompt_wait_id_t wait_id, const void *code)
+{
+  (void)wait_id, (void)code;
+  struct thread *me = shown_thread();
+  if (me && endpoint == ompt_scope_begin)
+    enter_work(me);
+}
