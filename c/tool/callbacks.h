@@ -4,6 +4,8 @@
 
 #include <omp-tools.h>
 
+#include "codes.h"
+#include "inquiries.h"
 #include "records.h"
 
 /* OMPT's word of a task or region. Of an implicit task it is left 0. */
@@ -18,6 +20,7 @@ union data_word {
   uint64_t value;
   struct {
     uint64_t holds : 2, is_final : 1, group : 3, function : 16, maker : 18;
+    uint64_t asks : 1, changes : CHANGE_BITS; /* see `inherit_variables` */
   } ticket;
   struct {
     uint64_t holds : 2, state : 16;
@@ -60,8 +63,12 @@ void on_nest_lock(ompt_scope_endpoint_t endpoint, ompt_wait_id_t wait_id, const 
 void begin_wait(struct thread *me, uint64_t state);
 void end_wait(struct thread *me);
 
-/* The thread's state: the one that is named, and the one in which its current task's own code runs. */
-void enter_state(struct thread *me, uint64_t state, uint64_t wait_id);
+static inline void enter_state(struct thread *me, uint64_t state, uint64_t wait_id)
+{
+  store(me->record + TH_STATE, state_code(state, wait_id));
+}
+
+/* The state in which the current task's own code runs. */
 void enter_work(struct thread *me);
 
 #endif

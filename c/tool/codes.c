@@ -61,11 +61,6 @@ uint64_t numbered_function(unsigned number)
   return number ? atomic_load_explicit(&numbered[number], memory_order_relaxed) : 0;
 }
 
-uint64_t state_code(uint64_t state, uint64_t wait_id)
-{
-  return state | wait_id << STATE_BITS;
-}
-
 #else
 
 enum { FIRST_NATIVE = 1000, FIRST_FUNCTION = 0x400000, FUNCTION_BYTES = 16, FUNCTIONS = 64, WAIT_IDS = 8 };

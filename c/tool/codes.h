@@ -17,8 +17,15 @@ uint64_t native_of_unused(unsigned index);
 uint64_t function_code(const void *code);
 
 /* A thread's state and what it waits for. */
-uint64_t state_code(uint64_t state, uint64_t wait_id);
 enum { STATE_BITS = 16 };
+#ifdef OMI_CHECK
+uint64_t state_code(uint64_t state, uint64_t wait_id);
+#else
+static inline uint64_t state_code(uint64_t state, uint64_t wait_id)
+{
+  return state | wait_id << STATE_BITS;
+}
+#endif
 
 /* A number of 16 bits for a return address, and the code of that function: of 0 it is 0, which stands for a
  * function beyond the first 60,000 or so. */

@@ -6,6 +6,7 @@
 #include <stdlib.h>
 
 #include "codes.h"
+#include "setters.h"
 
 enum { STATIC_SCHEDULE = 1, KIND_BITS = 3, MOST_CHUNK = 65535, MOST_DEVICE = 255 };
 
@@ -21,6 +22,9 @@ static uint64_t sizes[MOST_SIZES];
 static unsigned size_count;
 
 static _Atomic bool allowed;
+
+/* Whether all calls that set variables are seen. */
+static bool all_seen;
 
 static void read_sizes(void)
 {
@@ -56,6 +60,7 @@ void find_inquiries(ompt_function_lookup_t lookup)
   FIND(device, "omp_get_default_device");
   FIND(active_levels, "omp_get_max_active_levels");
   FIND(schedule, "omp_get_schedule");
+  all_seen = sets_are_seen();
   read_sizes();
 }
 
@@ -115,6 +120,12 @@ void store_variables(word_t *task)
     store_sizes(task, (uint64_t)runtime.max_threads());
 }
 
+void renew_variables(word_t *task)
+{
+  if (!all_seen)
+    store_variables(task);
+}
+
 void store_initial_variables(word_t *task)
 {
   store(task + TK_DYN, 0);
@@ -123,15 +134,29 @@ void store_initial_variables(word_t *task)
   store_sizes(task, size_count ? sizes[0] : load(arenas.runtime + RT_PROCS));
 }
 
-void copy_variables(word_t *task, word_t *from)
+void copy_variables(word_t *task, word_t *maker)
 {
   for (unsigned field = TK_DYN; field < TK_NTH + MOST_SIZES; field++)
-    store(task + field, load(from + field));
+    store(task + field, load(maker + field));
 }
 
-void store_first_size(word_t *task, uint64_t threads)
+void inherit_variables(word_t *task, word_t *maker, bool asks, unsigned changes)
 {
-  store(task + TK_NTH, in_range(threads, 1, MOST_THREADS));
+  _Atomic unsigned *now = &notes_of_task(maker)->changes;
+  copy_variables(task, maker);
+  bool same = all_seen && !asks && atomic_load(now) % (1 << CHANGE_BITS) == changes;
+  if (!same)
+    store_variables(task);
+}
+
+/* The count rises before the first word is stored: so who has read a new word finds that it has risen. */
+void change_variables(word_t *task, int threads)
+{
+  atomic_fetch_add(&notes_of_task(task)->changes, 1);
+  if (threads > 0 && !may_ask())
+    store(task + TK_NTH, in_range((uint64_t)threads, 1, MOST_THREADS));
+  store_variables(task);
+  store_active_levels();
 }
 
 void store_active_levels(void)

@@ -22,14 +22,25 @@ void allow_inquiries(void);
 /* Nor in a process that was just forked, until its first fork of a team. */
 void forbid_inquiries(void);
 
-/* Control variables of a task: those of the one that runs, those that an initial task starts with, and those of
- * another task. */
+/* Stores the control variables of the task that runs, as the runtime tells them; the second only where the
+ * calls that set them are not all seen. */
 void store_variables(word_t *task);
-void store_initial_variables(word_t *task);
-void copy_variables(word_t *task, word_t *from);
+void renew_variables(word_t *task);
 
-/* What a call of omp_set_num_threads sets, where the runtime may not be asked yet. */
-void store_first_size(word_t *task, uint64_t threads);
+/* Those with which an initial task starts. */
+void store_initial_variables(word_t *task);
+
+/* Those of the task that made this one, for a member of its team. */
+void copy_variables(word_t *task, word_t *maker);
+
+/* Those of a task that starts: its maker had them when it made the task. Where the calls that set variables are
+ * seen and there was none since, the maker still has them. Else, or where `asks`, the runtime is asked. */
+enum { CHANGE_BITS = 23 };
+void inherit_variables(word_t *task, word_t *maker, bool asks, unsigned changes);
+
+/* A call of the program has set a variable of the task that runs. Before the runtime may be asked, `threads` is
+ * what omp_set_num_threads set, or 0. */
+void change_variables(word_t *task, int threads);
 
 /* max-active-levels-var is one of the address space in the words, and one of each task in libomp. */
 void store_active_levels(void);

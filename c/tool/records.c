@@ -6,14 +6,15 @@
 #include "codes.h"
 #include "say.h"
 
-enum { MOST_TASKS = CORE_WORDS / TASK_WORDS, NONE = 0 };
+/* A link is the place in the thread's own part of the arena plus 1. */
+enum { NONE = 0 };
 
 /* A life word is odd while its record is live, and below this. */
 #define LIFE_END (UINT64_C(1) << 33)
 
 static struct thread threads[MOST_THREADS];
-static struct task_notes task_notes[MOST_TASKS];
-static struct region_notes region_notes[MOST_THREADS * REGIONS_EACH];
+struct task_notes task_notes[MOST_TASKS];
+struct region_notes region_notes[MOST_THREADS * REGIONS_EACH];
 static _Atomic unsigned long unshown[KINDS];
 
 _Thread_local struct thread *self;
@@ -41,42 +42,6 @@ void give_back_thread(void)
   self = NULL;
 }
 
-unsigned place_of_task(const word_t *task)
-{
-  return (unsigned)((size_t)(task - arenas.tasks) / TASK_WORDS);
-}
-
-word_t *task_at(unsigned place)
-{
-  return arenas.tasks + (size_t)place * TASK_WORDS;
-}
-
-static unsigned place_of_region(const word_t *region)
-{
-  return (unsigned)((size_t)(region - arenas.regions) / REGION_WORDS);
-}
-
-struct task_notes *notes_of_task(const word_t *task)
-{
-  return &task_notes[place_of_task(task)];
-}
-
-struct region_notes *notes_of_region(const word_t *region)
-{
-  return &region_notes[place_of_region(region)];
-}
-
-unsigned *tasks_passed(struct thread *me)
-{
-  word_t *task = current_task(me);
-  return task ? &notes_of_task(task)->passed : &me->passed_tasks;
-}
-
-unsigned *regions_passed(struct thread *me)
-{
-  return me->forked ? &notes_of_region(me->forked)->passed : &me->passed_regions;
-}
-
 /* A record becomes live by the store of its life word, before any other of its words is stored. */
 static word_t *raise(word_t *record)
 {
@@ -92,7 +57,6 @@ static bool lower(word_t *record)
   return life + 1 < LIFE_END;
 }
 
-/* Links are places in the pool's own part of an arena plus 1, and NONE is 0. */
 word_t *take_task(struct thread *me)
 {
   struct pool *pool = &me->tasks;
@@ -155,12 +119,6 @@ void give_back_region(struct thread *me, word_t *region)
     return;
   notes->next_free = me->regions.own;
   me->regions.own = place_of_region(region) - me->index * REGIONS_EACH + 1;
-}
-
-void hold_task(word_t *task)
-{
-  if (!load(task + TK_IMPLICIT))
-    atomic_fetch_add_explicit(&notes_of_task(task)->references, 1, memory_order_relaxed);
 }
 
 /* A task that is given back drops its reference to the one that made it. */

@@ -15,6 +15,7 @@ struct task_notes {
   unsigned next_free;
   unsigned passed; /* tasks without a record that stand on this one */
   unsigned deeper_groups; /* open ones behind the fourth */
+  _Atomic unsigned changes; /* calls that set a control variable of it, seen by setters.c */
   bool under_way; /* it runs, or others run on it: it neither waits to be resumed nor has it ended */
   bool detached; /* its code has ended, and its event was not fulfilled */
   uint64_t state_below; /* that of its thread, where it was started or resumed */
@@ -65,18 +66,57 @@ static inline word_t *current_task(const struct thread *me)
   return record_at(load(me->record + TH_CUR));
 }
 
-struct task_notes *notes_of_task(const word_t *task);
-struct region_notes *notes_of_region(const word_t *region);
+enum { MOST_TASKS = CORE_WORDS / TASK_WORDS };
+extern struct task_notes task_notes[MOST_TASKS];
+extern struct region_notes region_notes[MOST_THREADS * REGIONS_EACH];
 
 /* A task by the place of its record among all of them. */
-unsigned place_of_task(const word_t *task);
-word_t *task_at(unsigned place);
+static inline unsigned place_of_task(const word_t *task)
+{
+  return (unsigned)((size_t)(task - arenas.tasks) / TASK_WORDS);
+}
+
+static inline word_t *task_at(unsigned place)
+{
+  return arenas.tasks + (size_t)place * TASK_WORDS;
+}
+
+static inline struct task_notes *notes_of_task(const word_t *task)
+{
+  return &task_notes[place_of_task(task)];
+}
+
+static inline unsigned place_of_region(const word_t *region)
+{
+  return (unsigned)((size_t)(region - arenas.regions) / REGION_WORDS);
+}
+
+static inline struct region_notes *notes_of_region(const word_t *region)
+{
+  return &region_notes[place_of_region(region)];
+}
 
 /* How many tasks without a record stand on this thread's current task, and how many regions without one it has
  * forked behind its last region. A task or region without a record is passed over: it is not shown, and the
  * last one that has a record stands for it. As begin and end are nested in a thread, to count them is enough. */
-unsigned *tasks_passed(struct thread *me);
-unsigned *regions_passed(struct thread *me);
+static inline unsigned *tasks_passed(struct thread *me)
+{
+  word_t *task = current_task(me);
+  return task ? &notes_of_task(task)->passed : &me->passed_tasks;
+}
+
+static inline unsigned *regions_passed(struct thread *me)
+{
+  return me->forked ? &notes_of_region(me->forked)->passed : &me->passed_regions;
+}
+
+/* The current task where it is the one that runs, and else NULL: there is none, or one without a record stands
+ * on it. */
+static inline word_t *running_task(const struct thread *me)
+{
+  word_t *task = current_task(me);
+  return task && !notes_of_task(task)->passed ? task : NULL;
+}
 
 /* A live record, or NULL where there is no free one: then that is counted, and said once. */
 word_t *take_task(struct thread *me);
@@ -87,7 +127,11 @@ void give_back_task(struct thread *me, word_t *task);
 void give_back_region(struct thread *me, word_t *region);
 
 /* Takes and drops a reference to an explicit task; implicit ones need none. */
-void hold_task(word_t *task);
+static inline void hold_task(word_t *task)
+{
+  if (!load(task + TK_IMPLICIT))
+    atomic_fetch_add_explicit(&notes_of_task(task)->references, 1, memory_order_relaxed);
+}
 void release_task(struct thread *me, word_t *task);
 
 /* One more that is not shown: says so once, and what to do about it. */

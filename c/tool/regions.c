@@ -2,9 +2,7 @@
 #include <sys/auxv.h>
 
 #include "callbacks.h"
-#include "codes.h"
 #include "debugger.h"
-#include "inquiries.h"
 
 /* Fills a member's task. None can be reached before a member's `cur` is stored. */
 static bool make_member(struct thread *me, word_t *region, unsigned member, word_t *maker)
@@ -81,7 +79,7 @@ void on_parallel_begin(ompt_data_t *task_data, const ompt_frame_t *frame, ompt_d
   allow_inquiries();
   store_active_levels();
   word_t *maker = current_task(me);
-  if (maker && !*tasks_passed(me)) {
+  if (running_task(me)) {
     store_variables(maker);
     if (frame)
       store_frames(maker, frame);
@@ -129,9 +127,9 @@ void on_parallel_end(ompt_data_t *region_data, ompt_data_t *task_data, int flags
     me->forked = notes_of_region(region)->before;
     give_back_region(me, region);
   }
-  word_t *task = current_task(me);
-  if (task && !*tasks_passed(me)) {
-    store_variables(task);
+  word_t *task = running_task(me);
+  if (task) {
+    renew_variables(task);
     leave_runtime(task);
   }
   enter_work(me);

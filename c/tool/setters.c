@@ -5,6 +5,7 @@
 
 #include "debugger.h"
 #include "inquiries.h"
+#include "setters.h"
 
 /* The call of this name that the caller would have come to without this library. */
 static void *next_call(const char *name, const void *caller)
@@ -25,13 +26,9 @@ static void *next_call(const char *name, const void *caller)
 static void show_variables(int threads)
 {
   struct thread *me = shown_thread();
-  word_t *task = me ? current_task(me) : NULL;
-  if (!task || *tasks_passed(me))
-    return;
-  if (threads > 0)
-    store_first_size(task, (uint64_t)threads);
-  store_variables(task);
-  store_active_levels();
+  word_t *task = me ? running_task(me) : NULL;
+  if (task)
+    change_variables(task, threads);
 }
 
 /* A call of C, and that of Fortran, whose arguments are addresses. */
@@ -50,6 +47,8 @@ static void show_variables(int threads)
   SETTER(name##_, (int *value), (value), 0)
 
 SETTER(omp_set_num_threads, (int threads), (threads), threads)
+extern void own_set_num_threads(int threads)
+  __attribute__((alias("omp_set_num_threads"), visibility("hidden")));
 SETTER(omp_set_num_threads_, (int *threads), (threads), *threads)
 SETTERS(omp_set_dynamic)
 SETTERS(omp_set_nested)
@@ -57,3 +56,8 @@ SETTERS(omp_set_max_active_levels)
 SETTERS(omp_set_default_device)
 SETTER(omp_set_schedule, (int kind, int chunk), (kind, chunk), 0)
 SETTER(omp_set_schedule_, (int *kind, int *chunk), (kind, chunk), 0)
+
+bool sets_are_seen(void)
+{
+  return dlsym(RTLD_DEFAULT, "omp_set_num_threads") == (void *)own_set_num_threads;
+}

@@ -1,8 +1,6 @@
 /* Explicit tasks: made, started, suspended, resumed and ended. */
 #include "callbacks.h"
-#include "codes.h"
 #include "debugger.h"
-#include "inquiries.h"
 
 static union data_word word_of(const ompt_data_t *data)
 {
@@ -49,7 +47,8 @@ void on_task_create(ompt_data_t *maker_data, const ompt_frame_t *frame, ompt_dat
     hold_nothing(data);
     return;
   }
-  if (frame && !*tasks_passed(me)) {
+  bool asks = maker != running_task(me);
+  if (frame && !asks) {
     store(maker + TK_EXIT, (uint64_t)(uintptr_t)frame->exit_frame.ptr);
     if (flags & ompt_task_undeferred)
       store(maker + TK_ENTER, (uint64_t)(uintptr_t)frame->enter_frame.ptr);
@@ -57,7 +56,8 @@ void on_task_create(ompt_data_t *maker_data, const ompt_frame_t *frame, ompt_dat
   hold_task(maker);
   data->value = (union data_word){.ticket = {
     .holds = A_TICKET, .is_final = (flags & ompt_task_final) != 0, .group = innermost_group(maker),
-    .function = function_number(code), .maker = place_of_task(maker)}}.value;
+    .function = function_number(code), .maker = place_of_task(maker), .asks = asks,
+    .changes = notes_of_task(maker)->changes}}.value;
 }
 
 /* Puts a task on the thread's current one. */
@@ -100,8 +100,7 @@ static void fill_task(word_t *task, word_t *maker, union data_word word)
   store(task + TK_ENTER, 0);
   store(task + TK_GROUP, group ? address_of(maker) + group - 1 : load(maker + TK_GROUP));
   store(task + TK_OPEN, 0);
-  copy_variables(task, maker);
-  store_variables(task);
+  inherit_variables(task, maker, word.ticket.asks, word.ticket.changes);
   ask_frames(task);
 }
 

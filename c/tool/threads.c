@@ -1,6 +1,5 @@
 /* Threads that begin and end. */
 #include "callbacks.h"
-#include "codes.h"
 #include "debugger.h"
 
 void begin_thread(void)

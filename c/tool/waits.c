@@ -1,12 +1,5 @@
 /* States of threads: what they wait for, and open task groups. */
 #include "callbacks.h"
-#include "codes.h"
-#include "inquiries.h"
-
-void enter_state(struct thread *me, uint64_t state, uint64_t wait_id)
-{
-  store(me->record + TH_STATE, state_code(state, wait_id));
-}
 
 void enter_work(struct thread *me)
 {
@@ -17,9 +10,9 @@ void enter_work(struct thread *me)
 
 void begin_wait(struct thread *me, uint64_t state)
 {
-  word_t *task = current_task(me);
-  if (task && !*tasks_passed(me)) {
-    store_variables(task);
+  word_t *task = running_task(me);
+  if (task) {
+    renew_variables(task);
     ask_frames(task);
   }
   enter_state(me, state, 0);
@@ -27,8 +20,8 @@ void begin_wait(struct thread *me, uint64_t state)
 
 void end_wait(struct thread *me)
 {
-  word_t *task = current_task(me);
-  if (task && !*tasks_passed(me))
+  word_t *task = running_task(me);
+  if (task)
     leave_runtime(task);
   enter_work(me);
 }
@@ -84,8 +77,8 @@ void on_sync_region(ompt_sync_region_t kind, ompt_scope_endpoint_t endpoint, omp
 {
   (void)region_data, (void)task_data, (void)code;
   struct thread *me = kind == ompt_sync_region_taskgroup ? shown_thread() : NULL;
-  word_t *task = me ? current_task(me) : NULL;
-  if (!task || *tasks_passed(me))
+  word_t *task = me ? running_task(me) : NULL;
+  if (!task)
     return;
   struct task_notes *notes = notes_of_task(task);
   uint64_t open = load(task + TK_OPEN);
