@@ -128,10 +128,8 @@ void on_parallel_end(ompt_data_t *region_data, ompt_data_t *task_data, int flags
     give_back_region(me, region);
   }
   word_t *task = running_task(me);
-  if (task) {
-    renew_variables(task);
-    leave_runtime(task);
-  }
+  if (task)
+    leave_runtime(task); /* its variables aren't asked for: libomp still has those of a region of one thread */
   enter_work(me);
 }
 
@@ -174,6 +172,8 @@ static void begin_member(struct thread *me, word_t *region, unsigned size, unsig
 
 void begin_initial_task(struct thread *me)
 {
+  if (current_task(me))
+    return; /* fork.c has begun it */
   const void *entry = (const void *)getauxval(AT_ENTRY);
   word_t *region = make_region(me, NULL, 1, false, function_code(entry));
   if (region)

@@ -15,10 +15,11 @@ void begin_thread(void)
   ompd_bp_thread_begin();
 }
 
+/* A thread that has a record is that of a process which was forked: fork.c has begun it. */
 void on_thread_begin(ompt_thread_t type, ompt_data_t *data)
 {
   (void)type, (void)data;
-  if (is_published())
+  if (is_published() && !self)
     begin_thread();
 }
 
