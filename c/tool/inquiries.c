@@ -21,6 +21,8 @@ static struct {
 static uint64_t sizes[MOST_SIZES];
 static unsigned size_count;
 
+bool frames_wanted;
+
 static _Atomic bool allowed;
 
 /* Whether all calls that set variables are seen. */
@@ -61,6 +63,7 @@ void find_inquiries(ompt_function_lookup_t lookup)
   FIND(active_levels, "omp_get_max_active_levels");
   FIND(schedule, "omp_get_schedule");
   all_seen = sets_are_seen();
+  frames_wanted = getenv("OMI_FRAMES") != NULL;
   read_sizes();
 }
 
@@ -140,6 +143,15 @@ void copy_variables(word_t *task, word_t *maker)
     store(task + field, load(maker + field));
 }
 
+/* Of each level libomp may have a size of its own, and a league has another one for its teams. */
+void store_member_variables(word_t *task, word_t *region)
+{
+  word_t *outer = record_at(load(region + RG_ENCLOSING));
+  bool in_league = notes_of_region(region)->is_league || (outer && notes_of_region(outer)->is_league);
+  if (!all_seen || size_count > 1 || in_league)
+    store_variables(task);
+}
+
 void inherit_variables(word_t *task, word_t *maker, bool asks, unsigned changes)
 {
   _Atomic unsigned *now = &notes_of_task(maker)->changes;
@@ -168,19 +180,44 @@ void store_active_levels(void)
     store(arenas.runtime + RT_MAXACT, levels);
 }
 
-void store_frames(word_t *task, const ompt_frame_t *frame)
+void learn_frame(word_t *task, const ompt_frame_t *frame)
 {
-  store(task + TK_EXIT, (uint64_t)(uintptr_t)frame->exit_frame.ptr);
-  store(task + TK_ENTER, (uint64_t)(uintptr_t)frame->enter_frame.ptr);
+  notes_of_task(task)->frame = frame;
 }
 
-void ask_frames(word_t *task)
+/* The frames of the task that runs, or NULL where the runtime doesn't tell. */
+static const ompt_frame_t *frame_of(word_t *task)
 {
+  struct task_notes *notes = notes_of_task(task);
   int flags, number;
   ompt_data_t *task_data, *region_data;
   ompt_frame_t *frame = NULL;
-  if (runtime.task_info && runtime.task_info(0, &flags, &task_data, &frame, &region_data, &number) == 2 && frame)
-    store_frames(task, frame);
+  if (!notes->frame && runtime.task_info
+      && runtime.task_info(0, &flags, &task_data, &frame, &region_data, &number) == 2)
+    notes->frame = frame;
+  return notes->frame;
+}
+
+void store_exit_frame(word_t *task)
+{
+  const ompt_frame_t *frame = frame_of(task);
+  if (frame)
+    store(task + TK_EXIT, (uint64_t)(uintptr_t)frame->exit_frame.ptr);
+}
+
+void store_frames(word_t *task)
+{
+  const ompt_frame_t *frame = frame_of(task);
+  if (frame) {
+    store(task + TK_EXIT, (uint64_t)(uintptr_t)frame->exit_frame.ptr);
+    store(task + TK_ENTER, (uint64_t)(uintptr_t)frame->enter_frame.ptr);
+  }
+}
+
+void clear_frames(word_t *task)
+{
+  store(task + TK_EXIT, 0);
+  store(task + TK_ENTER, 0);
 }
 
 void leave_runtime(word_t *task)

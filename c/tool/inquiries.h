@@ -30,8 +30,11 @@ void renew_variables(word_t *task);
 /* Those with which an initial task starts. */
 void store_initial_variables(word_t *task);
 
-/* Those of the task that made this one, for a member of its team. */
+/* Those of the task that made this one. */
 void copy_variables(word_t *task, word_t *maker);
+
+/* Those of a member's task, which has a copy of its maker's. The runtime may have changed them at the fork. */
+void store_member_variables(word_t *task, word_t *region);
 
 /* Those of a task that starts: its maker had them when it made the task. Where the calls that set variables are
  * seen and there was none since, the maker still has them. Else, or where `asks`, the runtime is asked. */
@@ -45,9 +48,19 @@ void change_variables(word_t *task, int threads);
 /* max-active-levels-var is one of the address space in the words, and one of each task in libomp. */
 void store_active_levels(void);
 
-/* Frames of the task that runs; the second asks the runtime for them. */
-void store_frames(word_t *task, const ompt_frame_t *frame);
-void ask_frames(word_t *task);
+/* Whether OMI_FRAMES is set, and the runtime is asked for the exit frame of each task as it starts. Else that is 0
+ * until the task comes into the runtime. */
+extern bool frames_wanted;
+
+/* The runtime has told where it keeps the frames of the task that runs. It doesn't move them while the task runs. */
+void learn_frame(word_t *task, const ompt_frame_t *frame);
+
+/* Stores the frames of the task that runs, or only its exit frame. */
+void store_frames(word_t *task);
+void store_exit_frame(word_t *task);
+
+/* The code of the task that runs has ended. */
+void clear_frames(word_t *task);
 
 /* The task that runs is back in its own code. */
 void leave_runtime(word_t *task);

@@ -8,6 +8,8 @@
 #ifndef RECORDS_H
 #define RECORDS_H
 
+#include <omp-tools.h>
+
 #include "arenas.h"
 
 struct task_notes {
@@ -18,6 +20,7 @@ struct task_notes {
   _Atomic unsigned changes; /* calls that set a control variable of it, seen by setters.c */
   bool under_way; /* it runs, or others run on it: it neither waits to be resumed nor has it ended */
   bool detached; /* its code has ended, and its event was not fulfilled */
+  const ompt_frame_t *frame; /* where the runtime keeps the task's frames, once it has told that */
   uint64_t state_below; /* that of its thread, where it was started or resumed */
   uint64_t state_of_work; /* that of its thread while the task's own code runs */
 };

@@ -81,8 +81,8 @@ void on_parallel_begin(ompt_data_t *task_data, const ompt_frame_t *frame, ompt_d
   word_t *maker = current_task(me);
   if (running_task(me)) {
     store_variables(maker);
-    if (frame)
-      store_frames(maker, frame);
+    learn_frame(maker, frame);
+    store_frames(maker);
   }
   enter_state(me, ompt_state_overhead, 0);
   word_t *region = fork_region(me, maker, requested, flags, code);
@@ -163,7 +163,7 @@ static void begin_member(struct thread *me, word_t *region, unsigned size, unsig
   if (notes_of_region(region)->is_initial)
     store_initial_variables(task);
   else
-    store_variables(task);
+    store_member_variables(task, region);
   store(me->record + TH_CUR, address_of(task));
   enter_work(me);
   if (number == 0)

@@ -48,10 +48,12 @@ void on_task_create(ompt_data_t *maker_data, const ompt_frame_t *frame, ompt_dat
     return;
   }
   bool asks = maker != running_task(me);
-  if (frame && !asks) {
-    store(maker + TK_EXIT, (uint64_t)(uintptr_t)frame->exit_frame.ptr);
+  if (!asks) {
+    learn_frame(maker, frame);
     if (flags & ompt_task_undeferred)
-      store(maker + TK_ENTER, (uint64_t)(uintptr_t)frame->enter_frame.ptr);
+      store_frames(maker);
+    else
+      store_exit_frame(maker);
   }
   hold_task(maker);
   data->value = (union data_word){.ticket = {
@@ -101,7 +103,8 @@ static void fill_task(word_t *task, word_t *maker, union data_word word)
   store(task + TK_GROUP, group ? address_of(maker) + group - 1 : load(maker + TK_GROUP));
   store(task + TK_OPEN, 0);
   inherit_variables(task, maker, word.ticket.asks, word.ticket.changes);
-  ask_frames(task);
+  if (frames_wanted)
+    store_exit_frame(task);
 }
 
 static void start_task(struct thread *me, ompt_data_t *data, union data_word word)
@@ -199,7 +202,7 @@ void on_task_schedule(ompt_data_t *prior_data, ompt_task_status_t status, ompt_d
 {
   if (!is_published())
     return;
-  struct thread *me = shown_thread();
+  struct thread *me = self;
   union data_word prior = word_of(prior_data), next = word_of(next_data);
   if (status == ompt_taskwait_complete) {
     if (me)

@@ -13,7 +13,7 @@ void begin_wait(struct thread *me, uint64_t state)
   word_t *task = running_task(me);
   if (task) {
     renew_variables(task);
-    ask_frames(task);
+    store_frames(task);
   }
   enter_state(me, state, 0);
 }
@@ -50,10 +50,20 @@ static uint64_t state_of_wait(ompt_sync_region_t kind)
   }
 }
 
-/* The barrier behind which a region is over: a worker may leave it when the region is another one's record. */
+/* The barrier behind which a region is over. The code of the member's task has ended before it; a worker may leave it
+ * when its task is gone. */
 static bool ends_region(ompt_sync_region_t kind)
 {
   return kind == ompt_sync_region_barrier_implicit_parallel || kind == ompt_sync_region_barrier_teams;
+}
+
+static void wait_for_the_end(struct thread *me, ompt_sync_region_t kind, ompt_scope_endpoint_t endpoint)
+{
+  bool begins = endpoint == ompt_scope_begin;
+  word_t *task = begins ? running_task(me) : NULL;
+  if (task)
+    clear_frames(task);
+  enter_state(me, begins ? state_of_wait(kind) : ompt_state_overhead, 0);
 }
 
 void on_sync_region_wait(ompt_sync_region_t kind, ompt_scope_endpoint_t endpoint, ompt_data_t *region_data,
@@ -63,10 +73,10 @@ void on_sync_region_wait(ompt_sync_region_t kind, ompt_scope_endpoint_t endpoint
   struct thread *me = shown_thread();
   if (!me || kind == ompt_sync_region_reduction)
     return;
-  if (endpoint == ompt_scope_begin)
+  if (ends_region(kind))
+    wait_for_the_end(me, kind, endpoint);
+  else if (endpoint == ompt_scope_begin)
     begin_wait(me, state_of_wait(kind));
-  else if (ends_region(kind))
-    enter_state(me, ompt_state_overhead, 0);
   else
     end_wait(me);
 }
