@@ -62,7 +62,7 @@ void find_inquiries(ompt_function_lookup_t lookup)
   FIND(device, "omp_get_default_device");
   FIND(active_levels, "omp_get_max_active_levels");
   FIND(schedule, "omp_get_schedule");
-  all_seen = sets_are_seen();
+  all_seen = is_preloaded();
   frames_wanted = getenv("OMI_FRAMES") != NULL;
   read_sizes();
 }

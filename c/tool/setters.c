@@ -57,7 +57,11 @@ SETTERS(omp_set_default_device)
 SETTER(omp_set_schedule, (int kind, int chunk), (kind, chunk), 0)
 SETTER(omp_set_schedule_, (int *kind, int *chunk), (kind, chunk), 0)
 
-bool sets_are_seen(void)
+bool is_preloaded(void)
 {
-  return dlsym(RTLD_DEFAULT, "omp_set_num_threads") == (void *)own_set_num_threads;
+  void *program = dlopen(NULL, RTLD_LAZY);
+  bool first = program && dlsym(program, "omp_set_num_threads") == (void *)own_set_num_threads;
+  if (program)
+    dlclose(program);
+  return first;
 }

@@ -4,7 +4,7 @@
 
 #include <stdbool.h>
 
-/* Whether the program's calls come to this library, for it was loaded before the runtime. */
-bool sets_are_seen(void);
+/* Whether the library was loaded with the program and before the runtime: so the program's calls come to it. */
+bool is_preloaded(void);
 
 #endif

@@ -1,6 +1,6 @@
 /* Where the runtime finds the tool, what the environment sets, and which callbacks there are. */
 #define _GNU_SOURCE
-#include <errno.h>
+#include <dlfcn.h>
 #include <sched.h>
 #include <stdlib.h>
 
@@ -8,6 +8,7 @@
 #include "debugger.h"
 #include "inquiries.h"
 #include "say.h"
+#include "setters.h"
 
 static bool counts_wanted;
 
@@ -79,6 +80,13 @@ static void finish(ompt_data_t *tool_data)
   (void)tool_data;
   if (counts_wanted && is_published())
     say_counts();
+}
+
+/* gcc's own runtime never asks for a tool. */
+__attribute__((constructor)) static void look_for_runtime(void)
+{
+  if (is_preloaded() && dlsym(RTLD_DEFAULT, "GOMP_parallel") && !dlsym(RTLD_DEFAULT, "__kmpc_fork_call"))
+    say("this program's OpenMP runtime has no OMPT: nothing is shown");
 }
 
 EXPORTED ompt_start_tool_result_t *ompt_start_tool(unsigned version, const char *runtime)
