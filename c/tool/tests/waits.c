@@ -133,6 +133,7 @@ static void waits_for_tasks(void)
     started = 0;
 #pragma omp task depend(out : x)
     {
+      x = 1;
       started = 1;
       expect_state(ompt_state_wait_taskwait, ompt_state_wait_taskwait);
     }
@@ -140,6 +141,7 @@ static void waits_for_tasks(void)
       usleep(100);
     be_watched();
 #pragma omp taskwait depend(in : x)
+    EXPECT(x == 1);
     EXPECT_TRUTH();
     started = 0;
 #pragma omp taskgroup
