@@ -57,7 +57,7 @@ extern _Thread_local struct thread *self __attribute__((tls_model("initial-exec"
 /* The calling thread's, or NULL where nothing of it is shown. */
 static inline struct thread *shown_thread(void)
 {
-  return is_published() ? self : NULL;
+  return self && is_published() ? self : NULL;
 }
 
 /* Gives the calling thread a record. Whether there was one. */

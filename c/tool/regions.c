@@ -122,7 +122,6 @@ void on_parallel_end(ompt_data_t *region_data, ompt_data_t *task_data, int flags
     --*passed;
   else if (me->forked) {
     word_t *region = me->forked;
-    ompd_bp_parallel_end();
     end_workers(region);
     me->forked = notes_of_region(region)->before;
     give_back_region(me, region);
@@ -155,18 +154,18 @@ static void begin_member(struct thread *me, word_t *region, unsigned size, unsig
   word_t *task = record_at(load(region + RG_TEAM + number));
   struct task_notes *notes = notes_of_task(task);
   store_team(region, size);
-  bool active = load(region + RG_ACTIVE) > 0;
+  bool active = load(region + RG_ACTIVE) > 0, initial = notes_of_region(region)->is_initial;
   *notes = (struct task_notes){
     .under_way = true, .state_of_work = active ? ompt_state_work_parallel : ompt_state_work_serial};
   store(task + TK_THREAD, address_of(me->record));
   store(task + TK_SCHEDULING, load(me->record + TH_CUR));
-  if (notes_of_region(region)->is_initial)
+  if (initial)
     store_initial_variables(task);
   else
     store_member_variables(task, region);
   store(me->record + TH_CUR, address_of(task));
   enter_work(me);
-  if (number == 0)
+  if (number == 0 && !initial)
     ompd_bp_parallel_begin();
 }
 
@@ -200,8 +199,10 @@ static void end_implicit_task(struct thread *me)
     return; /* the thread that forked the region has ended the task */
   word_t *region = record_at(load(task + TK_REGION));
   uint64_t below = load(task + TK_SCHEDULING);
-  if (region == me->forked)
+  if (region == me->forked) {
+    ompd_bp_parallel_end();
     end_workers(region);
+  }
   swap(me->record + TH_CUR, address_of(task), below);
   enter_state(me, below ? ompt_state_overhead : ompt_state_idle, 0);
   if (notes_of_region(region)->is_initial)

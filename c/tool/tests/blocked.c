@@ -1,5 +1,6 @@
-/* blocked WHAT: the program has taken the page at 0x10000 (`page`) or nearly all memory (`memory`) before the tool starts, nobody
- * reads its standard error (`pipe`) or it is closed (`closed`), or nothing of it. It runs as it would without the tool. */
+/* blocked WHAT: before the tool starts the program has taken the page at 0x10000 (`page`) or nearly all memory
+ * (`memory`), nobody reads its standard error (`pipe`) or it is closed (`closed`), or nothing of it. It runs as it would
+ * without the tool. */
 #define _GNU_SOURCE
 #include "words.h"
 
@@ -8,6 +9,7 @@
 #include <fcntl.h>
 #include <omp.h>
 #include <stdio.h>
+#include <stdlib.h>
 #include <string.h>
 #include <sys/mman.h>
 #include <sys/resource.h>
@@ -42,13 +44,15 @@ __attribute__((constructor)) static void block(int argc, char **argv)
   }
 }
 
-/* The layout table is found by its name where the page isn't there. */
-static void expect_table(bool by_name)
+/* The layout table is found by its name, also where the page isn't there, and so is the list of libraries. */
+static void expect_names(void)
 {
   const uint64_t *table = dlsym(RTLD_DEFAULT, "omi_layout");
-  EXPECT(!!table == !!dlsym(RTLD_DEFAULT, "ompd_dll_locations"));
-  if (by_name)
-    EXPECT(table && table[0] == 2 && table[5] == 64);
+  const char ***locations = dlsym(RTLD_DEFAULT, "ompd_dll_locations"), *library = getenv("OMI_LIBRARY");
+  EXPECT(table && table[0] == 2 && table[5] == 64);
+  EXPECT(locations && *locations);
+  if (library)
+    EXPECT((*locations)[0] && !strcmp((*locations)[0], library) && !(*locations)[1]);
 }
 
 int main(int argc, char **argv)
@@ -62,7 +66,7 @@ int main(int argc, char **argv)
     sum += omp_get_num_threads();
   }
   EXPECT(sum == members * members);
-  if (strcmp(what, "memory"))
-    expect_table(strcmp(what, "disabled"));
+  if (strcmp(what, "memory") && strcmp(what, "disabled"))
+    expect_names();
   puts("blocked done");
 }

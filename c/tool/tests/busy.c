@@ -1,5 +1,5 @@
-/* busy [SECONDS]: a mix of loops, recursive tasks, task groups, critical sections, locks, nested teams, and undeferred, final
- * and untied tasks. */
+/* busy [SECONDS]: a mix of loops, recursive tasks, task groups, critical sections, locks, nested teams, and undeferred,
+ * final and untied tasks. */
 #include <omp.h>
 #include <stdio.h>
 #include <stdlib.h>

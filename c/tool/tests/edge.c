@@ -1,5 +1,5 @@
-/* edge [ROUNDS]: constructs that this project's workloads lack: dependences, detached tasks, cancellation, ordered, sections,
- * reductions, leagues, other initial threads, and more open groups and threads than there are records. */
+/* edge [ROUNDS]: constructs that this project's workloads lack: dependences, detached tasks, cancellation, ordered,
+ * sections, reductions, leagues, other initial threads, and more open groups than a record has room for. */
 #include <omp.h>
 #include <pthread.h>
 #include <stdio.h>

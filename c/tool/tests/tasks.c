@@ -1,5 +1,5 @@
-/* One member makes a task that makes a task and waits for it; the inner one stops (1). Then a task in a group stops (2), and a
- * member in a critical section for which the others wait (3). */
+/* One member makes a task that makes a task and waits for it; the inner one stops (1). Then a task in a group stops (2),
+ * and a member in a critical section for which the others wait (3). */
 #include <omp.h>
 #include <stdio.h>
 #include <unistd.h>
