@@ -19,7 +19,8 @@ enum holds {
 union data_word {
   uint64_t value;
   struct {
-    uint64_t holds : 2, is_final : 1, group : 3, function : 16, maker : 18;
+    uint64_t holds : 2, is_final : 1, function : 16, maker : 18; /* `function_number`, `place_of_task` */
+    uint64_t group : 3; /* how many groups the maker had open */
     uint64_t asks : 1, changes : CHANGE_BITS; /* see `inherit_variables` */
   } ticket;
   struct {

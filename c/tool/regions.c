@@ -195,8 +195,10 @@ static void begin_implicit_task(struct thread *me, const ompt_data_t *region_dat
 static void end_implicit_task(struct thread *me)
 {
   word_t *task = current_task(me);
+  if (!task)
+    enter_state(me, ompt_state_idle, 0); /* the thread that forked the region has ended the task */
   if (!task || !load(task + TK_IMPLICIT))
-    return; /* the thread that forked the region has ended the task */
+    return;
   word_t *region = record_at(load(task + TK_REGION));
   uint64_t below = load(task + TK_SCHEDULING);
   if (region == me->forked) {

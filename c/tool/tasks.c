@@ -23,13 +23,6 @@ static void hold_nothing(ompt_data_t *data)
   data->value = (union data_word){.ticket = {.holds = NOTHING}}.value;
 }
 
-/* Open groups behind the fourth have no place in a record: what is made in them is shown in the fourth. The
- * fourth word of a group is 0 for that of the maker itself, else the place of the maker's open group plus 1. */
-static unsigned innermost_group(word_t *maker)
-{
-  return (unsigned)load(maker + TK_OPEN);
-}
-
 void on_task_create(ompt_data_t *maker_data, const ompt_frame_t *frame, ompt_data_t *data, int flags,
                     int has_dependences, const void *code)
 {
@@ -57,7 +50,7 @@ void on_task_create(ompt_data_t *maker_data, const ompt_frame_t *frame, ompt_dat
   }
   hold_task(maker);
   data->value = (union data_word){.ticket = {
-    .holds = A_TICKET, .is_final = (flags & ompt_task_final) != 0, .group = innermost_group(maker),
+    .holds = A_TICKET, .is_final = (flags & ompt_task_final) != 0, .group = (unsigned)load(maker + TK_OPEN),
     .function = function_number(code), .maker = place_of_task(maker), .asks = asks,
     .changes = notes_of_task(maker)->changes}}.value;
 }
@@ -86,7 +79,8 @@ static void pass_over(struct thread *me, ompt_data_t *data)
   enter_work(me);
 }
 
-/* Fills the record of a task that starts. The maker can't be reached through it before `put_on`. */
+/* Fills the record of a task that starts. Nothing leads to it before `put_on`. Its group is the maker's innermost that
+ * was open, of which the fourth stands for further ones, or else that of the maker itself. */
 static void fill_task(word_t *task, word_t *maker, union data_word word)
 {
   uint64_t group = word.ticket.group;

@@ -159,13 +159,19 @@ static void waits_for_tasks(void)
   }
 }
 
-/* A worker is idle and has no task, from the end of its region on. */
+/* A worker has no task from the end of its region on, and is idle as soon as it has left the barrier. */
 static void workers(void)
 {
   uint64_t worker = 0;
 #pragma omp parallel num_threads(2)
   if (omp_get_thread_num() == 1)
     worker = this_thread();
+  EXPECT(get(worker, TH_CUR) == 0);
+  for (int patience = 0; get(worker, TH_STATE) != ompt_state_idle; patience++) {
+    EXPECT(patience < PATIENCE);
+    usleep(100);
+  }
+  usleep(20000);
   EXPECT(get(worker, TH_CUR) == 0 && get(worker, TH_STATE) == ompt_state_idle);
 }
 
