@@ -18,7 +18,8 @@ static struct {
 } runtime;
 
 /* OMP_NUM_THREADS: of nthreads-var the first elements, the one of level k at place k. */
-static uint64_t sizes[MOST_SIZES];
+enum { MOST_SIZES_READ = 32 };
+static uint64_t sizes[MOST_SIZES_READ];
 static unsigned size_count;
 
 bool frames_wanted;
@@ -31,7 +32,7 @@ static bool all_seen;
 static void read_sizes(void)
 {
   const char *text = getenv("OMP_NUM_THREADS");
-  while (text && size_count < MOST_SIZES) {
+  while (text && size_count < MOST_SIZES_READ) {
     char *end;
     unsigned long size = strtoul(text, &end, 10);
     if (end == text || !size)
@@ -95,7 +96,7 @@ static void store_sizes(word_t *task, uint64_t first)
   unsigned count = 1;
   store(task + TK_NTH, in_range(first, 1, MOST_THREADS));
   uint64_t level = load(record_at(load(task + TK_REGION)) + RG_LEVELS);
-  for (uint64_t place = level + 1; place < size_count; place++)
+  for (uint64_t place = level + 1; place < size_count && count < MOST_SIZES; place++)
     store(task + TK_NTH + count++, in_range(sizes[place], 1, MOST_THREADS));
   store(task + TK_NTHN, count);
 }
