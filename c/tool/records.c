@@ -121,15 +121,26 @@ void give_back_region(struct thread *me, word_t *region)
   me->regions.own = place_of_region(region) - me->index * REGIONS_EACH + 1;
 }
 
-/* A task that is given back drops its reference to the one that made it. */
+void release_maker(struct thread *me, word_t *maker)
+{
+  while (maker && !load(maker + TK_IMPLICIT)
+         && atomic_fetch_sub_explicit(&notes_of_task(maker)->owed, 1, memory_order_acq_rel) == 1) {
+    word_t *ended = maker;
+    maker = record_at(load(ended + TK_GENERATING));
+    give_back_task(me, ended);
+  }
+}
+
 void release_task(struct thread *me, word_t *task)
 {
-  while (task && !load(task + TK_IMPLICIT)
-         && atomic_fetch_sub_explicit(&notes_of_task(task)->references, 1, memory_order_acq_rel) == 1) {
-    word_t *maker = record_at(load(task + TK_GENERATING));
-    give_back_task(me, task);
-    task = maker;
-  }
+  struct task_notes *notes = notes_of_task(task);
+  long made = notes->made;
+  if (atomic_load_explicit(&notes->owed, memory_order_acquire) + made
+      && atomic_fetch_add_explicit(&notes->owed, made, memory_order_acq_rel) + made)
+    return;
+  word_t *maker = record_at(load(task + TK_GENERATING));
+  give_back_task(me, task);
+  release_maker(me, maker);
 }
 
 void count_unshown(enum kind kind)

@@ -3,8 +3,7 @@
  * Only the thread that a record belongs to takes it, any thread gives it back, and between the two one thread
  * at a time stores in it. A region lives from its fork to the end of it, and so do its implicit tasks. An
  * explicit task takes a record as it starts, and keeps it while it has not ended and while a task that it made
- * has not: for each of these it has a reference. So each address that a debugger can reach is that of a live
- * record. */
+ * has not. So each address that a debugger can reach is that of a live record. */
 #ifndef RECORDS_H
 #define RECORDS_H
 
@@ -13,12 +12,13 @@
 #include "arenas.h"
 
 struct task_notes {
-  _Atomic unsigned references; /* of an explicit task */
+  long made; /* tasks that it made */
+  _Atomic long owed; /* minus those of them that have ended; and once it has ended itself, plus all of them */
   unsigned next_free;
   unsigned passed; /* tasks without a record that stand on this one */
   unsigned deeper_groups; /* open ones behind the fourth */
   _Atomic unsigned changes; /* calls that set a control variable of it, seen by setters.c */
-  bool under_way; /* it runs, or others run on it: it neither waits to be resumed nor has it ended */
+  bool suspended; /* it waits to be resumed */
   bool detached; /* its code has ended, and its event was not fulfilled */
   const ompt_frame_t *frame; /* where the runtime keeps the task's frames, once it has told that */
   uint64_t state_below; /* that of its thread, where it was started or resumed */
@@ -129,12 +129,19 @@ word_t *take_region(struct thread *me);
 void give_back_task(struct thread *me, word_t *task);
 void give_back_region(struct thread *me, word_t *region);
 
-/* Takes and drops a reference to an explicit task; implicit ones need none. */
-static inline void hold_task(word_t *task)
+/* An explicit task is given back once it and all that it made have ended. To make one costs no more than to count
+ * it, and a task whose tasks have all ended before it is given back without a change that others see. */
+
+/* The task that runs here makes another one. */
+static inline void hold_task(word_t *maker)
 {
-  if (!load(task + TK_IMPLICIT))
-    atomic_fetch_add_explicit(&notes_of_task(task)->references, 1, memory_order_relaxed);
+  notes_of_task(maker)->made++;
 }
+
+/* A task that this one made has ended, or will never start. */
+void release_maker(struct thread *me, word_t *maker);
+
+/* An explicit task has ended. */
 void release_task(struct thread *me, word_t *task);
 
 /* One more that is not shown: says so once, and what to do about it. */

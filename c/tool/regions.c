@@ -155,8 +155,7 @@ static void begin_member(struct thread *me, word_t *region, unsigned size, unsig
   struct task_notes *notes = notes_of_task(task);
   store_team(region, size);
   bool active = load(region + RG_ACTIVE) > 0, initial = notes_of_region(region)->is_initial;
-  *notes = (struct task_notes){
-    .under_way = true, .state_of_work = active ? ompt_state_work_parallel : ompt_state_work_serial};
+  *notes = (struct task_notes){.state_of_work = active ? ompt_state_work_parallel : ompt_state_work_serial};
   store(task + TK_THREAD, address_of(me->record));
   store(task + TK_SCHEDULING, load(me->record + TH_CUR));
   if (initial)

@@ -64,9 +64,9 @@ static void put_on(struct thread *me, word_t *task)
   store(task + TK_THREAD, address_of(me->record));
   store(task + TK_SCHEDULING, address_of(below));
   notes->state_below = load(me->record + TH_STATE);
-  notes->under_way = true;
+  notes->suspended = false;
   store(me->record + TH_CUR, address_of(task));
-  enter_work(me);
+  enter_state(me, notes->state_of_work, 0);
   ompd_bp_task_begin();
 }
 
@@ -84,8 +84,7 @@ static void pass_over(struct thread *me, ompt_data_t *data)
 static void fill_task(word_t *task, word_t *maker, union data_word word)
 {
   uint64_t group = word.ticket.group;
-  *notes_of_task(task) =
-    (struct task_notes){.references = 1, .state_of_work = notes_of_task(maker)->state_of_work};
+  *notes_of_task(task) = (struct task_notes){.state_of_work = notes_of_task(maker)->state_of_work};
   store(task + TK_IMPLICIT, 0);
   store(task + TK_REGION, load(maker + TK_REGION));
   store(task + TK_GENERATING, address_of(maker));
@@ -105,7 +104,7 @@ static void start_task(struct thread *me, ompt_data_t *data, union data_word wor
 {
   word_t *maker = task_at(word.ticket.maker), *task = take_task(me);
   if (!task) {
-    release_task(me, maker);
+    release_maker(me, maker);
     pass_over(me, data);
     return;
   }
@@ -118,9 +117,9 @@ static void start_task(struct thread *me, ompt_data_t *data, union data_word wor
 static void start_unshown(ompt_data_t *data, union data_word word)
 {
   if (holds(word) == A_TICKET)
-    release_task(NULL, task_at(word.ticket.maker));
+    release_maker(NULL, task_at(word.ticket.maker));
   if (record_of(word))
-    notes_of_task(record_of(word))->under_way = true;
+    notes_of_task(record_of(word))->suspended = false;
   else
     data->value = (union data_word){.passed = {.holds = A_STATE}}.value;
 }
@@ -139,15 +138,10 @@ static void start_or_resume(struct thread *me, ompt_data_t *data, union data_wor
 
 /* The thread goes back to the task below. The word `scheduling` of the one that was left is cleared at once: the
  * task below may end before it. */
-static void take_off(struct thread *me, word_t *task, bool ended)
+static void take_off(struct thread *me, word_t *task)
 {
   struct task_notes *notes = notes_of_task(task);
   word_t *below = record_at(load(task + TK_SCHEDULING));
-  notes->under_way = false;
-  if (!me || current_task(me) != task)
-    return;
-  if (ended)
-    ompd_bp_task_end();
   store(me->record + TH_CUR, address_of(below));
   store(me->record + TH_STATE, notes->state_below);
   store(task + TK_SCHEDULING, 0);
@@ -155,24 +149,68 @@ static void take_off(struct thread *me, word_t *task, bool ended)
     leave_runtime(below);
 }
 
+/* The task without a record that stands on the current one is left. */
+static void go_back(struct thread *me, union data_word word)
+{
+  --*tasks_passed(me);
+  if (holds(word) == A_STATE)
+    store(me->record + TH_STATE, word.passed.state);
+  else
+    enter_work(me);
+}
+
+/* The explicit task that runs on this thread: by the thread's own words, for where serialized regions are nested libomp
+ * mixes up OMPT's words of the tasks on a thread's stack. NULL where it is one without a record, or none. */
+static word_t *running_explicit(struct thread *me, union data_word word)
+{
+  word_t *task = me ? running_task(me) : record_of(word);
+  return task && !load(task + TK_IMPLICIT) ? task : NULL;
+}
+
+/* The task that runs is suspended, or its code has ended but not the task (ompt_task_detach). */
 static void leave_task(struct thread *me, ompt_data_t *data, union data_word word, ompt_task_status_t status)
 {
-  bool ended = status == ompt_task_complete || status == ompt_task_cancel;
-  word_t *task = record_of(word);
+  word_t *task = running_explicit(me, word);
   if (task) {
-    if (notes_of_task(task)->under_way)
-      take_off(me, task, ended);
+    if (me)
+      take_off(me, task);
     notes_of_task(task)->detached = status == ompt_task_detach;
-  } else if (holds(word) == A_STATE && me) {
-    --*tasks_passed(me);
-    store(me->record + TH_STATE, word.passed.state);
-  }
-  if (holds(word) == A_TICKET)
-    release_task(me, task_at(word.ticket.maker)); /* it was cancelled before it started */
-  else if (task && ended)
-    release_task(me, task);
-  if (!task || ended)
+    notes_of_task(task)->suspended = status != ompt_task_detach;
+    data->ptr = task;
+  } else if (holds(word) == A_STATE) {
+    if (me)
+      go_back(me, word);
     hold_nothing(data);
+  }
+}
+
+/* The task that runs has ended. */
+static void end_running_task(struct thread *me, ompt_data_t *data, union data_word word)
+{
+  word_t *task = running_explicit(me, word);
+  if (task && me) {
+    ompd_bp_task_end();
+    take_off(me, task);
+  } else if (me && *tasks_passed(me))
+    go_back(me, word);
+  if (record_of(word) == task || holds(word) == A_STATE)
+    hold_nothing(data);
+  if (task)
+    release_task(me, task);
+}
+
+/* A task has ended: the one that runs, or one that was cancelled before it started or while it was suspended. */
+static void end_task(struct thread *me, ompt_data_t *data, union data_word word)
+{
+  word_t *task = record_of(word);
+  if (holds(word) == A_TICKET) {
+    release_maker(me, task_at(word.ticket.maker));
+    hold_nothing(data);
+  } else if (task && notes_of_task(task)->suspended) {
+    release_task(me, task);
+    hold_nothing(data);
+  } else if (holds(word) != NOTHING)
+    end_running_task(me, data, word);
 }
 
 /* An event was fulfilled, which ends the task where its code has ended before. */
@@ -184,14 +222,14 @@ static void end_detached(struct thread *me, ompt_data_t *data, word_t *task)
   hold_nothing(data);
 }
 
-/* A task that is under way can't be started: it is gone back to. libomp says ompt_task_cancel of all that it
- * tells of a cancelled group's tasks. */
-static bool is_under_way(union data_word word)
+/* Whether a task is one that waits to be started or resumed. Else it is under way, and gone back to. */
+static bool waits_for_a_thread(union data_word word)
 {
   word_t *task = record_of(word);
-  return task ? notes_of_task(task)->under_way : !word.value || holds(word) == A_STATE;
+  return task ? notes_of_task(task)->suspended : holds(word) == A_TICKET || holds(word) == NOTHING;
 }
 
+/* libomp says ompt_task_cancel of all that it tells of a cancelled group's tasks. */
 void on_task_schedule(ompt_data_t *prior_data, ompt_task_status_t status, ompt_data_t *next_data)
 {
   if (!is_published())
@@ -203,8 +241,10 @@ void on_task_schedule(ompt_data_t *prior_data, ompt_task_status_t status, ompt_d
       end_wait(me);
   } else if (!next_data)
     end_detached(me, prior_data, record_of(prior));
-  else if (!is_under_way(next))
+  else if (status == ompt_task_complete || status == ompt_task_cancel)
+    end_task(me, prior_data, prior);
+  else if (status != ompt_task_detach && waits_for_a_thread(next))
     start_or_resume(me, next_data, next);
-  else if (prior.value)
+  else
     leave_task(me, prior_data, prior, status);
 }

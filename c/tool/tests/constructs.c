@@ -69,6 +69,35 @@ static void serialized(void)
   omp_set_max_active_levels(3);
 }
 
+/* Where gcc's programs nest these, libomp 19 mixes up OMPT's words of their tasks. */
+static void serialized_in_tasks(int depth)
+{
+  if (!depth)
+    return;
+#pragma omp parallel num_threads(1)
+  {
+    truth();
+#pragma omp task if (0)
+    {
+      truth();
+#pragma omp parallel num_threads(1)
+      truth();
+      truth();
+#pragma omp task final(1)
+      {
+#pragma omp parallel if (0)
+        EXPECT(!get(this_task(), TK_FINAL)); /* of which libomp's omp_in_final says that it is */
+        truth();
+      }
+      serialized_in_tasks(depth - 1);
+      truth();
+    }
+    truth();
+    serialized_in_tasks(depth - 1);
+    truth();
+  }
+}
+
 static void tasks(void)
 {
 #pragma omp parallel num_threads(4)
@@ -156,6 +185,9 @@ int main(void)
   for (int round = 0; round < 5; round++) {
     regions();
     serialized();
+    serialized_in_tasks(4);
+#pragma omp parallel num_threads(3)
+    serialized_in_tasks(3);
     tasks();
     dependences();
     leagues();
