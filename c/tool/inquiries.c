@@ -181,11 +181,6 @@ void store_active_levels(void)
     store(arenas.runtime + RT_MAXACT, levels);
 }
 
-void learn_frame(word_t *task, const ompt_frame_t *frame)
-{
-  notes_of_task(task)->frame = frame;
-}
-
 /* The frames of the task that runs, or NULL where the runtime doesn't tell. */
 static const ompt_frame_t *frame_of(word_t *task)
 {
@@ -197,13 +192,6 @@ static const ompt_frame_t *frame_of(word_t *task)
       && runtime.task_info(0, &flags, &task_data, &frame, &region_data, &number) == 2)
     notes->frame = frame;
   return notes->frame;
-}
-
-void store_exit_frame(word_t *task)
-{
-  const ompt_frame_t *frame = frame_of(task);
-  if (frame)
-    store(task + TK_EXIT, (uint64_t)(uintptr_t)frame->exit_frame.ptr);
 }
 
 void store_frames(word_t *task)

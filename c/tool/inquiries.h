@@ -52,12 +52,17 @@ void store_active_levels(void);
  * until the task comes into the runtime. */
 extern bool frames_wanted;
 
-/* The runtime has told where it keeps the frames of the task that runs. It doesn't move them while the task runs. */
-void learn_frame(word_t *task, const ompt_frame_t *frame);
+/* The runtime tells where it keeps the frames of the task that runs, and doesn't move them while the task runs. The exit
+ * frame is stored. */
+static inline void learn_frame(word_t *task, const ompt_frame_t *frame)
+{
+  notes_of_task(task)->frame = frame;
+  if (frame)
+    store(task + TK_EXIT, (uint64_t)(uintptr_t)frame->exit_frame.ptr);
+}
 
-/* Stores the frames of the task that runs, or only its exit frame. */
+/* Stores both frames of the task that runs. */
 void store_frames(word_t *task);
-void store_exit_frame(word_t *task);
 
 /* The code of the task that runs has ended. */
 void clear_frames(word_t *task);

@@ -45,8 +45,6 @@ void on_task_create(ompt_data_t *maker_data, const ompt_frame_t *frame, ompt_dat
     learn_frame(maker, frame);
     if (flags & ompt_task_undeferred)
       store_frames(maker);
-    else
-      store_exit_frame(maker);
   }
   hold_task(maker);
   data->value = (union data_word){.ticket = {
@@ -96,8 +94,10 @@ static void fill_task(word_t *task, word_t *maker, union data_word word)
   store(task + TK_GROUP, group ? address_of(maker) + group - 1 : load(maker + TK_GROUP));
   store(task + TK_OPEN, 0);
   inherit_variables(task, maker, word.ticket.asks, word.ticket.changes);
-  if (frames_wanted)
-    store_exit_frame(task);
+  if (frames_wanted) {
+    store_frames(task);
+    leave_runtime(task);
+  }
 }
 
 static void start_task(struct thread *me, ompt_data_t *data, union data_word word)
