@@ -1,9 +1,9 @@
 /* A process that is forked. Its records are its own or none, and never those of the process that forked it.
  *
- * Outside of all regions libomp starts anew in the child, when it is next used, with the thread that forked as its
- * initial thread: that is shown from the fork on. In a region nothing is shown of the child, in which the region
- * can't end. A child that is made without these handlers finds zeros in all records, and so does
- * the tool in it: `is_published`. */
+ * Outside of all regions libomp starts anew in the child, when it is next used, with the thread that forked as
+ * its initial thread: that is shown from the fork on. In a region nothing is shown of the child, in which the
+ * region can't end. A child that is made without these handlers finds zeros in all records, and so does the tool
+ * in it: `is_published`. */
 #include <pthread.h>
 
 #include "callbacks.h"
@@ -29,7 +29,7 @@ static void before_fork(void)
 
 static void in_child(void)
 {
-  if (!arenas.runtime)
+  if (!published_table())
     return;
   forget_arenas();
   forget_records();

@@ -3,6 +3,7 @@
 #include <dlfcn.h>
 #include <sched.h>
 #include <stdlib.h>
+#include <unistd.h>
 
 #include "callbacks.h"
 #include "debugger.h"
@@ -29,7 +30,10 @@ static unsigned setting(const char *name, unsigned most)
 static uint64_t count_processors(void)
 {
   cpu_set_t processors;
-  return sched_getaffinity(0, sizeof processors, &processors) ? 1 : (uint64_t)CPU_COUNT(&processors);
+  if (sched_getaffinity(0, sizeof processors, &processors) == 0)
+    return (uint64_t)CPU_COUNT(&processors);
+  long online = sysconf(_SC_NPROCESSORS_ONLN); /* there are more than a set has room for */
+  return online > 0 ? (uint64_t)online : 1;
 }
 
 /* Whether the runtime makes a callback, always or where it can. */
@@ -67,6 +71,8 @@ static int start(ompt_function_lookup_t lookup, int device, ompt_data_t *tool_da
   unsigned threads = setting("OMI_THREADS", MOST_THREADS), tasks = setting("OMI_TASKS", MOST_TASKS_EACH);
   counts_wanted = getenv("OMI_STATS") != NULL;
   ompt_set_callback_t set = (ompt_set_callback_t)lookup("ompt_set_callback");
+  if (!set)
+    say("this runtime has no ompt_set_callback: nothing is shown");
   if (!set || !map_arenas(threads ? threads : MOST_THREADS, tasks) || !set_callbacks(set))
     return 0;
   find_inquiries(lookup);
