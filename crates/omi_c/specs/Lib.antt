@@ -6,5 +6,6 @@ pub mod Opened
 pub mod Causes
 pub mod Texts
 pub mod Scopes
+pub mod Initial
 pub mod Judged
 pub mod Order

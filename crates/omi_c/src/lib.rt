@@ -8,6 +8,7 @@ mod closing;
 mod comparing;
 mod enumerations;
 mod finding;
+mod initial;
 mod known;
 mod library;
 mod opening;
