@@ -1,10 +1,11 @@
-/* What the files of the adapter share. No name of it leaves the library but those of omp-tools.h. */
+/* What the files of the adapter share. No name of it leaves the library but those of omp-tools.h and omi_reason.h. */
 #ifndef ADAPTER_H
 #define ADAPTER_H
 
 #include "omi_c.h"
 
 #pragma GCC visibility push(default)
+#include "omi_reason.h"
 #include "omp-tools.h"
 #pragma GCC visibility pop
 
@@ -16,60 +17,90 @@ enum { TEXT_ROOM = 256 };
 
 enum { WORD_BYTES = sizeof(uint64_t) };
 
-/* What stands behind each handle. Its kind is the scope that it is of. The object is its record in the
- * target, and zero for an address space. */
-struct space;
-struct handle {
-  ompd_scope_t kind;
-  struct space *space;
-  omi_object object;
+/* The numbers by which the proved library knows control variables that the adapter names. */
+enum {
+  DYN_VAR = 1,
+  NTHREADS_VAR = 2,
+  RUN_SCHED_VAR = 3,
+  DEFAULT_DEVICE_VAR = 4,
+  FINAL_TASK_VAR = 5,
+  IMPLICIT_TASK_VAR = 6,
+  MAX_ACTIVE_LEVELS_VAR = 7,
+  DEBUG_VAR = 8,
+  NUM_PROCS_VAR = 9,
+  TEAM_SIZE_VAR = 12,
+  THREAD_NUM_VAR = 13
 };
 
-/* An address space begins with its handle. Each of its words lies in the segment of its layout table. */
+/* An address space. Each of its words lies in the segment of its layout table. */
 struct space {
-  struct handle handle;
   ompd_address_space_context_t *context;
   ompd_seg_t segment;
   uint64_t table[OMI_TABLE_WORDS];
 };
 
-/* No handle is of this scope, so it is the kind of those that were released. */
-#define RELEASED ompd_scope_global
+/* What a handle stands for: an address space, or an object in it by its record in the target. */
+struct handle {
+  const struct space *space;
+  const void *space_handle;
+  omi_object object;
+};
 
-/* The words of a space that are known, in the order in which they were asked for, and what the asking came
- * to. They are known for one call alone: behind it the target may run on. */
+/* What is asked about, the words of the target that are known, in the order in which they were asked for, and
+ * what the asking came to. They are known for one call alone: behind it the target may run on. */
 struct words {
-  struct space *space;
+  struct handle of;
   ompd_rc_t rc;
+  bool answered; /* the code is the inquiry's own, and not that of a callback */
   size_t count;
   omi_known known[MOST_WORDS];
 };
 
-/* session.c: the debugger's callbacks, or NULL while the library isn't initialized. */
+/* session.c: the debugger's callbacks, or NULL while the library isn't initialized; and how often it was. */
 extern const ompd_callbacks_t *debugger;
+extern uint64_t sessions;
 
-/* heap.c: memory of the debugger, or NULL where there is none, and its way back. */
+/* lock.c: each call begins with ENTER. So one is done at a time, and a callback that calls the library is
+ * answered ompd_rc_error. */
+bool enter_library(void);
+void leave_library(const bool *entered);
+
+#define ENTER \
+  __attribute__((cleanup(leave_library))) const bool entered = enter_library(); \
+  if (!entered) \
+    return ompd_rc_error
+
+/* heap.c: all memory is the debugger's. */
+
+/* A block that the debugger frees by its own callback. NULL where there is none, for memory_failure. */
 void *take_memory(size_t size);
-ompd_rc_t give_back(void *memory);
 
-/* heap.c: whether the debugger has failed to take a block of the proved library back since this was last
- * asked. */
-bool free_failed(void);
+/* A block of the library's, aligned for all that it keeps. NULL where there is none, for memory_failure. */
+void *keep_memory(size_t size);
+
+/* Gives such a block back, or all of them. Another block is bad input. */
+ompd_rc_t give_back(const void *block);
+ompd_rc_t give_all_back(void);
+
+/* A text with a zero byte behind it, which the debugger frees. */
+ompd_rc_t hand_out(const uint8_t *text, uint64_t length, const char **to);
+
+/* The code of the first callback for memory that has failed since this was last asked. */
+ompd_rc_t memory_failure(void);
 
 /* words.c */
 
 /* Reads the word at an address. Where nothing is mapped it is 0. */
 ompd_rc_t read_word(const struct space *space, uint64_t address, omi_known *known);
 
-/* The return code for a code of the proved library: a failure of a callback where a block of its heap was not
- * taken back. */
+/* The return code for a code of the proved library, or that of a callback for memory which has failed. */
 ompd_rc_t code_of(uint32_t code);
 
 /* Whether to ask again: the code was that of a needed word, which is known now. Else `rc` is the call's. */
 bool needs_word(struct words *words, uint32_t code, uint64_t place);
 
 #define TABLE(space) (space)->table, OMI_TABLE_WORDS
-#define WORDS(words) TABLE((words).space), (words).known, (words).count
+#define WORDS(words) TABLE((words).of.space), (words).known, (words).count
 
 /* Sets `answer` by an inquiry over WORDS(words), which is asked until it needs no further word. */
 #define ASK(words, answer, inquiry) \
@@ -77,8 +108,8 @@ bool needs_word(struct words *words, uint32_t code, uint64_t place);
     (answer) = (inquiry); \
   } while (needs_word(&(words), (answer).code, (answer).place))
 
-/* A number as the proved library takes it. The greatest is no kind, state or variable, and stands for all
- * that have more bits. */
+/* A number as the proved library takes it. The greatest is no state or variable, and stands for all that have
+ * more bits. */
 static inline uint32_t narrowed(uint64_t number)
 {
   return number < UINT32_MAX ? (uint32_t)number : UINT32_MAX;
@@ -86,13 +117,18 @@ static inline uint32_t narrowed(uint64_t number)
 
 /* handles.c */
 
-/* What stands behind a handle. NULL where it is NULL or of another kind, or the library isn't initialized. */
-struct handle *handle_of(const void *handle, ompd_scope_t kind);
+/* What a handle of a kind stands for; the kind is a scope. Stale where it stands for nothing of the kind, and
+ * else bad input where the call's other arguments are none. */
+ompd_rc_t resolve(const void *handle, ompd_scope_t kind, bool others, struct handle *of);
 
-/* Makes a handle of an object, which the debugger releases. `to` points to a pointer to such a handle. */
-ompd_rc_t make_handle(struct space *space, ompd_scope_t kind, omi_object object, void *to);
+/* The code for a handle that stands for nothing. */
+ompd_rc_t no_handle(void);
 
-/* texts.c: a text with a zero byte behind it, in memory of the debugger, who frees it. */
-ompd_rc_t hand_out(const uint8_t *text, uint64_t length, const char **to);
+/* Makes a handle of an object that was found from another one in its address space. `to` points to a pointer to
+ * such a handle. */
+ompd_rc_t make_handle(const struct handle *from, ompd_scope_t kind, omi_object object, void *to);
+
+/* Makes a handle of an address space, which is given back where there is none. */
+ompd_rc_t make_space_handle(const struct space *space, ompd_address_space_handle_t **to);
 
 #endif

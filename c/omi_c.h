@@ -98,7 +98,7 @@ uint64_t omi_version_text(uint8_t *to, size_t room);         /* the text's lengt
 /* The code for a layout table: OMI_OK, an error (4), with place: the number of the word that is wrong, or incompatible (7). */
 omi_number omi_judge_table(const uint64_t *table, size_t table_words);
 
-/* Threads and regions. A kind of native ids is that of the target's thread ids; kind 0 is the only one. */
+/* Threads and regions. A kind of native ids is that of the target's thread ids; here kind 0 is the only one. */
 omi_found omi_thread_with_id(OMI_WORDS, uint32_t kind, uint64_t native);
 omi_found omi_thread_in_parallel(OMI_WORDS, omi_object region, uint32_t member);
 omi_number omi_thread_id(OMI_WORDS, uint32_t kind, omi_object thread);
@@ -113,6 +113,9 @@ omi_found omi_scheduling_task(OMI_WORDS, omi_object task);
 omi_found omi_task_in_parallel(OMI_WORDS, omi_object region, uint32_t member);
 omi_number omi_task_function(OMI_WORDS, omi_object task);
 omi_frames omi_task_frame(OMI_WORDS, omi_object task);
+
+/* The task with which the program begins. */
+omi_found omi_initial_task(OMI_WORDS);
 
 /* States, control variables and the tool's word. A scope is a number of OpenMP 5.0: 2 address space, 3 thread, 4 parallel, 6 task; the
  * object is not looked at for the address space. The text of the control variables of the address space is asked for by index. */

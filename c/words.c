@@ -1,11 +1,10 @@
 /* The words of a target, and how an inquiry is asked again until it knows all that it needs. */
 #include "adapter.h"
 
-/* Whether a code of read_memory says that nothing is mapped at the address. Every other code but ok is a
- * failure of the callback, after which no value is answered. */
+/* Whether a code of read_memory says that nothing is mapped at the address. */
 static bool says_unmapped(ompd_rc_t rc)
 {
-  return rc == ompd_rc_unavailable || rc == ompd_rc_bad_input;
+  return rc == ompd_rc_unavailable || rc == ompd_rc_error;
 }
 
 ompd_rc_t read_word(const struct space *space, uint64_t address, omi_known *known)
@@ -19,17 +18,21 @@ ompd_rc_t read_word(const struct space *space, uint64_t address, omi_known *know
   if (says_unmapped(rc))
     return ompd_rc_ok;
   if (rc != ompd_rc_ok)
-    return ompd_rc_callback_error;
+    return rc;
   known->mapped = true;
-  rc = debugger->device_to_host(space->context, bytes, sizeof bytes, 1, &known->word);
-  return rc == ompd_rc_ok ? ompd_rc_ok : ompd_rc_callback_error;
+  return debugger->device_to_host(space->context, bytes, sizeof bytes, 1, &known->word);
+}
+
+/* The return code for a code of the proved library. */
+static ompd_rc_t own_code(uint32_t code)
+{
+  return code <= ompd_rc_incomplete ? (ompd_rc_t)code : ompd_rc_error;
 }
 
 ompd_rc_t code_of(uint32_t code)
 {
-  if (free_failed())
-    return ompd_rc_callback_error;
-  return code <= ompd_rc_incomplete ? (ompd_rc_t)code : ompd_rc_error;
+  ompd_rc_t failure = memory_failure();
+  return failure == ompd_rc_ok ? own_code(code) : failure;
 }
 
 static bool is_known(const struct words *words, uint64_t address)
@@ -46,7 +49,7 @@ static ompd_rc_t learn(struct words *words, uint64_t address)
 {
   if (address % WORD_BYTES || words->count == MOST_WORDS || is_known(words, address))
     return ompd_rc_error;
-  ompd_rc_t rc = read_word(words->space, address, &words->known[words->count]);
+  ompd_rc_t rc = read_word(words->of.space, address, &words->known[words->count]);
   if (rc == ompd_rc_ok)
     words->count++;
   return rc;
@@ -54,9 +57,11 @@ static ompd_rc_t learn(struct words *words, uint64_t address)
 
 bool needs_word(struct words *words, uint32_t code, uint64_t place)
 {
-  words->rc = code_of(code);
-  if (code != OMI_NEEDS_WORD || words->rc == ompd_rc_callback_error)
-    return false;
-  words->rc = learn(words, place);
-  return words->rc == ompd_rc_ok;
+  words->rc = memory_failure();
+  words->answered = words->rc == ompd_rc_ok && code != OMI_NEEDS_WORD;
+  if (words->answered)
+    words->rc = own_code(code);
+  else if (words->rc == ompd_rc_ok)
+    words->rc = learn(words, place);
+  return words->rc == ompd_rc_ok && !words->answered;
 }

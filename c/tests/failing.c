@@ -27,38 +27,49 @@ static void fail_each(const struct trial *trial, const struct place *at)
         fail_test(__FILE__, __LINE__, "a call with a failed callback answers this code and keeps no memory");
       }
       failures++;
-      if (watch.failed == ALLOC_MEMORY || watch.failed == FREE_MEMORY)
-        break; /* all codes are alike */
     }
   watch_calls(0, ompd_rc_ok);
   EXPECT(trial->ask(at, &got) == usual);
   undo(&got);
 }
 
-/* A handle is gone even where the debugger refuses its memory. */
+/* What is released is gone even where the debugger refuses its memory. */
 static void fail_release(const struct place *at)
 {
-  struct answer got;
-  clear_answer(&got);
   long blocks = watch.blocks;
-  EXPECT(ompd.process_initialize(at->context, &got.space) == ompd_rc_ok);
-  EXPECT(ompd.get_thread_handle(at->space, 0, sizeof at->native, &at->native, &got.thread) == ompd_rc_ok);
-  EXPECT(ompd.get_curr_parallel_handle(at->thread, &got.region) == ompd_rc_ok);
-  EXPECT(ompd.get_curr_task_handle(at->thread, &got.task) == ompd_rc_ok);
-  EXPECT(ompd.get_display_control_vars(at->space, &got.list) == ompd_rc_ok);
-  EXPECT(watch.blocks == blocks + 5);
-  watch_calls(1, ompd_rc_error);
-  EXPECT(ompd.rel_address_space_handle(got.space) == ompd_rc_callback_error);
-  watch_calls(1, ompd_rc_error);
-  EXPECT(ompd.rel_thread_handle(got.thread) == ompd_rc_callback_error);
-  watch_calls(1, ompd_rc_error);
-  EXPECT(ompd.rel_parallel_handle(got.region) == ompd_rc_callback_error);
-  watch_calls(1, ompd_rc_error);
-  EXPECT(ompd.rel_task_handle(got.task) == ompd_rc_callback_error);
-  watch_calls(1, ompd_rc_error);
-  EXPECT(ompd.rel_display_control_vars(&got.list) == ompd_rc_callback_error);
-  EXPECT(watch.blocks == blocks);
-  failures += 5;
+  for (ompd_rc_t with = ompd_rc_unavailable; with <= ompd_rc_callback_error; with++) {
+    ompd_address_space_handle_t *space;
+    const char *const *list;
+    watch_calls(0, ompd_rc_ok);
+    EXPECT(ompd.process_initialize(at->context, &space) == ompd_rc_ok);
+    EXPECT(ompd.get_display_control_vars(at->space, &list) == ompd_rc_ok);
+    EXPECT(watch.blocks == blocks + 2);
+    watch_calls(1, with);
+    EXPECT(ompd.rel_address_space_handle(space) == with);
+    EXPECT(ompd.rel_address_space_handle(space) == ompd_rc_stale_handle);
+    watch_calls(1, with);
+    EXPECT(ompd.rel_display_control_vars(&list) == with);
+    EXPECT(ompd.rel_display_control_vars(&list) == ompd_rc_bad_input);
+    EXPECT(watch.blocks == blocks);
+    failures += 2;
+  }
+}
+
+/* So is the library where it is finalized. */
+static void fail_finalize(const struct target *target)
+{
+  ompd_address_space_handle_t *space;
+  const char *const *list;
+  ompd_address_space_context_t *context = (ompd_address_space_context_t *)target;
+  watch_calls(0, ompd_rc_ok);
+  EXPECT(ompd.initialize(201811, &callbacks) == ompd_rc_ok);
+  EXPECT(ompd.process_initialize(context, &space) == ompd_rc_ok);
+  EXPECT(ompd.get_display_control_vars(space, &list) == ompd_rc_ok);
+  watch_calls(1, ompd_rc_device_write_error);
+  EXPECT(ompd.finalize() == ompd_rc_device_write_error);
+  EXPECT(watch.calls == 2 && watch.blocks == 0);
+  EXPECT(ompd.finalize() == ompd_rc_unsupported);
+  failures++;
 }
 
 int main(int count, char **words)
@@ -72,13 +83,16 @@ int main(int count, char **words)
     for (size_t context = 0; context < target.contexts; context++)
       if (enter(&at, &target, space, target.ids[context])) {
         for (size_t trial = 0; trial < trial_count; trial++)
-          for (at.icv = 0; at.icv <= (strstr(trials[trial].name, "icv") ? 14 : 0); at.icv++)
+          for (at.icv = 0; at.icv <= (strstr(trials[trial].name, "icv") ? LAST_ICV + 1 : 0); at.icv++)
             fail_each(trials + trial, &at);
         fail_release(&at);
         watch_calls(0, ompd_rc_ok);
         leave(&at);
       }
-    end_session(&target, space);
+    EXPECT(ompd.rel_address_space_handle(space) == ompd_rc_ok);
+    EXPECT(ompd.finalize() == ompd_rc_ok && watch.blocks == 0);
+    fail_finalize(&target);
+    close_target(&target);
   }
   printf("failing callbacks: %lu, each answered by its code, no value and no memory kept\n", failures);
   return 0;

@@ -6,7 +6,6 @@
  * answer. */
 #define _POSIX_C_SOURCE 200809L
 
-#include "adapter.h"
 #include "trials.h"
 
 #include <stdio.h>
@@ -17,7 +16,7 @@
 enum { MOST_READS = 192, STEPS = 60, SECONDS_OF_A_RUN = 20, OPENING_WORDS = 99, CONTEXTS = 3 };
 
 static uint64_t drawn;
-static unsigned long answers[ompd_rc_callback_error + 1], calls, swallowed, most_reads;
+static unsigned long answers[ompd_rc_callback_error + 1], calls, swallowed, forgeries, most_reads;
 
 /* A number below a bound, and one in so many times. */
 static uint64_t draw(uint64_t bound)
@@ -112,38 +111,65 @@ static void go_to(struct place *at, struct answer *got)
 #undef GO_TO
 }
 
-/* A handle like another one, of an object that is drawn. */
-static struct handle forged(const void *handle, const struct target *target)
+/* What is no handle of a kind that is asked for: one of another kind, one that was released, another number, an
+ * address. */
+static void *forged(const struct place *at, const void *handle, void *released)
 {
-  struct handle forged = *(const struct handle *)handle;
-  if (once_in(2))
-    forged.object.addr = drawn_word(target);
-  if (once_in(2))
-    forged.object.life = once_in(2) ? draw(8) : drawn_word(target);
-  return forged;
+  switch (draw(5)) {
+  case 0:
+    return released;
+  case 1:
+    return at->space;
+  case 2:
+    return (void *)((uintptr_t)handle ^ (uintptr_t)1 << draw(64));
+  case 3:
+    return (void *)(uintptr_t)draw(0);
+  default:
+    return &forgeries;
+  }
+}
+
+/* Each call by a forged handle is refused, asks for nothing and answers nothing. */
+static void forge(const struct place *at, void *released)
+{
+  struct place asked = *at;
+  struct answer got;
+  clear_answer(&got);
+  asked.thread = forged(at, at->thread, released);
+  asked.region = forged(at, at->region, released);
+  asked.task = forged(at, at->task, released);
+  static const char *const by_handle[] = {
+    "thread_in_parallel", "thread_id", "thread_compare", "curr_parallel", "enclosing_parallel", "task_parallel",
+    "parallel_compare", "curr_task", "generating_task", "scheduling_task", "task_in_parallel", "task_compare",
+    "task_function", "task_frame", "state", "thread_icv", "region_icv", "task_icv", "thread_icv_text",
+    "region_icv_text", "task_icv_text", "thread_tool", "region_tool", "task_tool"};
+  const struct trial *trial = trials;
+  const char *name = by_handle[draw(sizeof by_handle / sizeof *by_handle)];
+  while (strcmp(trial->name, name))
+    trial++;
+  watch_calls(0, ompd_rc_ok);
+  EXPECT(trial->ask(&asked, &got) == ompd_rc_stale_handle && is_clear(&got) && watch.calls == 0);
+  forgeries++;
 }
 
 static void walk(struct place *at, const struct target *target)
 {
   struct answer got;
+  ompd_thread_handle_t *released;
   clear_answer(&got);
+  watch_calls(0, ompd_rc_ok);
+  if (ompd.get_thread_in_parallel(at->region, 0, &released) == ompd_rc_ok)
+    EXPECT(ompd.rel_thread_handle(released) == ompd_rc_ok);
+  else
+    released = NULL;
   for (int step = 0; step < STEPS; step++) {
     at->native = once_in(4) ? draw(0) : target->ids[draw(target->contexts)];
     at->member = (int)draw(6) - 1;
     at->state = once_in(2) ? 0x102 : (ompd_word_t)draw(0x110);
-    at->icv = once_in(10) ? draw(0) : draw(16);
-    struct handle thread = forged(at->thread, target), region = forged(at->region, target);
-    struct handle task = forged(at->task, target);
-    struct place asked = *at;
+    at->icv = once_in(10) ? draw(0) : draw(LAST_ICV + 3);
     if (once_in(20))
-      asked.thread = (ompd_thread_handle_t *)&thread;
-    if (once_in(20))
-      asked.region = (ompd_parallel_handle_t *)&region;
-    if (once_in(20))
-      asked.task = (ompd_task_handle_t *)&task;
-    if (once_in(40))
-      asked.task = (ompd_task_handle_t *)(once_in(2) ? &thread : &region);
-    if (ask(trials + draw(trial_count), &asked, &got) == ompd_rc_ok && once_in(2))
+      forge(at, released);
+    if (ask(trials + draw(trial_count), at, &got) == ompd_rc_ok && once_in(2))
       go_to(at, &got);
     undo(&got);
     if (once_in(8))
@@ -201,8 +227,8 @@ int main(int count, char **words)
     alarm(SECONDS_OF_A_RUN);
     run(&target, words[2]);
   }
-  printf("hostile memory: %lu runs, %lu calls, at most %lu reads in one, %lu failed reads swallowed\n",
-         runs, calls, most_reads, swallowed);
+  printf("hostile memory: %lu runs, %lu calls, %lu by forged handles, at most %lu reads in one, "
+         "%lu failed reads swallowed\n", runs, calls, forgeries, most_reads, swallowed);
   for (ompd_rc_t rc = ompd_rc_ok; rc <= ompd_rc_callback_error; rc++)
     if (answers[rc])
       printf("  %s %lu\n", name_of_code(rc), answers[rc]);

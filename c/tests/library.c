@@ -26,6 +26,7 @@ void load(const char *path)
 #define CALL(name) ompd.name = (__typeof__(ompd.name))found(library, "ompd_" #name);
   CALLS(CALL)
 #undef CALL
+  ompd.reason = (__typeof__(ompd.reason))found(library, "omi_reason");
 }
 
 ompd_address_space_handle_t *begin_session(struct target *target, const char *folder, const char *name)

@@ -2,6 +2,7 @@
 #ifndef LIBRARY_H
 #define LIBRARY_H
 
+#include "omi_reason.h"
 #include "target.h"
 
 /* Every call of the library. */
@@ -24,6 +25,7 @@ struct library {
 #define CALL(name) __typeof__(ompd_##name) *name;
   CALLS(CALL)
 #undef CALL
+  __typeof__(omi_reason) *reason;
 };
 extern struct library ompd;
 

@@ -37,10 +37,11 @@ static void put_variable(void *handle, ompd_scope_t scope, const char *name, omp
   text_of(handle, scope, icv, text);
   snprintf(number, sizeof number, "%ld", value);
   bool list = strchr(text, ',') && icv == NTHREADS;
-  EXPECT(rc == (strcmp(text, "none") == 0 ? ompd_rc_unavailable : list ? ompd_rc_incomplete : ompd_rc_ok));
+  ompd_rc_t due = list ? ompd_rc_incomplete : icv == RUN_SCHED ? ompd_rc_incompatible : ompd_rc_ok;
+  EXPECT(rc == (strcmp(text, "none") == 0 ? ompd_rc_unavailable : due));
   if (list)
     EXPECT(atol(text) == value);
-  else if (rc == ompd_rc_ok && icv != RUN_SCHED && icv != DEBUG)
+  else if (rc == ompd_rc_ok && icv != DEBUG)
     EXPECT(strcmp(text, number) == 0);
   fprintf(out, " %s=%s", name, text);
 }

@@ -120,20 +120,29 @@ static bool fails(enum callback callback)
   return true;
 }
 
+/* A block begins at each place in turn between two multiples of 16. The byte in front of it tells how far it is
+ * from the memory that it lies in. */
 static ompd_rc_t alloc_memory(ompd_size_t size, void **memory)
 {
+  static unsigned char turn;
   if (fails(ALLOC_MEMORY))
     return watch.fail_with;
-  *memory = malloc(size);
+  unsigned char front = 1 + turn++ % 16;
+  unsigned char *block = malloc(front + size);
+  if (!block)
+    return ompd_rc_nomem;
+  block[front - 1] = front;
+  *memory = block + front;
   watch.blocks++;
-  return *memory ? ompd_rc_ok : ompd_rc_nomem;
+  return ompd_rc_ok;
 }
 
 /* A block is free even where the call fails, so that the count is of those that nobody gave back. */
 static ompd_rc_t free_memory(void *memory)
 {
   bool failing = fails(FREE_MEMORY);
-  free(memory);
+  unsigned char *block = memory;
+  free(block - block[-1]);
   watch.blocks--;
   return failing ? watch.fail_with : ompd_rc_ok;
 }

@@ -92,13 +92,11 @@ void undo(struct answer *got)
 
 ompd_rc_t answer_to(enum callback failed, ompd_rc_t with)
 {
-  if (failed == ALLOC_MEMORY)
-    return ompd_rc_nomem;
   if (failed == SYMBOL_ADDR_LOOKUP && (with == ompd_rc_unavailable || with == ompd_rc_error))
     return ompd_rc_incompatible; /* there is no such symbol */
-  if (failed == READ_MEMORY && (with == ompd_rc_unavailable || with == ompd_rc_bad_input))
+  if (failed == READ_MEMORY && (with == ompd_rc_unavailable || with == ompd_rc_error))
     return ompd_rc_error; /* nothing is mapped there */
-  return ompd_rc_callback_error;
+  return with;
 }
 
 bool enter(struct place *at, struct target *target, ompd_address_space_handle_t *space, uint64_t native)

@@ -4,6 +4,9 @@
 
 #include "library.h"
 
+/* The number of the last control variable. */
+enum { LAST_ICV = 20 };
+
 /* What the calls are asked about. */
 struct place {
   ompd_address_space_context_t *context;

@@ -31,23 +31,44 @@ static bool say(const char *what, ompd_rc_t rc)
     undo(&got); \
   } while (0)
 
+/* Prints the code alone. */
+#define CODE(what, call) \
+  do { \
+    if (say(what, ompd.call)) \
+      printf("\n"); \
+    undo(&got); \
+  } while (0)
+
 #define LACKS(callback) \
   do { \
     ompd_callbacks_t lacking = callbacks; \
     lacking.callback = NULL; \
-    say("initialize without " #callback, ompd.initialize(201811, &lacking)); \
+    CODE("initialize without " #callback, initialize(201811, &lacking)); \
+    CODE("and of another version", initialize(201810, &lacking)); \
   } while (0)
 
+/* Before the library is initialized for the first time all but its versions is bad input. */
 static void before_a_session(void)
 {
   const char *version;
+  struct place none = {.context = (ompd_address_space_context_t *)&target};
   EXPECT(ompd.get_version_string(&version) == ompd_rc_ok);
   printf("version: %s\n", version);
   NUMBER("api version", word, get_api_version(&got.word));
-  say("finalize", ompd.finalize());
-  say("process_initialize", ompd.process_initialize((ompd_address_space_context_t *)&target, &got.space));
-  say("initialize without callbacks", ompd.initialize(201811, NULL));
-  say("initialize of another version", ompd.initialize(201810, &callbacks));
+  for (size_t trial = 0; trial < trial_count; trial++)
+    EXPECT(trials[trial].ask(&none, &got) == ompd_rc_bad_input && is_clear(&got));
+  EXPECT(ompd.rel_address_space_handle(NULL) == ompd_rc_bad_input);
+  EXPECT(ompd.rel_thread_handle(NULL) == ompd_rc_bad_input);
+  EXPECT(ompd.rel_parallel_handle(NULL) == ompd_rc_bad_input);
+  EXPECT(ompd.rel_task_handle(NULL) == ompd_rc_bad_input);
+  EXPECT(ompd.device_initialize(NULL, none.context, 1, 0, NULL, &got.space) == ompd_rc_bad_input);
+  EXPECT(watch.calls == 0);
+  CODE("finalize", finalize());
+  say("process_initialize", ompd.process_initialize(none.context, &got.space));
+  printf("  %s\n", ompd.reason());
+  CODE("initialize without callbacks", initialize(201811, NULL));
+  CODE("initialize of another version", initialize(201810, &callbacks));
+  CODE("without callbacks of another version", initialize(201810, NULL));
   LACKS(alloc_memory);
   LACKS(free_memory);
   LACKS(sizeof_type);
@@ -56,31 +77,76 @@ static void before_a_session(void)
   LACKS(device_to_host);
 }
 
-/* Opens the target with one of its words changed. */
+/* The library keeps what a table of callbacks has, and not where it is. */
+static void initialized_again(void)
+{
+  ompd_callbacks_t given = callbacks, other = callbacks;
+  other.host_to_device = callbacks.device_to_host;
+  EXPECT(ompd.initialize(201811, &given) == ompd_rc_ok);
+  memset(&given, 0, sizeof given);
+  CODE("initialize again", initialize(201811, &callbacks));
+  CODE("with another table", initialize(201811, &other));
+  CODE("without a table", initialize(201811, NULL));
+  CODE("with another version", initialize(201810, &other));
+  CODE("finalize", finalize());
+  CODE("finalize again", finalize());
+}
+
+/* Opens the target with one of its words changed, and tells why it can't be opened. */
 static void open_with(const char *what, uint64_t address, uint64_t word)
 {
   unsigned char *bytes = bytes_at(&target, address);
   uint64_t kept = word_of(&target, bytes);
   set_word(&target, bytes, word);
   say(what, ompd.process_initialize((ompd_address_space_context_t *)&target, &got.space));
+  printf("  %s\n", ompd.reason());
   set_word(&target, bytes, kept);
 }
+
+#define OTHER_SIZE(type, size) \
+  do { \
+    uint8_t usual = sizes_told.sizeof_##type; \
+    sizes_told.sizeof_##type = (size); \
+    open_with(#type " of " #size " bytes", symbol_at(&target, "omi_layout"), 1); \
+    sizes_told.sizeof_##type = usual; \
+  } while (0)
 
 /* The symbol of the layout table is the last of eight, and the table stands behind the symbols. */
 static void openings(void)
 {
   uint64_t symbol = SYMBOLS + WORD * (1 + 7 * 5), address = symbol + 4 * WORD;
   uint64_t table = symbol_at(&target, "omi_layout");
-  sizes_told.sizeof_pointer = 4;
-  open_with("pointers of four bytes", table, 1);
-  sizes_told.sizeof_pointer = 8;
+  OTHER_SIZE(char, 2);
+  OTHER_SIZE(short, 4);
+  OTHER_SIZE(int, 2);
+  OTHER_SIZE(long, 4);
+  OTHER_SIZE(long_long, 4);
+  OTHER_SIZE(pointer, 4);
   open_with("no symbol", symbol, 0);
   open_with("an address that is no word's", address, table + 4);
   open_with("an unmapped table", address, 0x8000);
   open_with("a table at the end of memory", address, UINT64_MAX - 7);
+  open_with("a table that isn't published", table, 0);
   open_with("a table of version 3", table, 3);
   open_with("a table of no thread", table + 5 * WORD, 0);
   open_with("a table with a field behind its record", table + 20 * WORD, 4096);
+  const char *last = ompd.reason();
+  EXPECT(ompd.process_initialize((ompd_address_space_context_t *)&target, &got.space) == ompd_rc_ok);
+  EXPECT(*last && !*ompd.reason());
+  undo(&got);
+  watch_calls(1, ompd_rc_device_read_error);
+  say("sizes that the debugger can't tell", ompd.process_initialize((ompd_address_space_context_t *)&target, &got.space));
+  printf("  %s\n", ompd.reason());
+  watch_calls(2, ompd_rc_bad_input);
+  say("a symbol that it can't look up", ompd.process_initialize((ompd_address_space_context_t *)&target, &got.space));
+  printf("  %s\n", ompd.reason());
+  watch_calls(3, ompd_rc_bad_input);
+  say("words that it can't read", ompd.process_initialize((ompd_address_space_context_t *)&target, &got.space));
+  printf("  %s\n", ompd.reason());
+  watch_calls(115, ompd_rc_unsupported);
+  say("memory that it doesn't give", ompd.process_initialize((ompd_address_space_context_t *)&target, &got.space));
+  printf("  %s\n", ompd.reason());
+  watch_calls(0, ompd_rc_ok);
 }
 
 static void of_the_space(const struct place *at)
@@ -98,6 +164,9 @@ static void of_the_space(const struct place *at)
   }
   say("behind the last", ompd.enumerate_states(at->space, state, &got.word, &got.text, &got.more));
   say("behind none", ompd.enumerate_states(at->space, -1, &got.word, &got.text, &got.more));
+  say("behind 2^32", ompd.enumerate_states(at->space, 1l << 32, &got.word, &got.text, &got.more));
+  say("behind 2^32 + 0x101", ompd.enumerate_states(at->space, 0x100000101, &got.word, &got.text, &got.more));
+  say("behind 2^32 + 0x102", ompd.enumerate_states(at->space, 0x100000102, &got.word, &got.text, &got.more));
   ompd_icv_id_t icv = ompd_icv_undefined;
   int more = 1;
   while (more
@@ -108,7 +177,10 @@ static void of_the_space(const struct place *at)
     undo(&got);
   }
   say("behind the last", ompd.enumerate_icvs(at->space, icv, &got.icv, &got.text, &got.scope, &got.number));
+  say("behind 21", ompd.enumerate_icvs(at->space, 21, &got.icv, &got.text, &got.scope, &got.number));
   say("behind 2^32", ompd.enumerate_icvs(at->space, 1l << 32, &got.icv, &got.text, &got.scope, &got.number));
+  say("behind 2^32 + 13",
+      ompd.enumerate_icvs(at->space, (1l << 32) + 13, &got.icv, &got.text, &got.scope, &got.number));
   EXPECT(ompd.get_display_control_vars(at->space, &got.list) == ompd_rc_ok);
   for (const char *const *text = got.list; *text; text++)
     printf("displayed: %s\n", *text);
@@ -117,17 +189,44 @@ static void of_the_space(const struct place *at)
 
 static void of_the_thread(const struct place *at)
 {
-  uint64_t nobody = 999;
+  uint64_t nobody = 999, wide[] = {at->native, UINT64_MAX};
+  uint32_t narrow[] = {(uint32_t)at->native, UINT32_MAX};
   NUMBER("native id", native, get_thread_id(at->thread, 0, 8, &got.native));
-  NUMBER("native id of kind 1", native, get_thread_id(at->thread, 1, 4, &got.native));
-  NUMBER("thread 999", number, get_thread_handle(at->space, 0, 8, &nobody, &got.thread));
-  NUMBER("thread 999 of kind 1", number, get_thread_handle(at->space, 1, 4, &nobody, &got.thread));
-  NUMBER("thread 999 of kind 2^32", number, get_thread_handle(at->space, 1l << 32, 8, &nobody, &got.thread));
+  NUMBER("native id of kind 1", native, get_thread_id(at->thread, 1, 8, &got.native));
+  NUMBER("native id of kind 2", native, get_thread_id(at->thread, 2, 8, &got.native));
+  for (ompd_thread_id_t kind = 0; kind < 2; kind++) {
+    uint32_t id[] = {0, 0xa5a5a5a5};
+    EXPECT(ompd.get_thread_id(at->thread, kind, 4, id) == ompd_rc_ok);
+    EXPECT(id[0] == at->native && id[1] == 0xa5a5a5a5);
+    CODE("thread by eight bytes", get_thread_handle(at->space, kind, 8, wide, &got.thread));
+    CODE("thread by four bytes", get_thread_handle(at->space, kind, 4, narrow, &got.thread));
+    CODE("thread 999", get_thread_handle(at->space, kind, 8, &nobody, &got.thread));
+    CODE("thread 2^32 - 1", get_thread_handle(at->space, kind, 4, narrow + 1, &got.thread));
+    CODE("thread 2^64 - 1", get_thread_handle(at->space, kind, 8, wide + 1, &got.thread));
+  }
+  CODE("thread of kind 2", get_thread_handle(at->space, 2, 8, wide, &got.thread));
+  CODE("thread of kind 2^32", get_thread_handle(at->space, 1l << 32, 8, wide, &got.thread));
   if (say("state", ompd.get_state(at->thread, &got.word, &got.wait)))
     printf(" 0x%03lx wait %lu\n", got.word, got.wait);
   undo(&got);
   NUMBER("a thread's tool data", word, get_tool_data(at->thread, ompd_scope_thread, &got.word, &got.address));
   TEXT("thread-num-var", get_icv_string_from_scope(at->thread, ompd_scope_thread, 13, &got.text));
+}
+
+/* Ids that four bytes have no room for. */
+static void wide_ids(const struct place *at)
+{
+  uint64_t wide = (5l << 32) + at->native;
+  unsigned char *word = NULL;
+  for (uint64_t address = SYMBOLS; !word; address += WORD)
+    if (bytes_at(&target, address) && word_of(&target, bytes_at(&target, address)) == at->native)
+      word = bytes_at(&target, address);
+  set_word(&target, word, wide);
+  NUMBER("a wide native id", native, get_thread_id(at->thread, 0, 8, &got.native));
+  NUMBER("in four bytes", native, get_thread_id(at->thread, 0, 4, &got.native));
+  CODE("thread by a wide id", get_thread_handle(at->space, 0, 8, &wide, &got.thread));
+  CODE("by its low four bytes", get_thread_handle(at->space, 0, 4, &wide, &got.thread));
+  set_word(&target, word, at->native);
 }
 
 static void of_the_task(const struct place *at)
@@ -144,13 +243,44 @@ static void of_the_task(const struct place *at)
   NUMBER("nthreads-var", word, get_icv_from_scope(at->task, ompd_scope_task, 2, &got.word));
   NUMBER("run-sched-var", word, get_icv_from_scope(at->task, ompd_scope_task, 3, &got.word));
   NUMBER("thread-num-var of a task", word, get_icv_from_scope(at->task, ompd_scope_task, 13, &got.word));
+  NUMBER("icv 0", word, get_icv_from_scope(at->task, ompd_scope_task, 0, &got.word));
+  NUMBER("icv 21", word, get_icv_from_scope(at->task, ompd_scope_task, 21, &got.word));
   NUMBER("icv 2^32 + 1", word, get_icv_from_scope(at->task, ompd_scope_task, (1l << 32) + 1, &got.word));
-  NUMBER("dyn-var, global", word, get_icv_from_scope(at->task, ompd_scope_global, 1, &got.word));
+  NUMBER("icv 2^32 + 17", word, get_icv_from_scope(at->task, ompd_scope_task, (1l << 32) + 17, &got.word));
+  NUMBER("dyn-var, global", word, get_icv_from_scope(at->space, ompd_scope_global, 1, &got.word));
   NUMBER("dyn-var, implicit", word, get_icv_from_scope(at->task, ompd_scope_implicit_task, 1, &got.word));
+  NUMBER("tool data, global", word, get_tool_data(at->space, ompd_scope_global, &got.word, &got.address));
+  NUMBER("tool data, implicit", word,
+         get_tool_data(at->task, ompd_scope_implicit_task, &got.word, &got.address));
   TEXT("nthreads-var", get_icv_string_from_scope(at->task, ompd_scope_task, 2, &got.text));
   TEXT("run-sched-var", get_icv_string_from_scope(at->task, ompd_scope_task, 3, &got.text));
+  TEXT("icv 2^32 + 1", get_icv_string_from_scope(at->task, ompd_scope_task, (1l << 32) + 1, &got.text));
+  TEXT("icv 0", get_icv_string_from_scope(at->task, ompd_scope_task, 0, &got.text));
+  TEXT("icv 21", get_icv_string_from_scope(at->task, ompd_scope_task, 21, &got.text));
+  TEXT("debug-var of a task", get_icv_string_from_scope(at->task, ompd_scope_task, 8, &got.text));
   TEXT("debug-var", get_icv_string_from_scope(at->space, ompd_scope_address_space, 8, &got.text));
   TEXT("team-size-var", get_icv_string_from_scope(at->region, ompd_scope_parallel, 12, &got.text));
+}
+
+/* Each of OMPD's own names stands for what another one does, in its scope alone. */
+static void other_names(const struct place *at)
+{
+  void *const handles[] = {NULL, NULL, at->space, at->thread, at->region, NULL, at->task};
+  const ompd_icv_id_t same[] = {9, 13, 12, 6, 5, 5, 6};
+  for (ompd_icv_id_t icv = 14; icv <= LAST_ICV; icv++)
+    for (ompd_scope_t scope = ompd_scope_address_space; scope <= ompd_scope_task; scope++)
+      if (handles[scope]) {
+        struct answer other;
+        clear_answer(&other);
+        ompd_rc_t rc = ompd.get_icv_from_scope(handles[scope], scope, same[icv - 14], &other.word);
+        EXPECT(ompd.get_icv_from_scope(handles[scope], scope, icv, &got.word) == rc);
+        EXPECT(got.word == other.word);
+        rc = ompd.get_icv_string_from_scope(handles[scope], scope, same[icv - 14], &other.text);
+        EXPECT(ompd.get_icv_string_from_scope(handles[scope], scope, icv, &got.text) == rc);
+        EXPECT(rc == ompd_rc_ok ? strcmp(got.text, other.text) == 0 : rc == ompd_rc_bad_input && is_clear(&got));
+        undo(&got);
+        undo(&other);
+      }
 }
 
 static void of_members(const struct place *at)
@@ -238,12 +368,15 @@ int main(int count, char **words)
   load(words[1]);
   clear_answer(&got);
   before_a_session();
+  initialized_again();
   ompd_address_space_handle_t *space = begin_session(&target, words[2], "nested.core");
   EXPECT(enter(&at, &target, space, 1000));
   openings();
   of_the_space(&at);
   of_the_thread(&at);
+  wide_ids(&at);
   of_the_task(&at);
+  other_names(&at);
   of_members(&at);
   reads(&at);
   at_a_later_stop(&at, words[2]);
