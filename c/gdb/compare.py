@@ -158,7 +158,7 @@ class Plugin(Said):
         self.head['version'] = sections['init'][0].rpartition(', target ')[2].split()[0]
         for command in COMMANDS:
             for line in sections[command]:
-                word, *rest = line.split()
+                word, *rest = line.removeprefix('* ').split(' (')[0].split()
                 read = getattr(self, f'read_{command}_{word}', None)
                 if read is None:
                     raise Failed(f'the plugin says: {line}')
@@ -173,9 +173,10 @@ class Plugin(Said):
 
     def read_threads_thread(self, rest):
         native, row = int(rest[0]), pairs(rest[1:])
-        if len(rest) == 2:
-            self.threads[native] = present(rest[1])
+        if len(rest) % 2 == 0:
+            self.threads[native] = present(rest[-1])
             return
+        row.pop('gdb', None)  # gdb's own number
         thread = self.threads[native] = {key: present(word) for key, word in row.items()}
         if thread['state'] == 'ompd_rc_needs_state_tracking':
             thread.update(state='untracked', wait='0')
@@ -196,7 +197,13 @@ class Plugin(Said):
         self.regions[self.last]['members'] = []
 
     def read_parallel_member(self, rest):
-        self.member(int(rest[2]) if rest[2].isdigit() else rest[2], rest[4])
+        native = int(rest[2]) if rest[2].isdigit() else rest[2]
+        self.member(native, rest[4])
+        for key, word in pairs(rest[5:]).items():
+            thread = self.threads[native]
+            told = thread.get(key) if isinstance(thread, dict) else None
+            if told != word and (told, word) != ('untracked', 'ompd_rc_needs_state_tracking'):
+                raise Failed(f'the plugin says {key} {told} of {native}, and {word} as a member')
 
     def read_task_thread(self, rest):
         if rest[1] == 'generating':
@@ -210,7 +217,7 @@ class Plugin(Said):
         self.tasks[rest[0]] = {'kind': kind, **{key: row.get(key) for key in TASK_WORDS}}
 
     def read_icvs_address_space(self, rest):
-        row = values(rest)
+        row = self.own(values(rest))
         self.head.update(debug=row['debug-var'], **{key: row[key] for key in HEAD})
 
     def read_icvs_thread(self, rest):
@@ -220,12 +227,20 @@ class Plugin(Said):
         self.agree(self.regions[rest[0]], rest[1:])
 
     def read_icvs_task(self, rest):
-        self.variables[rest[0]] = values(rest[1:])
+        self.variables[rest[0]] = self.own(values(rest[1:]))
 
     @staticmethod
-    def agree(row, line):
+    def own(row):
+        """The variables but for OMPD's second names, whose values have to be those of the first."""
+        for name in [name for name in row if name.startswith('ompd-')]:
+            value, first = row.pop(name), name.removeprefix('ompd-')
+            if value != row.get(first, row.get(first.replace('-var', '-task-var'))):
+                raise Failed(f'the plugin says {name} {value}, and else of {first}')
+        return row
+
+    def agree(self, row, line):
         """What `icvs` says has to be what another command said."""
-        for name, value in values(line).items():
+        for name, value in self.own(values(line)).items():
             if row[name] != present(value):
                 raise Failed(f'the plugin says {name} {row[name]}, and {value} among the variables')
 

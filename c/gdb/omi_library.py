@@ -7,7 +7,7 @@ from ctypes import (CFUNCTYPE, POINTER, byref, c_char_p, c_int, c_int64, c_size_
                     c_uint64, c_void_p)
 
 API_VERSION = 201811
-NATIVE_KIND = 0  # the kind of the system's thread ids, of eight bytes
+NATIVE_KIND = 1  # the kind of ids that are the system's, by Linux (LWP): of eight bytes
 BEFORE_STATES, BEFORE_VARIABLES = 0x102, 0  # where the enumerations begin
 ADDRESS_SPACE, THREAD, PARALLEL, TASK = 2, 3, 4, 6  # scopes
 
@@ -18,15 +18,18 @@ CODES = {name: code for code, name in enumerate(RETURN_CODES)}
 
 
 class Refusal(Exception):
-    """A return code that isn't ok, and the call that answered it."""
+    """A return code that isn't ok, the call that answered it, and why, where that is known."""
 
     def __init__(self, code, call=''):
         super().__init__(code)
-        self.code, self.call = code, call
+        self.code, self.call, self.reason = code, call, ''
 
     def __str__(self):
         known = 0 <= self.code < len(RETURN_CODES)
         return f'ompd_rc_{RETURN_CODES[self.code] if known else self.code}'
+
+    def sentence(self):
+        return f'{self.call}: {self}' + (f': {self.reason}' if self.reason else '')
 
 
 def refuse(name):
@@ -175,6 +178,9 @@ class Library:
         for name, arguments in CALLS.items():
             call = getattr(self.loaded, f'ompd_{name}')
             call.argtypes, call.restype = arguments, c_int
+        self.reasons = getattr(self.loaded, 'omi_reason', None)  # a call of this project's library
+        if self.reasons:
+            self.reasons.argtypes, self.reasons.restype = (), c_char_p
         self.failures = []
         self.callbacks = Callbacks(*(kind(self.guarded(name))
                                      for name, kind in Callbacks._fields_))
@@ -203,6 +209,10 @@ class Library:
         if code != CODES['ok']:
             raise Refusal(code, f'ompd_{name}')
 
+    def reason(self):
+        """Why the library opened no session, where it says so."""
+        return self.reasons().decode() if self.reasons else ''
+
     def number(self, name, *arguments):
         number = c_int64()
         self.call(name, *arguments, byref(number))
@@ -230,7 +240,9 @@ class Session:
         try:
             self.space = c_void_p()
             library.call('process_initialize', c_void_p(1), byref(self.space))
-        except BaseException:
+        except BaseException as failure:
+            if is_refused(failure):
+                failure.reason = library.reason()
             self.end('finalize')
             raise
 
@@ -354,3 +366,11 @@ class Session:
 
     def variable_text(self, place, scope, variable):
         return self.library.text('get_icv_string_from_scope', place, scope, variable)
+
+    def variable_value(self, place, scope, variable):
+        """The value as a text. Not every library has one of each variable: else as a number."""
+        text = ask(self.variable_text, place, scope, variable)
+        if not is_refused(text) or text.code in (CODES['unavailable'], CODES['stale_handle']):
+            return text
+        number = ask(self.variable_number, place, scope, variable)
+        return text if is_refused(number) else str(number)

@@ -1,5 +1,6 @@
 """gdb's target as an OMPD library sees it: the callbacks, and the native ids of the threads."""
 
+import contextlib
 import ctypes
 import mmap
 import re
@@ -10,10 +11,10 @@ import gdb
 import omi_library as ompd
 
 SYMBOL_TABLE = 0x10000  # a count, and for each symbol four words of the name and its address
-MOST_SYMBOLS, WORD = 16, 8
+MOST_SYMBOLS, WORD, LONGEST_NAME, MOST_LIBRARIES = 16, 8, 4096, 64
 RUNTIME_IDS = range(1000, 1064)  # thread i of this project's runtime has the id 1000 + i
 NO_MACHINE = 0
-SIZES = {'char': 1, 'short': 2, 'int': 4, 'long': 8, 'long long': 8, 'pointer': 8}
+ID_KINDS, ID_TYPES = (0, 1), {4: ctypes.c_uint32, 8: ctypes.c_uint64}
 
 
 def core_name():
@@ -21,6 +22,31 @@ def core_name():
     found = re.search(r"core dump file:\s+`(.*)', file type",
                       gdb.execute('info files', to_string=True))
     return found and found[1]
+
+
+@contextlib.contextmanager
+def expressions_in_c():
+    """Lets gdb read expressions as C's, whatever language the program is in."""
+    language = gdb.parameter('language')
+    gdb.execute('set language c', to_string=True)
+    try:
+        yield
+    finally:
+        gdb.execute(f'set language {language}', to_string=True)
+
+
+@contextlib.contextmanager
+def thread_selected(number):
+    """Lets gdb look at a thread by its native id, which 0 leaves as it is."""
+    selected = gdb.selected_thread()
+    for thread in gdb.selected_inferior().threads():
+        if number and number in thread.ptid:
+            thread.switch()
+    try:
+        yield
+    finally:
+        if selected is not None and selected.is_valid():
+            selected.switch()
 
 
 class CoreFile:
@@ -61,9 +87,16 @@ class Target:
         self.identity = identity()
         self.inferior = gdb.selected_inferior()
         core = core_name()
+        if not self.inferior.pid and not core:
+            raise gdb.GdbError('no target: run a program, attach to a process or open a core file')
         self.core = core and CoreFile(core)
-        low_first = int(gdb.Value(b'\1\0', gdb.lookup_type('short'))) == 1
+        self.architecture = self.inferior.architecture()
+        low_first = int(gdb.Value(b'\1\0', self.integer(2))) == 1
         self.order = 'little' if low_first else 'big'
+
+    def integer(self, size):
+        """gdb's type of the integers of so many bytes, which each language has by another name."""
+        return self.architecture.integer_type(8 * size, True)
 
     def read(self, address, count):
         """Bytes of the target; refused where one of them isn't mapped."""
@@ -74,6 +107,16 @@ class Target:
 
     def word(self, address):
         return int.from_bytes(self.read(address, WORD), self.order)
+
+    def text(self, address):
+        """The bytes in front of the first zero byte."""
+        text = bytearray()
+        while len(text) < LONGEST_NAME:
+            byte = self.read(address + len(text), 1)
+            if byte == b'\0':
+                return bytes(text)
+            text += byte
+        ompd.refuse('incomplete')
 
     def symbol(self, name):
         """The address of a symbol of gdb's, or else of the table among the target's words."""
@@ -92,15 +135,28 @@ class Target:
                 return address
         ompd.refuse('unavailable')
 
+    def libraries(self):
+        """The names of OMPD libraries that the target's runtime gives; none where it gives none."""
+        try:
+            at = self.word(self.symbol('ompd_dll_locations'))
+            names = []
+            while at and len(names) < MOST_LIBRARIES and (name := self.word(at)):
+                names.append(self.text(name).decode(errors='surrogateescape'))
+                at += WORD
+            return names
+        except ompd.Refusal:
+            return []
+
     def thread_ids(self):
-        """The system's ids of the threads that gdb has."""
-        return sorted(thread.ptid[1] for thread in self.inferior.threads() if thread.ptid[1])
+        """The system's ids of the threads that gdb has, with gdb's own numbers for them."""
+        return {thread.ptid[1]: thread.num for thread in
+                sorted(self.inferior.threads(), key=lambda thread: thread.num) if thread.ptid[1]}
 
     def native_ids(self, session):
         """Whose ids these are, and the ids: of gdb's threads, where one is a thread of OpenMP; else
         of the core's note; else those that this project's runtime gives, as far as they are
         known."""
-        ids = self.thread_ids()
+        ids = list(self.thread_ids())
         if any(not ompd.is_refused(ompd.ask(session.thread, native)) for native in ids):
             return "gdb's threads", ids
         if self.core and self.core.ids:
@@ -116,18 +172,19 @@ class Target:
         gdb.write(text.decode(errors='backslashreplace'))
 
     def sizeof_type(self, context, sizes):
-        for (field, _), name in zip(ompd.Sizes._fields_, SIZES):
-            setattr(sizes[0], field, self.size_of(name))
+        """C's types, of which long has the size of a pointer."""
+        pointer = self.pointer_size()
+        for (field, _), size in zip(ompd.Sizes._fields_, (1, 2, 4, pointer, 8, pointer)):
+            setattr(sizes[0], field, size)
 
-    def size_of(self, name):
+    def pointer_size(self):
         if self.core and self.core.machine == NO_MACHINE:
-            return SIZES[name]  # gdb takes a machine of its own for such a core
-        if name == 'pointer':
-            return gdb.lookup_type('char').pointer().sizeof
-        return gdb.lookup_type(name).sizeof
+            return WORD  # gdb takes a machine of its own for such a core
+        return self.integer(1).pointer().sizeof
 
     def symbol_addr_lookup(self, context, thread, name, found, file):
-        found[0] = ompd.Address(0, self.symbol(name.decode()))
+        with thread_selected(thread):
+            found[0] = ompd.Address(0, self.symbol(name.decode()))
 
     def read_memory(self, context, thread, place, count, buffer):
         if place[0].segment:
@@ -154,11 +211,11 @@ class Target:
     host_to_device = device_to_host
 
     def get_thread_context_for_thread_id(self, context, kind, size, thread_id, found):
-        if kind != ompd.NATIVE_KIND:
+        if kind not in ID_KINDS:
             ompd.refuse('unsupported')
-        if size != WORD:
+        if size not in ID_TYPES:
             ompd.refuse('bad_input')
-        native = ctypes.c_uint64.from_address(thread_id).value
+        native = ID_TYPES[size].from_address(thread_id).value
         if native not in self.thread_ids():
             ompd.refuse('unavailable')
         found[0] = native
