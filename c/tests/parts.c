@@ -73,6 +73,8 @@ static void asking(struct target *target)
   EXPECT(!__wrap_malloc(8));
   EXPECT(!needs_word(&words, OMI_NEEDS_WORD, SYMBOLS + WORD) && words.rc == ompd_rc_incomplete);
   EXPECT(!words.answered && words.count == 2 && code_of(ompd_rc_nomem) == ompd_rc_nomem);
+  watch_calls(1, ompd_rc_unavailable);
+  EXPECT(!__wrap_malloc(8) && code_of(OMI_OK) == ompd_rc_unavailable && code_of(OMI_OK) == ompd_rc_ok);
 }
 
 static bool is_filled(const unsigned char *block, size_t size, int byte)

@@ -64,6 +64,10 @@ def why_no_session():
                            ('omi_layout[5] = 0', 'ompd_rc_error: the layout table is damaged')):
         test(change, (*AT_STOP, f'set var {change}', 'ompd init'), (reason,))
     test('no library', (*AT_STOP, 'ompd init /no/such.so', f'ompd init {PLUGIN}'), ('^/no/such.so: ', 'invalid ELF header'))
+    with tempfile.TemporaryDirectory() as folder:
+        program = shutil.copy(mapped('')[0], folder)
+        os.chmod(program, 0o644)
+        test('an error of gdb', ('ompd init',), ('^During startup program exited|^[^ ]+: Permission denied|cannot be run',), program=(program,))
     test('too many words', ('ompd init a b', 'ompd bt all'), ('^too many words: a b$', '^too many words: all$'))
     test('another target', (*AT_STOP, 'ompd init', 'kill', 'ompd threads'), ('^another target than at `ompd init`',))
 

@@ -84,6 +84,8 @@ static void initialized_again(void)
   other.host_to_device = callbacks.device_to_host;
   EXPECT(ompd.initialize(201811, &given) == ompd_rc_ok);
   memset(&given, 0, sizeof given);
+  EXPECT(ompd.process_initialize((ompd_address_space_context_t *)&target, &got.space) == ompd_rc_ok);
+  undo(&got);
   CODE("initialize again", initialize(201811, &callbacks));
   CODE("with another table", initialize(201811, &other));
   CODE("without a table", initialize(201811, NULL));
@@ -142,6 +144,9 @@ static void openings(void)
   printf("  %s\n", ompd.reason());
   watch_calls(3, ompd_rc_bad_input);
   say("words that it can't read", ompd.process_initialize((ompd_address_space_context_t *)&target, &got.space));
+  printf("  %s\n", ompd.reason());
+  watch_calls(3, ompd_rc_error);
+  say("words that it has not", ompd.process_initialize((ompd_address_space_context_t *)&target, &got.space));
   printf("  %s\n", ompd.reason());
   watch_calls(115, ompd_rc_unsupported);
   say("memory that it doesn't give", ompd.process_initialize((ompd_address_space_context_t *)&target, &got.space));
@@ -368,7 +373,9 @@ int main(int count, char **words)
   load(words[1]);
   clear_answer(&got);
   before_a_session();
+  open_target(&target, words[2], "nested.core");
   initialized_again();
+  close_target(&target);
   ompd_address_space_handle_t *space = begin_session(&target, words[2], "nested.core");
   EXPECT(enter(&at, &target, space, 1000));
   openings();
