@@ -32,8 +32,8 @@ static void spell(const struct displayed *variable, char *value)
     strcpy(value, "false");
   if (variable->variable == DYN_VAR && strcmp(value, "1") == 0)
     strcpy(value, "true");
-  char *chunk = strstr(value, ",0");
-  if (variable->variable == RUN_SCHED_VAR && chunk && chunk[2] == 0)
+  char *chunk = strstr(value, ",0"); /* no other number begins with 0 */
+  if (variable->variable == RUN_SCHED_VAR && chunk)
     *chunk = 0;
 }
 
@@ -102,9 +102,9 @@ ompd_rc_t ompd_get_display_control_vars(
   return ompd_rc_ok;
 }
 
-/* A list that was released is none. */
+/* A list that was released is none, and neither is any when the library isn't initialized. */
 ompd_rc_t ompd_rel_display_control_vars(const char *const **control_vars)
 {
   ENTER;
-  return debugger && control_vars && *control_vars ? give_back(*control_vars) : ompd_rc_bad_input;
+  return control_vars && *control_vars ? give_back(*control_vars) : ompd_rc_bad_input;
 }

@@ -190,6 +190,22 @@ static bool are_texts(const char *const *list)
   return !list[count];
 }
 
+/* Before the initial task is made, and behind its end, the variables that it would have are left out. */
+static void without_initial_task(const struct held *held)
+{
+  unsigned char *life = bytes_at(&target, layout_word(&target, 9) + WORD * layout_word(&target, 11 + 25));
+  uint64_t kept = word_of(&target, life);
+  const uint64_t others[] = {0, kept + 1, UINT64_MAX};
+  for (size_t place = 0; place < sizeof others / sizeof *others; place++) {
+    const char *const *list;
+    set_word(&target, life, others[place]);
+    EXPECT(ompd.get_display_control_vars(held->at.space, &list) == ompd_rc_ok);
+    EXPECT(strcmp(list[0], "OMP_DEBUG=enabled") == 0 && strcmp(list[1], "OMP_MAX_ACTIVE_LEVELS=8") == 0);
+    EXPECT(!list[2] && ompd.rel_display_control_vars(&list) == ompd_rc_ok);
+  }
+  set_word(&target, life, kept);
+}
+
 /* A list lives until it is released, whatever becomes of its space, and is released once. */
 static void lists(void)
 {
@@ -202,6 +218,7 @@ static void lists(void)
   EXPECT(write_over_stack() == '=' && are_texts(list) && are_texts(other));
   EXPECT(ompd.rel_display_control_vars(&list) == ompd_rc_ok);
   EXPECT(ompd.rel_display_control_vars(&copy) == ompd_rc_bad_input && are_texts(other));
+  without_initial_task(&held);
   let_go(&held, SPACE);
   copy = none;
   EXPECT(ompd.rel_display_control_vars(&copy) == ompd_rc_bad_input && are_texts(other));
