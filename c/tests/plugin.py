@@ -174,11 +174,35 @@ def other_library():
           '^task k1 dyn-var=0 nthreads-var=2 run-sched-var=ompd_rc_unsupported default-device-var=0'))
 
 
+def real_program():
+    """A program of clang's on LLVM's runtime, whose records the tool publishes."""
+    tool = os.environ.get('OMI_TOOL', os.path.join(C, 'tool/out/libomi_tool.so'))
+    if not os.path.exists(tool) or not shutil.which('clang-19'):
+        print(f'plugin: not tried over a real program, for {tool} or clang-19 is missing')
+        return
+    preloaded = (f'set environment LD_PRELOAD {tool}', f'set environment OMI_LIBRARY {LIBRARY}', 'set breakpoint pending on')
+    with tempfile.TemporaryDirectory() as folder:
+        program = os.path.join(folder, 'nested')
+        built = subprocess.run(['clang-19', '-g', '-O0', '-fopenmp', '-o', program, os.path.join(C, 'tests/nested.c')], capture_output=True, text=True)
+        if built.returncode:
+            print(f'plugin: not tried over a real program, for clang-19 fails: {built.stderr}')
+            return
+        test('a real program', (*preloaded, 'break at_stop', 'run', 'ompd init', 'ompd threads', 'ompd parallel', 'ompd tree', 'ompd close'),
+             ('^library omi', r'^\* thread \d+ gdb 1 state work_parallel wait 0 thread-num-var 0 task k1 region r1$', r'^  thread \d+ gdb 2 ',
+              r'^region r1 levels-var=2 active-levels-var=2 team-size-var=3 enclosing r2$', r'^  member 0 thread \d+ task k1 state work_parallel',
+              r'^  member 1 thread', r'^region r2 levels-var=1 active-levels-var=1 team-size-var=2 enclosing r3$', '^region r3 levels-var=0',
+              r'^  task k3 member 0', r'^    region r2', r'^      task k2 member 0 .*main at .*nested.c:', r'^        region r1',
+              r'^          task k1 member 0 thread \d+ gdb 1 current state work_parallel'), program=(program,))
+        test('its stack', (*preloaded, 'break at_stop', 'run', 'ompd init', 'ompd bt'),
+             ('^task k1 region r1', r'^#0 .* in at_stop at ', r'^#\d+ .* in inner.omp_outlined', '^task k2 region r2', r'^#\d+ .* in inner at ',
+              r'^#\d+ .* in main.omp_outlined', '^task k3 region r3', r'^#\d+ .* in main at '), ('__kmp', 'libomp'), program=(program,))
+
+
 def main():
     if not shutil.which('gdb'):
         print('plugin: not tried, for gdb is missing')
         return 0
-    for part in (why_no_session, finding_the_library, languages, what_is_told, stacks, loading, cores, other_library):
+    for part in (why_no_session, finding_the_library, languages, what_is_told, stacks, loading, cores, other_library, real_program):
         part()
     for failure in failed:
         print(f'plugin: {failure}')
