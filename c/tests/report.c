@@ -297,5 +297,7 @@ int main(int count, char **words)
   compare_report(words[2], "tasks");
   compare_report(words[2], "untracked");
   compare_report(words[2], "sixty_four");
+  compare_report(words[2], "reuse");
+  compare_report(words[2], "groups");
   return 0;
 }

@@ -56,7 +56,8 @@ const struct trial trials[] = {
 };
 const size_t trial_count = sizeof trials / sizeof *trials;
 
-const char *const cores[] = {"nested.core", "later.core", "tasks.core", "untracked.core", "sixty_four.core"};
+const char *const cores[] = {"nested.core", "later.core", "tasks.core", "untracked.core", "sixty_four.core",
+                             "reuse.core", "groups.core"};
 const size_t core_count = sizeof cores / sizeof *cores;
 
 void clear_answer(struct answer *got)

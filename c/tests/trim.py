@@ -9,6 +9,8 @@ data/ are those of
     stop 618 data/tasks.omp --layout 7    tasks.core, of order 1
     stop 1 data/untracked.omp --layout 2    untracked.core
     stop 700 examples/sixty_four.omp    sixty_four.core
+    stop 1675 data/reuse.omp --layout 12    reuse.core
+    stop 1650 data/reuse.omp    groups.core, of order 1
 
 and the reports beside them what `ompdi show` prints of them."""
 import struct
