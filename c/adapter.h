@@ -1,4 +1,5 @@
-/* What the files of the adapter share. No name of it leaves the library but those of omp-tools.h and omi_reason.h. */
+/* What the files of the adapter share. No name of it leaves the library but those of omp-tools.h and
+ * omi_reason.h. */
 #ifndef ADAPTER_H
 #define ADAPTER_H
 
@@ -124,8 +125,8 @@ ompd_rc_t resolve(const void *handle, ompd_scope_t kind, bool others, struct han
 /* The code for a handle that stands for nothing. */
 ompd_rc_t no_handle(void);
 
-/* Makes a handle of an object that was found from another one in its address space. `to` points to a pointer to
- * such a handle. */
+/* Makes a handle of an object that was found from another one in its address space. `to` points to a pointer
+ * to such a handle. */
 ompd_rc_t make_handle(const struct handle *from, ompd_scope_t kind, omi_object object, void *to);
 
 /* Makes a handle of an address space, which is given back where there is none. */

@@ -1,8 +1,8 @@
 /* Handles: making, releasing and comparing them.
  *
- * A handle is a token, and no address of anything that it stands for: the number of a place, and how often that
- * place was given. So no handle is given twice, and one that is over is told from each other one. The places
- * are the library's own memory, which is never given back. */
+ * A handle is a token, and no address of anything that it stands for: the number of a place, and how often
+ * that place was given. So no handle is given twice, and one that is over is told from each other one. The
+ * places are the library's own memory, which is never given back. */
 #include "adapter.h"
 
 #include <string.h>
@@ -12,8 +12,8 @@ enum { MOST_PLACES = 1 << 16, PLACE_BYTES = 64, SERIAL_BITS = 22, MOST_SERIAL = 
 /* No handle is of this scope, so it is the kind at a place that isn't given. */
 #define RELEASED 0
 
-/* A place is given for an object in an address space, which is there as long as the handle of the space, or for
- * an address space, which is there until it is released or its session ends. */
+/* A place is given for an object in an address space, which is there as long as the handle of the space, or
+ * for an address space, which is there until it is released or its session ends. */
 struct place {
   _Alignas(PLACE_BYTES) ompd_scope_t kind;
   uint32_t serial;

@@ -39,8 +39,8 @@ static ompd_rc_t give_member(
   return give(&words, kind, found.object, to);
 }
 
-/* Native ids are numbers of four or eight bytes in the host's order. The kinds that there are mean the same ids:
- * the target has one for each thread. */
+/* Native ids are numbers of four or eight bytes in the host's order. The kinds that there are mean the same
+ * ids: the target has one for each thread. */
 static ompd_rc_t judge_id(ompd_thread_id_t kind, ompd_size_t size)
 {
   if (kind != OMPD_THREAD_ID_PTHREAD && kind != OMPD_THREAD_ID_LWP)

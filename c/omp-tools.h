@@ -33,8 +33,8 @@ typedef enum ompd_scope_t {
   ompd_scope_task = 6
 } ompd_scope_t;
 
-/* The kinds of native ids of threads that this library takes: the id of a thread of POSIX, and that of a thread
- * of Linux. OpenMP leaves their numbers to the tools; these are LLVM's. */
+/* The kinds of native ids of threads that this library takes: the id of a thread of POSIX, and that of a
+ * thread of Linux. OpenMP leaves their numbers to the tools; these are LLVM's. */
 enum { OMPD_THREAD_ID_PTHREAD = 0, OMPD_THREAD_ID_LWP = 1 };
 
 /* OpenMP 5.0 has the codes up to 10, and 5.1 has all. Incomplete comes with the first number of a list of

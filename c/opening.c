@@ -32,7 +32,7 @@ static ompd_rc_t look_up(ompd_address_space_context_t *context, ompd_address_t *
   if (rc == ompd_rc_ok)
     return rc;
   if (rc == ompd_rc_unavailable || rc == ompd_rc_error)
-    return refuse(ompd_rc_incompatible, "the target has no symbol omi_layout, so no runtime publishes records there");
+    return refuse(ompd_rc_incompatible, "the target has no symbol omi_layout: no runtime publishes records");
   return refuse(rc, "the debugger's callback symbol_addr_lookup failed");
 }
 

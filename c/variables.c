@@ -6,8 +6,8 @@
 /* The variables of the proved library have the numbers from 1 on. */
 enum { OWN_VARIABLES = 13 };
 
-/* OMPD's own names for some of these, which have the numbers behind them. The last two are what LLVM's library
- * calls besides what OpenMP 5.0 calls ompd-final-var and ompd-implicit-var. */
+/* OMPD's own names for some of these, which have the numbers behind them. The last two are what LLVM's
+ * library calls besides what OpenMP 5.0 calls ompd-final-var and ompd-implicit-var. */
 static const struct alias {
   const char *name;
   ompd_scope_t scope;
@@ -59,9 +59,10 @@ static omi_entry next_icv(const struct space *space, ompd_icv_id_t current, uint
   omi_entry entry;
   uint64_t index = current - OWN_VARIABLES;
   if (index < ALIASES) {
-    entry = (omi_entry){.next = (uint32_t)current + 1, .scope = aliases[index].scope, .more = index + 1 < ALIASES};
-    entry.length = strlen(aliases[index].name);
-    memcpy(name, aliases[index].name, entry.length);
+    const struct alias *alias = aliases + index;
+    entry = (omi_entry){.next = (uint32_t)current + 1, .scope = alias->scope, .more = index + 1 < ALIASES};
+    entry.length = strlen(alias->name);
+    memcpy(name, alias->name, entry.length);
   } else {
     entry = omi_next_icv(TABLE(space), narrowed(current), name, TEXT_ROOM);
     entry.more = true;
@@ -93,8 +94,8 @@ ompd_rc_t ompd_enumerate_icvs(
   return rc;
 }
 
-/* What the handle of a scope stands for. No variable is global or of an implicit task alone, but their handles
- * are those of address spaces and tasks. */
+/* What the handle of a scope stands for. No variable is global or of an implicit task alone, but their
+ * handles are those of address spaces and tasks. */
 static ompd_rc_t resolve_scoped(const void *handle, ompd_scope_t scope, bool others, struct handle *of)
 {
   switch (scope) {
@@ -112,7 +113,8 @@ static ompd_rc_t resolve_scoped(const void *handle, ompd_scope_t scope, bool oth
   }
 }
 
-/* A variable that there isn't, or not in the scope, is bad input. The proved library says that it is unsupported. */
+/* A variable that there isn't, or not in the scope, is bad input. The proved library says that it is
+ * unsupported. */
 static ompd_rc_t variable_code(const struct words *words)
 {
   return words->answered && words->rc == ompd_rc_unsupported ? ompd_rc_bad_input : words->rc;

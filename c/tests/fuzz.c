@@ -111,8 +111,8 @@ static void go_to(struct place *at, struct answer *got)
 #undef GO_TO
 }
 
-/* What is no handle of a kind that is asked for: one of another kind, one that was released, another number, an
- * address. */
+/* What is no handle of a kind that is asked for: one of another kind, one that was released, another number,
+ * an address. */
 static void *forged(const struct place *at, const void *handle, void *released)
 {
   switch (draw(5)) {
@@ -139,10 +139,11 @@ static void forge(const struct place *at, void *released)
   asked.region = forged(at, at->region, released);
   asked.task = forged(at, at->task, released);
   static const char *const by_handle[] = {
-    "thread_in_parallel", "thread_id", "thread_compare", "curr_parallel", "enclosing_parallel", "task_parallel",
-    "parallel_compare", "curr_task", "generating_task", "scheduling_task", "task_in_parallel", "task_compare",
-    "task_function", "task_frame", "state", "thread_icv", "region_icv", "task_icv", "thread_icv_text",
-    "region_icv_text", "task_icv_text", "thread_tool", "region_tool", "task_tool"};
+    "thread_in_parallel", "thread_id", "thread_compare", "curr_parallel", "enclosing_parallel",
+    "task_parallel", "parallel_compare", "curr_task", "generating_task", "scheduling_task",
+    "task_in_parallel", "task_compare", "task_function", "task_frame", "state", "thread_icv", "region_icv",
+    "task_icv", "thread_icv_text", "region_icv_text", "task_icv_text", "thread_tool", "region_tool",
+    "task_tool"};
   const struct trial *trial = trials;
   const char *name = by_handle[draw(sizeof by_handle / sizeof *by_handle)];
   while (strcmp(trial->name, name))

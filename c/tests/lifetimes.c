@@ -1,8 +1,8 @@
 /* Until when handles and lists stand for something: lifetimes LIBRARY OTHER FOLDER.
  *
- * OTHER is a copy of the library. Every order of three releases, two address spaces, two sessions, two libraries
- * that are loaded at once, and records whose life words change between two calls. Where this is built with
- * checks of memory, no freed memory is read. */
+ * OTHER is a copy of the library. Every order of three releases, two address spaces, two sessions, two
+ * libraries that are loaded at once, and records whose life words change between two calls. Where this is
+ * built with checks of memory, no freed memory is read. */
 #include "trials.h"
 
 #include <stdio.h>
@@ -181,8 +181,8 @@ static int write_over_stack(void)
 static bool are_texts(const char *const *list)
 {
   static const char *const texts[] = {
-    "OMP_DEBUG=enabled", "OMP_MAX_ACTIVE_LEVELS=8", "OMP_DYNAMIC=false", "OMP_NUM_THREADS=2,2", "OMP_SCHEDULE=static",
-    "OMP_DEFAULT_DEVICE=0"};
+    "OMP_DEBUG=enabled", "OMP_MAX_ACTIVE_LEVELS=8", "OMP_DYNAMIC=false", "OMP_NUM_THREADS=2,2",
+    "OMP_SCHEDULE=static", "OMP_DEFAULT_DEVICE=0"};
   size_t count = sizeof texts / sizeof *texts;
   for (size_t place = 0; place < count; place++)
     if (!list[place] || strcmp(list[place], texts[place]))
@@ -232,8 +232,8 @@ static void lists(void)
   end();
 }
 
-/* Adds to the life word of each live record of a kind, as if its record had been used before. `place` is that of
- * the kind in the layout table, and `life` the number of the field. */
+/* Adds to the life word of each live record of a kind, as if its record had been used before. `place` is that
+ * of the kind in the layout table, and `life` the number of the field. */
 static void use_again(size_t place, size_t life, uint64_t more)
 {
   uint64_t first = layout_word(&target, place), size = WORD * layout_word(&target, place + 1);
@@ -251,7 +251,8 @@ static void change_life(const struct held *held, int kind)
   EXPECT(ask(held, kind) == ompd_rc_ok);
   unsigned char *life = bytes_at(&target, watch.first_read);
   uint64_t kept = word_of(&target, life);
-  const uint64_t others[] = {kept + 1, kept - 1, kept + 2, kept - 2, kept ^ 4, 0, 1, 3, kept + (1l << 32), UINT64_MAX};
+  const uint64_t others[] = {
+    kept + 1, kept - 1, kept + 2, kept - 2, kept ^ 4, 0, 1, 3, kept + (1l << 32), UINT64_MAX};
   for (size_t place = 0; place < sizeof others / sizeof *others; place++)
     if (others[place] != kept) {
       set_word(&target, life, others[place]);

@@ -1,9 +1,10 @@
 /* A live program that is in the state of a core: mapped FOLDER CORE [LIBRARY].
  *
- * It maps the core's words at their own addresses, and has a thread for each one of the core that has begun, whose
- * id is put into the word `native`. A thread runs the functions of the tasks on its chain, each inside of the one that
- * was left for it, and the frames of the tasks are those of these calls. So a debugger finds a runtime with the symbols
- * of OMPD and omi's layout table, whose threads, tasks and stacks are there. At last it calls `stopped`, and ends. */
+ * It maps the core's words at their own addresses, and has a thread for each one of the core that has begun,
+ * whose id is put into the word `native`. A thread runs the functions of the tasks on its chain, each inside
+ * of the one that was left for it, and the frames of the tasks are those of these calls. So a debugger finds
+ * a runtime with the symbols of OMPD and omi's layout table, whose threads, tasks and stacks are there. At
+ * last it calls `stopped`, and ends. */
 #define _GNU_SOURCE
 
 #include "target.h"
@@ -25,7 +26,8 @@ enum { TABLE_WORDS = 56, THREADS = 3, REGIONS = 6, TASKS = 9, PAGE = 4096, MOST_
 #define FIRST_FUNCTION 0x400000
 #define FUNCTION_BYTES 16
 
-/* What OMPD asks of a runtime. Debuggers stop at these functions, so none is folded into another or left out. */
+/* What OMPD asks of a runtime. Debuggers stop at these functions, so none is folded into another or left out.
+ * */
 #define BREAKPOINT(name) \
   __attribute__((noinline)) void name(void) { __asm__ volatile("" ::"r"(name)); }
 BREAKPOINT(ompd_dll_locations_valid)

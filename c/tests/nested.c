@@ -1,4 +1,5 @@
-/* A real program, for debuggers: a team of three in a member of a team of two, built by a compiler with OpenMP. */
+/* A real program, for debuggers: a team of three in a member of a team of two, built by a compiler with
+ * OpenMP. */
 #include <omp.h>
 
 static volatile int sum;

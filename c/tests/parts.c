@@ -1,5 +1,5 @@
-/* Tests parts of the adapter by themselves: how the known words grow by which an inquiry is asked again, the heap
- * that the proved library gets, the blocks that the adapter keeps, and the places of handles. */
+/* Tests parts of the adapter by themselves: how the known words grow by which an inquiry is asked again, the
+ * heap that the proved library gets, the blocks that the adapter keeps, and the places of handles. */
 #include "adapter.h"
 #include "target.h"
 

@@ -120,8 +120,8 @@ static bool fails(enum callback callback)
   return true;
 }
 
-/* A block begins at each place in turn between two multiples of 16. The byte in front of it tells how far it is
- * from the memory that it lies in. A call that fails leaves what is no block. */
+/* A block begins at each place in turn between two multiples of 16. The byte in front of it tells how far it
+ * is from the memory that it lies in. A call that fails leaves what is no block. */
 static ompd_rc_t alloc_memory(ompd_size_t size, void **memory)
 {
   static unsigned char turn;

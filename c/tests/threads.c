@@ -1,6 +1,6 @@
 /* Two threads call the library at once: threads LIBRARY FOLDER. Each has an address space of its own and asks
- * as if it were alone; a third one opens and closes address spaces. No callback is called while another one is:
- * the debugger's are not made for that. */
+ * as if it were alone; a third one opens and closes address spaces. No callback is called while another one
+ * is: the debugger's are not made for that. */
 #define _POSIX_C_SOURCE 200809L
 
 #include "trials.h"
