@@ -88,6 +88,18 @@ typedef struct {
   uint64_t length;
 } omi_entry;
 
+/* The verdict on words: yes, where they show a well-formed state by the records of so many regions and tasks; or else the clause that fails
+ * first, from 1 to 8, with the byte address and the number of the field at which it fails (docs/AUDIT.md). */
+typedef struct {
+  uint32_t code;
+  uint64_t place;
+  bool yes;
+  uint64_t records;
+  uint64_t addr;
+  uint8_t field;
+  uint8_t clause;
+} omi_audited;
+
 #define OMI_WORDS const uint64_t *table, size_t table_words, const omi_known *known, size_t known_count
 
 /* Of the library itself. */
@@ -132,6 +144,12 @@ omi_text omi_openmp_text(const uint64_t *table, size_t table_words, uint8_t *to,
 /* Enumerations, behind the entry of a number; 258 (0x102) is before the first state, 0 before the first variable. */
 omi_entry omi_next_state(const uint64_t *table, size_t table_words, uint32_t current, uint8_t *to, size_t room);
 omi_entry omi_next_icv(const uint64_t *table, size_t table_words, uint32_t current, uint8_t *to, size_t room);
+
+/* The audit of a target's records, whose words stand one behind another from the byte address `start` on. No other word counts as mapped. */
+omi_audited omi_audit(const uint64_t *table, size_t table_words, uint64_t start, const uint64_t *words, size_t count);
+
+/* The text that names a field, by its number, and `layout` for 0. The code is that of bad input (3) where no field has the number. */
+omi_text omi_field_text(uint32_t field, uint8_t *to, size_t room);
 
 /* The order of two objects of a kind: by address, and then by life word. -1, 0 or 1. */
 int32_t omi_compare(omi_object a, omi_object b);

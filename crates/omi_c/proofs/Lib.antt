@@ -6,3 +6,4 @@ pub mod Made
 pub mod Scoping
 pub mod Scoped
 pub mod Entries
+pub mod RangeTells

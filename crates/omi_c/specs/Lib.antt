@@ -9,3 +9,5 @@ pub mod Scopes
 pub mod Initial
 pub mod Judged
 pub mod Order
+pub mod Range
+pub mod Audit

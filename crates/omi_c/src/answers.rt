@@ -86,3 +86,17 @@ pub struct Text {
     pub place: u64,
     pub length: u64,
 }
+
+/// The verdict on words: Yes, where so many records are reached, or the clause that fails first, from 1 to 8, with the byte address and the
+/// number of the field at which it fails.
+#[repr(C)]
+#[derive(Clone, Copy)]
+pub struct Audited {
+    pub code: u32,
+    pub place: u64,
+    pub yes: bool,
+    pub records: u64,
+    pub addr: u64,
+    pub field: u8,
+    pub clause: u8,
+}

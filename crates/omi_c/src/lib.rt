@@ -3,6 +3,7 @@
 #![tactic(auto)]
 
 mod answers;
+mod auditing;
 mod calls;
 mod closing;
 mod comparing;
@@ -12,6 +13,7 @@ mod initial;
 mod known;
 mod library;
 mod opening;
+mod range;
 mod regions;
 mod scopes;
 mod task_words;
