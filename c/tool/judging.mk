@@ -1,24 +1,52 @@
 # What judges the tool: a part of the Makefile.
 #
 #   make judge      the proved audit judges 5,000,000 stores of busy and 3,000,000 of edge, by each compiler, and those of a run of unrelated
+#   make truth      1,000 stops, by each compiler, of programs whose threads say what they know of themselves
+
+SAYING := tests/truth.c tests/speaking.c
+COMPARING := tests/stops.c tests/comparing.c tests/process.c stopped.c ../tests/library.c ../tests/target.c
+SAID_HEADERS := $(wildcard tests/*.h) stopped.h
+PLAIN_FLAGS := -std=c11 -Wall -Wextra -Werror -O2 -g
+LIBOMPD := ../out/libompd.so
+
+$(OUT)/stops: $(COMPARING) $(SAID_HEADERS)
+	mkdir -p $(OUT)
+	$(CC) $(PLAIN_FLAGS) -I.. -o $@ $(COMPARING) -ldl
+
+$(OUT)/tests/truth.clang: $(SAYING) $(SAID_HEADERS)
+	mkdir -p $(OUT)/tests
+	$(CLANG) $(PLAIN_FLAGS) -fopenmp -o $@ $(SAYING) -lpthread
+
+$(OUT)/tests/truth.gcc: $(SAYING) $(SAID_HEADERS)
+	mkdir -p $(OUT)/tests
+	$(GCC) $(PLAIN_FLAGS) -fopenmp -o $@ $(SAYING) -lpthread
+
+$(LIBOMPD): $(OMI_C)
+	$(MAKE) -C .. out/libompd.so
 
 JUDGED := $(OUT)/libomi_check.so $(OUT)/gomp/libgomp.so.1 $(foreach compiler,$(COMPILERS),$(patsubst %,$(OUT)/tests/%.$(compiler),busy edge unrelated))
+COMPARED := $(OUT)/libomi_tool.so $(OUT)/gomp/libgomp.so.1 $(OUT)/stops $(LIBOMPD) $(foreach compiler,$(COMPILERS),$(OUT)/tests/truth.$(compiler))
 GOMP := LD_LIBRARY_PATH=$(OUT)/gomp
 
-# judged STORES-OF-BUSY SECONDS-OF-BUSY STORES-OF-EDGE, by all compilers
+# judged STORES-OF-BUSY SECONDS-OF-BUSY STORES-OF-EDGE and compared STOPS, by all compilers
 judged = $(foreach compiler,$(COMPILERS),$(GOMP) tests/judge $(OUT)/libomi_check.so $(1) $(OUT)/tests/busy.$(compiler) $(2) &&) \
   $(foreach compiler,$(COMPILERS),$(GOMP) OMP_CANCELLATION=true tests/judge $(OUT)/libomi_check.so $(3) $(OUT)/tests/edge.$(compiler) &&) true
 unrelated = $(foreach compiler,$(COMPILERS),$(GOMP) tests/judge $(OUT)/libomi_check.so 1 $(OUT)/tests/unrelated.$(compiler) $(1) &&) true
+compared = $(foreach compiler,$(COMPILERS),$(GOMP) $(OUT)/stops $(LIBOMPD) $(OUT)/libomi_tool.so $(1) $(OUT)/tests/truth.$(compiler) &&) true
 
 judge: $(JUDGED)
 	$(call judged,5000000,10,3000000)
 	$(call unrelated,30)
+
+truth: $(COMPARED)
+	$(call compared,1000)
 
 # The share of `make test`.
 judge-some: $(JUDGED)
 	$(call judged,200000,2,200000)
 	$(call unrelated,2)
 
-truth-some:
+truth-some: $(COMPARED)
+	$(call compared,40)
 
-.PHONY: judge judge-some truth-some
+.PHONY: judge truth judge-some truth-some
