@@ -2,6 +2,7 @@
 #
 #   make judge      the proved audit judges 5,000,000 stores of busy and 3,000,000 of edge, by each compiler, and those of a run of unrelated
 #   make truth      1,000 stops, by each compiler, of programs whose threads say what they know of themselves
+#   make wrong      each edit in tests/wrong makes a wrong tool, which has to be seen by one of these
 
 SAYING := tests/truth.c tests/speaking.c
 COMPARING := tests/stops.c tests/comparing.c tests/process.c stopped.c ../tests/library.c ../tests/target.c
@@ -41,6 +42,9 @@ judge: $(JUDGED)
 truth: $(COMPARED)
 	$(call compared,1000)
 
+wrong: $(JUDGED) $(COMPARED)
+	tests/wrong_tools $(OUT)
+
 # The share of `make test`.
 judge-some: $(JUDGED)
 	$(call judged,200000,2,200000)
@@ -49,4 +53,4 @@ judge-some: $(JUDGED)
 truth-some: $(COMPARED)
 	$(call compared,40)
 
-.PHONY: judge truth judge-some truth-some
+.PHONY: judge truth wrong judge-some truth-some
