@@ -1,4 +1,4 @@
-# What judges the tool: a part of the Makefile.
+# What judges the tool, and a program that takes snapshots: a part of the Makefile.
 #
 #   make judge      the proved audit judges 5,000,000 stores of busy and 3,000,000 of edge, by each compiler, and those of a run of unrelated
 #   make truth      1,000 stops, by each compiler, of programs whose threads say what they know of themselves
@@ -9,6 +9,12 @@ COMPARING := tests/stops.c tests/comparing.c tests/process.c stopped.c ../tests/
 SAID_HEADERS := $(wildcard tests/*.h) stopped.h
 PLAIN_FLAGS := -std=c11 -Wall -Wextra -Werror -O2 -g
 LIBOMPD := ../out/libompd.so
+
+all: $(OUT)/omi_snapshot
+
+$(OUT)/omi_snapshot: snapshot.c stopped.c stopped.h
+	mkdir -p $(OUT)
+	$(CC) $(PLAIN_FLAGS) -o $@ snapshot.c stopped.c
 
 $(OUT)/stops: $(COMPARING) $(SAID_HEADERS)
 	mkdir -p $(OUT)
