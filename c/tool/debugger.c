@@ -12,7 +12,7 @@
 uint64_t omi_layout[TABLE_WORDS];
 
 static const char *locations[2];
-const char **ompd_dll_locations = locations;
+const char **ompd_dll_locations;
 
 /* A call of these is made, and not left out, though nothing is done in them. */
 #define BREAKPOINT(name) \
@@ -42,6 +42,7 @@ void locate_library(void)
   }
   if (given && realpath(given, path) && access(path, R_OK) == 0)
     locations[0] = path;
+  ompd_dll_locations = locations;
   ompd_dll_locations_valid();
 }
 

@@ -11,7 +11,7 @@
 EXPORTED extern uint64_t omi_layout[TABLE_WORDS];
 
 /* OpenMP 5.0, section 5.2.1: the paths of OMPD libraries for this program, behind the last of which stands
- * NULL, and the call that says that they are there. */
+ * NULL, and the call that says that they are there. Before it there is no list. */
 EXPORTED extern const char **ompd_dll_locations;
 EXPORTED void ompd_dll_locations_valid(void);
 

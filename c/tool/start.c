@@ -76,8 +76,8 @@ static int start(ompt_function_lookup_t lookup, int device, ompt_data_t *tool_da
   if (!set || !map_arenas(threads ? threads : MOST_THREADS, tasks) || !set_callbacks(set))
     return 0;
   find_inquiries(lookup);
-  locate_library();
   publish(count_processors(), initial_active_levels());
+  locate_library(); /* a debugger that waits for this opens a session at once */
   return 1;
 }
 
