@@ -210,7 +210,8 @@ static void compare_variables(ompd_task_handle_t *task)
 {
   same(DYN_VAR, (uint64_t)who->dynamic, (uint64_t)icv_of(task, ompd_scope_task, DYN));
   same(NTHREADS_VAR, (uint64_t)who->threads, (uint64_t)icv_of(task, ompd_scope_task, NTHREADS));
-  same(RUN_SCHED_VAR, (uint64_t)(who->chunk * 8 + who->kind), (uint64_t)icv_of(task, ompd_scope_task, RUN_SCHED));
+  struct schedule shown = schedule_of(task);
+  same(RUN_SCHED_VAR, (uint64_t)(who->chunk * 8 + who->kind), (uint64_t)shown.chunk * 8 + shown.kind);
   same(DEVICE_VAR, (uint64_t)who->device, (uint64_t)icv_of(task, ompd_scope_task, DEFAULT_DEVICE));
   same(FINAL_VAR, (uint64_t)who->final, (uint64_t)icv_of(task, ompd_scope_task, FINAL_TASK));
 }

@@ -108,6 +108,22 @@ ompd_word_t icv_of(void *handle, ompd_scope_t scope, enum icv icv)
   return rc == ompd_rc_ok || rc == ompd_rc_incomplete ? value : -(ompd_word_t)rc;
 }
 
+struct schedule schedule_of(ompd_task_handle_t *task)
+{
+  static const char *const kinds[] = {"static", "dynamic", "guided", "auto"};
+  struct schedule found = {0, 0};
+  const char *text = NULL;
+  char kind[16] = "", rest;
+  if (ompd.get_icv_string_from_scope(task, ompd_scope_task, RUN_SCHED, &text) != ompd_rc_ok)
+    return found;
+  if (sscanf(text, "%15[a-z],%u%c", kind, &found.chunk, &rest) == 2)
+    for (unsigned place = 0; place < sizeof kinds / sizeof *kinds; place++)
+      if (!strcmp(kind, kinds[place]))
+        found.kind = place + 1;
+  free_memory((void *)text);
+  return found;
+}
+
 /* The layout table has the offset of each field; fields by number; places of `slots`. */
 enum {
   OFFSETS = 11, TABLE_WORDS = 56, REGION_LIFE = 13, REGION_ENCOUNTER = 16, TASK_LIFE = 25, TASK_SLOTS = 44,

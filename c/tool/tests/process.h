@@ -27,6 +27,12 @@ enum icv {
 };
 ompd_word_t icv_of(void *handle, ompd_scope_t scope, enum icv icv);
 
+/* run-sched-var, which is no one number, by its text: the kind and the chunk. Kind 0 where it is refused or has another form. */
+struct schedule {
+  unsigned kind, chunk;
+};
+struct schedule schedule_of(ompd_task_handle_t *task);
+
 /* What no inquiry reads is read as docs/MEMORY_LAYOUT.md places it: the task that encountered a region, which has no address where none did;
  * the owner of the group that a task is in, with the group's number among the owner's; and how many groups the task has open. */
 struct identity encountering_of(struct identity region);
