@@ -37,6 +37,9 @@ length-spelling_of order contexts segments =
 pub three_fields : (out a b c : List ℕ) → ((out ++ a) ++ b) ++ c ≡ out ++ ((a ++ b) ++ c)
 three_fields out a b c = simp append_assoc
 
+pub four_fields : (out a b c d : List ℕ) → (((out ++ a) ++ b) ++ c) ++ d ≡ out ++ (a ++ b ++ c ++ d)
+four_fields out a b c d = simp append_assoc
+
 -- an image that has a word gives one segment
 pub one_segment : (contexts words : List ℕ) → 0 < length words
     → spelling_of 0 contexts (segments_of words) ≡ core_bytes contexts words

@@ -1,6 +1,7 @@
 pub mod BadFieldLaws
 pub mod Bounds
 pub mod FileLaws
+pub mod ImageCores
 pub mod Lengths
 pub mod Lists
 pub mod Numbers

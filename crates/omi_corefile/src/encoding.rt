@@ -1,13 +1,13 @@
 //! Writing the bytes of a core.
 
-ghost use Rattle.std.specs.Prelude.{◌≡◌, ◌≤◌, ◌<◌, ◌++◌, length, IsTrue, OnOk, IfOk};
+ghost use Rattle.std.specs.Prelude.{◌≡◌, ◌+◌, ◌-◌, ◌≤◌, ◌<◌, ◌++◌, min, length, take, drop, IsTrue, OnOk, IfOk};
 ghost use Rattle.omi_corefile.specs.Limits.{rises_from};
-ghost use Rattle.omi_corefile.specs.Spelling.{Core, spelling, spelling_of, header, numbers, words_in, segment_bytes, segments_of, core_bytes, HoldsImage};
+ghost use Rattle.omi_corefile.specs.Spelling.{Core, spelling, spelling_of, header, eight_bytes, numbers, words_in, segment_bytes, segments_of, core_bytes, HoldsImage};
 ghost use Rattle.omi_corefile.specs.declared.core_image.CoreImage.{CoreImage};
 ghost use Rattle.std.specs.List.{flat_map};
 
 use crate::{CoreImage, MOST_CONTEXTS, OutOfMemory, SegList, Segment, core_of, word_bytes};
-use omi_word::{Image, Natives};
+use omi_word::{FIRST_ADDRESS, Image, Natives};
 use std::alloc::Global;
 
 /// Adds eight bytes for each word, in this order.
@@ -57,6 +57,39 @@ fn put_header(out: &mut Vec<u8>, order: u8, contexts: u16, segments: u32) -> Res
     out.push(order)?;
     out.extend_from_slice(&contexts.to_le_bytes())?;
     out.extend_from_slice(&segments.to_le_bytes())
+}
+
+/// Adds the fields before the words of the core of an image that has so many words, at least one: the header in the order 0, the contexts, the first address, and the number of words.
+pub fn put_front(out: &mut Vec<u8>, contexts: &Natives, words: usize) -> Result<(), OutOfMemory>
+    requires { length contexts.now ≤ MOST_CONTEXTS }
+    ensures { OnOk result (out.new.items ≡ out.old.items ++ (header 0 (length contexts.now) 1
+        ++ numbers contexts.now ++ eight_bytes FIRST_ADDRESS ++ eight_bytes words)) }
+{
+    put_header(out, 0, contexts.len() as u16, 1)?;
+    put_numbers(out, contexts)?;
+    out.extend_from_slice(&FIRST_ADDRESS.to_le_bytes())?;
+    out.extend_from_slice(&(words as u64).to_le_bytes())?;
+    Ok(())
+}
+
+/// Adds eight bytes for each word of an image from this place on, in the order 0, but for no more than so many words. It answers the place behind the last one.
+pub fn put_image(
+    out: &mut Vec<u8>,
+    image: &Image,
+    from: usize,
+    most: usize,
+) -> Result<usize, OutOfMemory>
+    requires { from ≤ length image.now }
+    ensures { IfOk result (λ end. (end ≡ from + min most (length image.now - from))
+        × (out.new.items
+        ≡ out.old.items ++ words_in 0 (take (end - from) (drop from image.now)))) }
+{
+    let end = from + most.min(image.len() - from);
+    for at in from..end {
+        let word = image.get(FIRST_ADDRESS + 8 * at as u64).unwrap();
+        out.extend_from_slice(&word_bytes(0, word))?;
+    }
+    Ok(end)
 }
 
 /// The number of bytes of a core.

@@ -1,8 +1,9 @@
 //! Making a core of the words of an image.
 
-ghost use Rattle.std.specs.Prelude.{◌≡◌, ◌≤◌, length, IsTrue, IfOk};
+ghost use Rattle.std.specs.Prelude.{◌≡◌, ◌<◌, ◌≤◌, length, IsTrue, IfOk};
 ghost use Rattle.omi_corefile.specs.Limits.{rises_from, are_words, are_segments};
-ghost use Rattle.omi_corefile.specs.Spelling.{segments_of};
+ghost use Rattle.omi_corefile.specs.Spelling.{Core, HoldsImage, core_bytes, segments_of};
+ghost use Rattle.omi_corefile.specs.declared.core_image.CoreImage.{CoreImage};
 
 use crate::{CoreImage, MOST_CONTEXTS, OutOfMemory, SegList, Segment};
 use omi_word::{FIRST_ADDRESS, Image, MOST_WORDS, Natives};
@@ -33,6 +34,36 @@ fn same(alloc: Global, list: &Natives) -> Result<Natives, OutOfMemory>
         copy.push(number)?;
     }
     Ok(copy)
+}
+
+/// Each word of an image fits in eight bytes, as reading it shows.
+fn words_fit(image: &Image)
+    ensures fit { IsTrue (are_words image.now) }
+    ensures few { length image.now ≤ MOST_WORDS }
+{
+    for at in 0..image.len() {
+        let _word = image.get(FIRST_ADDRESS + 8 * at as u64).unwrap();
+    }
+}
+
+/// Each number of a list fits in eight bytes, as reading it shows.
+fn numbers_fit(list: &Natives)
+    ensures { IsTrue (are_words list.now) }
+{
+    for at in 0..list.len() {
+        let _number = *list.get(at);
+    }
+}
+
+/// The bytes of the core of an image that has a word are those of a core. It reads the words and the contexts, which shows it, and keeps nothing.
+pub fn image_makes_a_core(image: &Image, contexts: &Natives)
+    requires rising { IsTrue (rises_from 0 contexts.now) }
+    requires count { length contexts.now ≤ MOST_CONTEXTS }
+    ensures { 0 < length image.now → (c : CoreImage)
+        × Core (core_bytes contexts.now image.now) c × HoldsImage contexts.now image.now c }
+{
+    words_fit(image);
+    numbers_fit(contexts);
 }
 
 /// The segments of an image.
