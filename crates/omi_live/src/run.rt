@@ -1,36 +1,44 @@
 //! A run of the threads of a program, by a plan.
 
-ghost use Rattle.std.specs.Prelude.{IfOk, string_bytes};
+ghost use Rattle.std.specs.Prelude.{◌<◌, ◌≤◌, length, IfOk, string_bytes};
+ghost use Rattle.omi_corefile.specs.Spelling.{core_bytes};
+ghost use Rattle.omi_script.specs.declared.limits.TheConstants.{MAX_THREADS};
 ghost use Rattle.omi_live.specs.Asked.{IsPossible};
 ghost use Rattle.omi_live.specs.Run.{IsLiveRun};
 
 use crate::command::LivePlan;
-use crate::threads::live;
+use crate::threads::{LiveEnd, live};
+use omi_corefile::image_makes_a_core;
 use omi_layout::Layout;
 use omi_outside::Gate;
 use omi_rep::{families_suit, words_fix_the_report};
 use omi_script::Program;
-use omi_verbs::{core_file_of, runs_text};
-use omi_word::OutOfMemory;
+use omi_verbs::{contexts_of, runs_text};
+use omi_word::{Image, Natives, OutOfMemory};
 use std::alloc::Global;
 use std::thread::Threads;
 
-/// Runs the threads of a program by a plan, and answers the bytes of its core and what it prints.
+/// Runs the threads of a program by a plan, and answers the words of its core, their contexts, and what it prints.
 pub fn run_of<R: Threads + Sync, G: Gate>(
     rt: &R,
     alloc: Global,
     p: &Program,
     plan: LivePlan,
     gate: &G,
-) -> Result<(Vec<u8>, String), OutOfMemory>
+) -> Result<(Image, Natives, String), OutOfMemory>
     requires { IsPossible plan }
-    ensures { IfOk result (λ made. IsLiveRun p.now plan made.0.items (string_bytes made.1)) }
+    ensures run { IfOk result
+        (λ made. IsLiveRun p.now plan (core_bytes made.1 made.0) (string_bytes made.2)) }
+    ensures some { IfOk result (λ made. 0 < length made.0) }
+    ensures few { IfOk result (λ made. length made.1 ≤ MAX_THREADS) }
 {
     families_suit();
     words_fix_the_report();
+    let contexts = contexts_of(alloc, p.threads)?;
     let layout = Layout::family(plan.layout, p.threads);
     let end = live(rt, alloc, p, &layout, plan.budget, plan.on, gate)?;
-    let core = core_file_of(alloc, &end.image, p.threads)?;
+    image_makes_a_core(&end.image, &contexts);
     let text = runs_text(alloc, &end.runs, plan.budget)?;
-    Ok((core, text))
+    let LiveEnd { image, runs: _runs } = end;
+    Ok((image, contexts, text))
 }

@@ -18,8 +18,8 @@ ghost use Rattle.omi_live.specs.Run.{IsLiveRun};
 
 use crate::command::{Request, request_of};
 use crate::run::run_of;
-use omi_outside::{Files, Gate, Sink, Status, write_whole};
-use omi_verbs::{Refusal, line_in, print, program_of, refuse, refuse_words, room_for};
+use omi_outside::{Files, Gate, Sink, Status};
+use omi_verbs::{Refusal, line_in, print, program_of, refuse, refuse_words, room_for, write_core};
 use std::alloc::Global;
 use std::thread::Threads;
 
@@ -47,8 +47,8 @@ fn perform<R: Threads + Sync, F: Files, G: Gate>(
         → F.told files.new other ≡ F.told files.old other }
 {
     let p = program_of(alloc, request.script, files)?;
-    let (core, text) = run_of(rt, alloc, &p, request.plan, gate)?;
-    write_whole(files, request.core, &core)?;
+    let (image, contexts, text) = run_of(rt, alloc, &p, request.plan, gate)?;
+    write_core(alloc, &image, &contexts, files, request.core)?;
     Ok(text.into_bytes())
 }
 

@@ -5,12 +5,13 @@ ghost use Rattle.omi_core.specs.declared.schedule.Schedule.TheVariants.{RoundRob
 ghost use Rattle.omi_rewind.specs.declared.limits.TheConstants.{LAST_STEP};
 
 use omi_core::Schedule;
+use omi_corefile::core_bytes_of;
 use omi_layout::Layout;
 use omi_rewind::{At, Rewind};
 use omi_script::parse;
 use omi_test_calls::core_of;
 use omi_test_rows::A_TEAM_OF_TWO;
-use omi_verbs::core_file_of;
+use omi_word::Natives;
 use std::alloc::Global;
 use std::test::Fail;
 
@@ -21,7 +22,10 @@ fn reaches(alloc: Global, rewind: &mut Rewind, step: u64, word: &str) -> Result<
     ensures { rewind.new.how ≡ RoundRobin }
 {
     let at = rewind.to(alloc, step)?;
-    let core = core_file_of(alloc, rewind.image(), 2)?;
+    let mut contexts = Natives::new(alloc);
+    contexts.push(1000)?;
+    contexts.push(1001)?;
+    let core = core_bytes_of(alloc, rewind.image(), &contexts)?;
     let stopped = core_of(alloc, word, A_TEAM_OF_TWO)?;
     Ok(at == At::Here && core == stopped)
 }

@@ -1,6 +1,8 @@
 //! The command `stop`.
 
-ghost use Rattle.std.specs.Prelude.{◌≢◌, IfOk, IfErr, string_bytes};
+ghost use Rattle.std.specs.Prelude.{◌≢◌, ◌<◌, ◌≤◌, length, IfOk, IfErr, string_bytes};
+ghost use Rattle.omi_corefile.specs.Spelling.{core_bytes};
+ghost use Rattle.omi_script.specs.declared.limits.TheConstants.{MAX_THREADS};
 ghost use Rattle.omi_top.specs.Answer.{IsStopped};
 ghost use Rattle.omi_verbs.specs.Statuses.{IsOfCore};
 ghost use Rattle.omi_top.specs.Command.{Stop as StopCommand};
@@ -13,28 +15,32 @@ use crate::lines::text_of;
 use crate::plan::Plan;
 use crate::run::run_of;
 use omi_core::Recorded;
-use omi_outside::{Files, write_whole};
+use omi_corefile::image_makes_a_core;
+use omi_outside::Files;
 use omi_script::Program;
-use omi_verbs::{Lines, Refusal, core_file_of, program_of};
-use omi_word::OutOfMemory;
+use omi_verbs::{Lines, Refusal, contexts_of, program_of, write_core};
+use omi_word::{Image, Natives, OutOfMemory};
 use std::alloc::Global;
 
-/// Runs a program by a plan, and answers the bytes of its core and what it prints.
-fn stopped(alloc: Global, p: Program, plan: Plan) -> Result<(Vec<u8>, String), OutOfMemory>
+/// Runs a program by a plan, and answers the words of its core, their contexts, and what it prints.
+fn stopped(alloc: Global, p: Program, plan: Plan) -> Result<(Image, Natives, String), OutOfMemory>
     requires { IsPossible plan }
-    ensures { IfOk result (λ made. IsStopped p plan made.0.items (string_bytes made.1)) }
+    ensures run { IfOk result
+        (λ made. IsStopped p plan (core_bytes made.1 made.0) (string_bytes made.2)) }
+    ensures some { IfOk result (λ made. 0 < length made.0) }
+    ensures few { IfOk result (λ made. length made.1 ≤ MAX_THREADS) }
 {
-    let threads = p.threads;
+    let contexts = contexts_of(alloc, p.threads)?;
     let ran = run_of(alloc, p, plan, Lines::new(alloc))?;
-    let bytes = core_file_of(alloc, &ran.image, threads)?;
+    image_makes_a_core(&ran.image, &contexts);
     let Recorded {
-        image: _image,
+        image,
         steps,
         why,
         recorder,
     } = ran;
     let text = text_of(recorder, steps, why)?;
-    Ok((bytes, text))
+    Ok((image, contexts, text))
 }
 
 /// Runs the program of a script by a plan, writes its core, and answers what it prints.
@@ -56,7 +62,7 @@ pub fn stop<F: Files, W: Files>(
     ensures of_core { IfErr result (λ r. IsOfCore (status_of r) → ⊥) }
 {
     let p = program_of(alloc, script, files)?;
-    let (image, text) = stopped(alloc, p, plan)?;
-    write_whole(dest, core, &image)?;
+    let (image, contexts, text) = stopped(alloc, p, plan)?;
+    write_core(alloc, &image, &contexts, dest, core)?;
     Ok(text.into_bytes())
 }

@@ -1,6 +1,7 @@
 pub mod Digits
 pub mod FieldNames
 pub mod ThreadIds
+pub mod CorePieces
 pub mod CoreFiles
 pub mod ImageWords
 pub mod EventLines

@@ -20,7 +20,7 @@ mod run_lines;
 mod script;
 mod words;
 
-pub use cores::{contexts_of, core_file_of};
+pub use cores::{contexts_of, write_core};
 pub use event_lines::push_event_lines;
 pub use image_view::view_of;
 pub use inquiries::{refusal_of_code, refusal_of_walk};

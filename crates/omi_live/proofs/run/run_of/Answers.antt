@@ -1,14 +1,27 @@
-use Rattle.std.proofs.Common.{◌<◌, length, sym, arith}
+use Rattle.std.proofs.Common.{◌<◌, ◌∙◌, ℕ, List, length, ap, sym, subst, arith}
+use Rattle.std.specs.Prelude.{IsTrue}
+use Rattle.omi_corefile.specs.Limits.{rises_from}
+use Rattle.omi_corefile.specs.Spelling.{core_bytes}
 use Rattle.omi_script.proofs.RuleLemmas.{Rules-from_accepted}
 use Rattle.omi_core.specs.Runs.{events_in}
 use Rattle.omi_core.specs.Steps.{events_behind}
+use Rattle.omi_verbs.proofs.CoreFiles.{core_of_ids}
+use Rattle.omi_verbs.proofs.ThreadIds.{count, rising}
+use Rattle.omi_verbs.specs.Cores.{thread_ids}
 use Rattle.omi_live.proofs.run.run_of.Goals as goal
 
-pub core_file_of-requires : goal.core_file_of-requires
-core_file_of-requires g c = let few = (Rules-from_accepted c.args.p.now).threads.1 in omega (arith, few)
+pub image_makes_a_core-requires-clause-rising : goal.image_makes_a_core-requires-clause-rising
+image_makes_a_core-requires-clause-rising g c =
+    subst (λ (ids : List ℕ). IsTrue (rises_from 0 ids)) (sym c.in_ok-contexts.ensures) (rising c.args.p.now.threads)
 
-pub returns : goal.returns
-returns g c =
+pub image_makes_a_core-requires-clause-count : goal.image_makes_a_core-requires-clause-count
+image_makes_a_core-requires-clause-count g c =
+    let few = (Rules-from_accepted c.args.p.now).threads.1 in
+    let many = ap (λ (ids : List ℕ). length ids) c.in_ok-contexts.ensures ∙ count c.args.p.now.threads in
+    omega (arith, few, many)
+
+pub returns-clause-run : goal.returns-clause-run
+returns-clause-run g c =
     let live = c.in_ok-end.ensures in
     let long = live.tables.long in
     let some : 0 < length c.in_ok-end.end.image = omega (arith, long) in
@@ -18,12 +31,12 @@ returns g c =
       words = c.in_ok-end.end.image;
       runs = c.in_ok-end.end.runs;
       live = live;
-      core_is = c.in_ok-core.ensures.value some;
+      core_is = ap (λ (ids : List ℕ). core_bytes ids c.in_ok-end.end.image) c.in_ok-contexts.ensures;
       core_of = record {
         w = c.family-layout.result.table;
         valid = c.family-layout.result.valid;
         words = c.in_ok-end.end.image;
-        core_of = c.in_ok-core.ensures.core some;
+        core_of = core_of_ids (thread_ids c.args.p.now.threads) c.in_ok-contexts.contexts c.in_ok-end.end.image c.in_ok-contexts.ensures (c.image_makes_a_core.ensures some);
         events = events_in (events_behind 0 live.entries);
         reached = live.reached;
         shows = live.shows;
@@ -31,3 +44,14 @@ returns g c =
       text_is = c.in_ok-text.ensures;
       report = λ t ids v u shows view other. sym (c.words_fix_the_report.ensures c.family-layout.result.table _ live.state t ids v u c.family-layout.result.valid live.shows shows view other);
     }
+
+pub returns-clause-some : goal.returns-clause-some
+returns-clause-some g c =
+    let long = c.in_ok-end.ensures.tables.long in
+    omega (arith, long)
+
+pub returns-clause-few : goal.returns-clause-few
+returns-clause-few g c =
+    let few = (Rules-from_accepted c.args.p.now).threads.1 in
+    let many = ap (λ (ids : List ℕ). length ids) c.in_ok-contexts.ensures ∙ count c.args.p.now.threads in
+    omega (arith, few, many)

@@ -1,6 +1,7 @@
 use Rattle.std.proofs.Common.{ℕ, Err, arith, refl, ap, sym, subst, string_bytes}
 use Rattle.std.specs.Global.{Vec}
 use Rattle.std.proofs.lemmas.Result.{err_from_is_err_and}
+use Rattle.omi_corefile.specs.Spelling.{core_bytes}
 use Rattle.omi_top.specs.Answer.{IsStopped}
 use Rattle.omi_verbs.specs.declared.refusal.Refusal.TheVariants as refusal
 use Rattle.omi_verbs.proofs.Elsewhere.{never_elsewhere, never_usage, write_not_read, never_of_core, write_not_of_core, write_failed}
@@ -36,41 +37,41 @@ returns-in_err-p-clause-of_core g c =
 
 -- ---- the core can't be written
 
-pub returns-in_err-write_whole-clause-performed : goal.returns-in_err-write_whole-clause-performed
-returns-in_err-write_whole-clause-performed g c =
-    let p = err_from_is_err_and c.from_residual-in_err-write_whole.result c.from_residual-in_err-write_whole.ensures.1 in
+pub returns-in_err-write_core-clause-performed : goal.returns-in_err-write_core-clause-performed
+returns-in_err-write_core-clause-performed g c =
+    let p = err_from_is_err_and c.from_residual-in_err-write_core.result c.from_residual-in_err-write_core.ensures.1 in
     rw (p.1, p.2)
     (record {
       answer =
           λ (content, told).
           partly_answered c.args.plan c.args.script.now c.args.core.now
           (g.F.Files.told c.args.files.now) content told c.in_ok-p.p (c.in_ok-p.ensures.program content told)
-          c.in_ok-image.image.items (string_bytes c.in_ok-image.text) c.in_err-write_whole.field-0.0 _ _ c.in_ok-image.ensures (rw (← c.deref.ensures.value) c.in_err-write_whole.ensures.cut);
-      read = record { later = c.in_ok-p.ensures.cause.later; failed = λ is. absurd (write_not_read c.in_err-write_whole.field-0.0 is) };
+          (core_bytes c.in_ok-image.contexts c.in_ok-image.image) (string_bytes c.in_ok-image.text) c.in_err-write_core.field-0.0 _ _ c.in_ok-image.ensures.run c.in_err-write_core.ensures.cut;
+      read = record { later = c.in_ok-p.ensures.cause.later; failed = λ is. absurd (write_not_read c.in_err-write_core.field-0.0 is) };
       write =
           record {
-            later = c.in_err-write_whole.ensures.cause.later;
-            failed = λ is. c.in_err-write_whole.ensures.cause.failed (ap Err (write_failed c.in_err-write_whole.field-0.0 is));
+            later = c.in_err-write_core.ensures.cause.later;
+            failed = λ is. c.in_err-write_core.ensures.cause.failed (ap Err (write_failed c.in_err-write_core.field-0.0 is));
           };
-      unwritten = λ is. absurd (never_unwritten (StopCommand c.args.plan c.args.script.now c.args.core.now) c.in_err-write_whole.field-0.0 is);
+      unwritten = λ is. absurd (never_unwritten (StopCommand c.args.plan c.args.script.now c.args.core.now) c.in_err-write_core.field-0.0 is);
       stays =
           record {
             files_told = c.in_ok-p.ensures.same;
             files_writes = c.in_ok-p.ensures.writes;
-            dest_reads = c.in_err-write_whole.ensures.reads;
-            others = c.in_err-write_whole.ensures.others;
+            dest_reads = c.in_err-write_core.ensures.reads;
+            others = c.in_err-write_core.ensures.others;
           };
     })
 
-pub returns-in_err-write_whole-clause-usage : goal.returns-in_err-write_whole-clause-usage
-returns-in_err-write_whole-clause-usage g c =
-    let p = err_from_is_err_and c.from_residual-in_err-write_whole.result c.from_residual-in_err-write_whole.ensures.1 in
-    rw (p.1, p.2) (never_usage c.in_err-write_whole.field-0.0)
+pub returns-in_err-write_core-clause-usage : goal.returns-in_err-write_core-clause-usage
+returns-in_err-write_core-clause-usage g c =
+    let p = err_from_is_err_and c.from_residual-in_err-write_core.result c.from_residual-in_err-write_core.ensures.1 in
+    rw (p.1, p.2) (never_usage c.in_err-write_core.field-0.0)
 
-pub returns-in_err-write_whole-clause-of_core : goal.returns-in_err-write_whole-clause-of_core
-returns-in_err-write_whole-clause-of_core g c =
-    let p = err_from_is_err_and c.from_residual-in_err-write_whole.result c.from_residual-in_err-write_whole.ensures.1 in
-    rw (p.1, p.2) (write_not_of_core c.in_err-write_whole.field-0.0)
+pub returns-in_err-write_core-clause-of_core : goal.returns-in_err-write_core-clause-of_core
+returns-in_err-write_core-clause-of_core g c =
+    let p = err_from_is_err_and c.from_residual-in_err-write_core.result c.from_residual-in_err-write_core.ensures.1 in
+    rw (p.1, p.2) (write_not_of_core c.in_err-write_core.field-0.0)
 
 -- ---- all is written
 
@@ -80,17 +81,17 @@ returns-clause-performed g c = record {
       λ (content, told).
       done_answered c.args.plan c.args.script.now c.args.core.now
       (g.F.Files.told c.args.files.now) content told c.in_ok-p.p (c.in_ok-p.ensures.program content told)
-      c.in_ok-image.image.items c.into_bytes.result _ _
-      (subst (λ (v : Vec ℕ). IsStopped c.in_ok-p.p c.args.plan c.in_ok-image.image.items v.items) (sym c.into_bytes.ensures.value) c.in_ok-image.ensures)
-      (rw (← c.deref.ensures.value) c.in_ok-write_whole.ensures.written);
+      (core_bytes c.in_ok-image.contexts c.in_ok-image.image) c.into_bytes.result _ _
+      (subst (λ (v : Vec ℕ). IsStopped c.in_ok-p.p c.args.plan (core_bytes c.in_ok-image.contexts c.in_ok-image.image) v.items) (sym c.into_bytes.ensures.value) c.in_ok-image.ensures.run)
+      c.in_ok-write_core.ensures.written;
   read = record { later = c.in_ok-p.ensures.cause.later; failed = λ is. absurd is };
-  write = record { later = c.in_ok-write_whole.ensures.cause.later; failed = λ is. cc };
+  write = record { later = c.in_ok-write_core.ensures.cause.later; failed = λ is. cc };
   unwritten = tt;
   stays =
       record {
         files_told = c.in_ok-p.ensures.same;
         files_writes = c.in_ok-p.ensures.writes;
-        dest_reads = c.in_ok-write_whole.ensures.reads;
-        others = c.in_ok-write_whole.ensures.others;
+        dest_reads = c.in_ok-write_core.ensures.reads;
+        others = c.in_ok-write_core.ensures.others;
       };
 }
