@@ -1,5 +1,5 @@
 -- What the last state of the table says of the run.
-use Rattle.std.proofs.Common.{◌≡◌, inl, inr, ◌<◌, ◌++◌, ℕ, suc, List, [], ◌∷◌, length, map, slice_get, slice_index_or, Option, Some, refl, sym, ap, ◌∙◌, subst, arith}
+use Rattle.std.proofs.Common.{◌≡◌, inl, inr, ◌<◌, ◌++◌, ℕ, List, [], ◌∷◌, length, slice_get, slice_index_or, Option, Some, sym, ap, ◌∙◌, subst, arith}
 use mathlib.Core.Option.{some}
 use lib.ListN.{get_elem?}
 use Rattle.atomic_table.specs.Table.{State}

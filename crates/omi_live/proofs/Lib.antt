@@ -6,5 +6,4 @@ pub mod Applied
 pub mod Going
 pub mod Joining
 pub mod Ending
-pub mod Performing
 pub mod Left

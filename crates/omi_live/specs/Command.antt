@@ -7,7 +7,6 @@ use Rattle.omi_line.specs.Number.{number_between}
 use Rattle.omi_line.specs.declared.line.Line.{Line}
 use Rattle.omi_seat.specs.declared.limits.TheConstants.{MOST_BUDGET}
 use Rattle.omi_verbs.specs.Options.{break_named, layout_of}
-use Rattle.omi_verbs.specs.Refusal.{Named}
 use Rattle.omi_live.specs.declared.command.LivePlan.{LivePlan}
 
 -- a run of the threads of a script, and the name of the core that it leaves
@@ -15,10 +14,6 @@ pub record LiveCommand : Type 0 where
   pub plan : LivePlan
   pub script : List ℕ
   pub core : List ℕ
-
--- the names of its files
-abbrev pub names_of : LiveCommand → Named
-names_of command = record { script = command.script; core = command.core; later = [] }
 
 -- `--break NAME`, or no breakpoint. None where there is no such breakpoint
 abbrev pub live_break_of : Option (List ℕ) → Option (Option Break)

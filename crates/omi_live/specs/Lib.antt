@@ -2,7 +2,7 @@
 -- in omi_seat.
 pub mod Accesses
 pub mod Live
--- What a command line asks for, a run of threads by a plan, and what a call answers and leaves
+-- What a command line asks for, a run of threads by a plan, and the verb of a command
 pub mod Command
 pub mod Run
 pub mod Answer
@@ -12,6 +12,5 @@ pub mod Plays
 -- A thread at work, and the threads before and behind their work
 pub mod Work
 pub mod Joined
--- What private functions of the top call stand on: a request as a command, and what its layers say alike
+-- What private functions of the top call stand on: a request as a command
 pub mod Asked
-pub mod Causes

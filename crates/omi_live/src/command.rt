@@ -4,13 +4,15 @@ ghost use Rattle.std.specs.Prelude.{◌≡◌, option_and_then, IfSome};
 ghost use Rattle.std.specs.Option.{option_map};
 ghost use Rattle.omi_line.specs.Line.{IsText};
 ghost use Rattle.omi_live.specs.Asked.{asked, IsPossible};
-ghost use Rattle.omi_live.specs.Command.{live_break_of, live_command_by, live_plan_of, names_of};
-ghost use Rattle.omi_verbs.specs.Refusal.{named};
+ghost use Rattle.omi_live.specs.Answer.{live_verb};
+ghost use Rattle.omi_live.specs.Command.{live_break_of, live_command_by, live_plan_of};
+ghost use Rattle.omi_frame.specs.Refusal.{named};
 
 use omi_core::Break;
+use omi_frame::{Names, text_of};
 use omi_line::{Line, Text, number};
 use omi_seat::MOST_BUDGET;
-use omi_verbs::{Names, break_named, layout_of, text_of};
+use omi_verbs::{break_named, layout_of};
 
 /// What a run of threads is to be.
 #[derive(Clone, Copy)]
@@ -34,7 +36,7 @@ pub struct Request<'a> {
 impl<'a> Request<'a> {
     /// The names of its files.
     pub fn names(&self) -> Names<'a>
-        ensures { named result ≡ names_of (asked self.now) }
+        ensures { named result ≡ (live_verb (asked self.now)).names }
     {
         Names {
             script: self.script,

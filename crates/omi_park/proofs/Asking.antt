@@ -29,9 +29,9 @@ use Rattle.omi_verbs.proofs.Current.{fates_known, image_records}
 use Rattle.omi_verbs.proofs.Imaged.{not_refused, viewed}
 use Rattle.omi_verbs.specs.Fates.{AreLines, HoldsEach}
 use Rattle.omi_verbs.specs.declared.kept_tasks.KeptTasks.{KeptTasks}
-use Rattle.omi_verbs.specs.declared.refusal.Input.TheVariants as input
-use Rattle.omi_verbs.specs.declared.refusal.Refusal.{Refusal}
-use Rattle.omi_verbs.specs.declared.refusal.Refusal.TheVariants as refusal
+use Rattle.omi_frame.specs.declared.refusal.Input.TheVariants as input
+use Rattle.omi_frame.specs.declared.refusal.Refusal.{Refusal}
+use Rattle.omi_frame.specs.declared.refusal.Refusal.TheVariants as refusal
 use Rattle.omi_walk.specs.Gives.{Gives}
 use Rattle.omi_walk.specs.Kept.{IsLive, Keeps, look_names, names_kept, task_names}
 use Rattle.omi_walk.specs.declared.fault.WalkFault.{WalkFault}

@@ -6,7 +6,6 @@ use Rattle.omi_line.specs.Number.{number_between}
 use Rattle.omi_line.specs.declared.line.Line.{Line}
 use Rattle.omi_seat.specs.declared.limits.TheConstants.{MOST_BUDGET}
 use Rattle.omi_verbs.specs.Options.{has_option}
-use Rattle.omi_verbs.specs.Refusal.{Named}
 use Rattle.omi_park.specs.declared.command.ParkPlan.{ParkPlan}
 use Rattle.omi_park.specs.declared.limits.TheConstants.{MOST_STOPS}
 
@@ -14,10 +13,6 @@ use Rattle.omi_park.specs.declared.limits.TheConstants.{MOST_STOPS}
 pub record ParkCommand : Type 0 where
   pub plan : ParkPlan
   pub script : List ℕ
-
--- the names of its files
-abbrev pub names_of : ParkCommand → Named
-names_of command = record { script = command.script; core = []; later = [] }
 
 abbrev pub park_plan_with : ℕ → ℕ → ParkPlan
 park_plan_with budget stops = record { budget = budget; stops = stops }

@@ -2,7 +2,7 @@
 -- no further step stands in omi_seat.
 pub mod Acknowledged
 pub mod Parked
--- What a command line asks for, what is printed of a stop and of a run with stops, and what a call answers and leaves
+-- What a command line asks for, what is printed of a stop and of a run with stops, and the verb of a command
 pub mod Command
 pub mod Lines
 pub mod Shown
@@ -14,7 +14,6 @@ pub mod Plays
 pub mod Work
 pub mod Inspecting
 pub mod Joined
--- What private functions of the top call stand on: a request as a command, what its layers say alike, and what is kept of a stop
+-- What private functions of the top call stand on: a request as a command, and what is kept of a stop
 pub mod Asked
-pub mod Causes
 pub mod Kept

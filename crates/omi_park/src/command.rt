@@ -4,13 +4,15 @@ ghost use Rattle.std.specs.Prelude.{◌≡◌, option_and_then, IfSome};
 ghost use Rattle.std.specs.Option.{option_map};
 ghost use Rattle.omi_line.specs.Line.{IsText};
 ghost use Rattle.omi_park.specs.Asked.{asked, IsPossible};
-ghost use Rattle.omi_park.specs.Command.{names_of, park_command_by, park_plan_of};
-ghost use Rattle.omi_verbs.specs.Refusal.{named};
+ghost use Rattle.omi_park.specs.Answer.{park_verb};
+ghost use Rattle.omi_park.specs.Command.{park_command_by, park_plan_of};
+ghost use Rattle.omi_frame.specs.Refusal.{named};
 
 use crate::limits::MOST_STOPS;
+use omi_frame::{Names, text_of};
 use omi_line::{Line, Text, number};
 use omi_seat::MOST_BUDGET;
-use omi_verbs::{Names, has_option, text_of};
+use omi_verbs::has_option;
 
 /// What a run of threads with stops is to be.
 #[derive(Clone, Copy)]
@@ -31,7 +33,7 @@ pub struct Request<'a> {
 impl<'a> Request<'a> {
     /// The names of its files.
     pub fn names(&self) -> Names<'a>
-        ensures { named result ≡ names_of (asked self.now) }
+        ensures { named result ≡ (park_verb (asked self.now)).names }
     {
         Names {
             script: self.script,

@@ -4,5 +4,6 @@ pub mod Parts
 pub mod Printed
 -- A rewind before its first step, and a thread's state word.
 pub mod Turned
--- What a call leaves, and what the clauses of the top call say of it.
+-- What a command's verb gave, and what a call leaves.
+pub mod Performing
 pub mod Left

@@ -9,7 +9,6 @@ use Rattle.omi_numbers.specs.Names.{number_in}
 use Rattle.omi_numbers.specs.States.{states}
 use Rattle.omi_rewind.specs.declared.limits.TheConstants.{LAST_STEP}
 use Rattle.omi_verbs.specs.Options.{has_option}
-use Rattle.omi_verbs.specs.Refusal.{Named}
 use Rattle.omi_rewind_top.specs.declared.limits.TheConstants.{MOST_JUMPS, MOST_NUMBER}
 
 -- the steps to go to, or a thread, its state and the last step at which it is looked for; and the name of the script
@@ -20,10 +19,6 @@ pub data RewindCommand : Type 0 where
 abbrev pub script_of : RewindCommand → List ℕ
 script_of (GoTo steps script) = script
 script_of (FindState thread state last script) = script
-
--- the names of its files
-abbrev pub names_of : RewindCommand → Named
-names_of command = record { script = script_of command; core = []; later = [] }
 
 -- the numbers up to the last step that texts are. None where one of them is none
 abbrev pub numbers_in : List (List ℕ) → Option (List ℕ)

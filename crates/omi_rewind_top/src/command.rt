@@ -8,18 +8,20 @@ ghost use Rattle.omi_line.specs.Line.{IsText};
 ghost use Rattle.omi_numbers.specs.Names.{number_in};
 ghost use Rattle.omi_numbers.specs.States.{states};
 ghost use Rattle.omi_rewind_top.specs.Asked.{asked, IsPossible};
-ghost use Rattle.omi_rewind_top.specs.Command.{at_of, command_by, names_of, script_of, verb_of, when_of};
-ghost use Rattle.omi_verbs.specs.Refusal.{named};
+ghost use Rattle.omi_rewind_top.specs.Answer.{rewind_verb};
+ghost use Rattle.omi_rewind_top.specs.Command.{at_of, command_by, script_of, verb_of, when_of};
+ghost use Rattle.omi_frame.specs.Refusal.{named};
 
 use crate::limits::MOST_NUMBER;
 use crate::steps_word::steps_of;
+use omi_frame::{Names, text_of};
 use omi_line::{Line, Text, number};
 use omi_numbers::{
     IDLE, OVERHEAD, WAIT_BARRIER_EXPLICIT, WAIT_BARRIER_IMPLICIT_PARALLEL, WAIT_CRITICAL,
     WAIT_TASKGROUP, WAIT_TASKWAIT, WORK_PARALLEL, WORK_SERIAL,
 };
 use omi_rewind::LAST_STEP;
-use omi_verbs::{Names, has_option, text_of};
+use omi_verbs::has_option;
 use omi_word::OutOfMemory;
 use std::alloc::Global;
 
@@ -58,7 +60,7 @@ impl<'a> Request<'a> {
 
     /// The names of its files.
     pub fn names(&self) -> Names<'a>
-        ensures { named result ≡ names_of (asked self.now) }
+        ensures { named result ≡ (rewind_verb (asked self.now)).names }
     {
         Names {
             script: self.script(),

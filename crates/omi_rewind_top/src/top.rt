@@ -1,29 +1,25 @@
 //! The one call that the program makes, with the clause for each of its promises.
 
-ghost use Rattle.std.specs.Prelude.{◌≡◌, ◌≢◌, ◌⊎◌, ◌≤◌, ◌∷◌, ◌++◌, [], codes, List, ℕ, Option, Some, None, IfOk, IfErr, IsErrAnd, string_bytes};
-ghost use Rattle.std.specs.String.{string_capacity};
-ghost use Rattle.omi_outside.specs.Outside.{HasCause, Rose, put_on};
+ghost use Rattle.std.specs.Prelude.{◌≡◌, ◌⊎◌, List, ℕ, Option, Some, None, IfOk, IfErr};
+ghost use Rattle.omi_outside.specs.Outside.{put_on};
 ghost use Rattle.omi_script.specs.Grammar.{Grammar, Refused as RefusedScript};
 ghost use Rattle.omi_script.specs.declared.fault.ScriptFault.{ScriptFault};
 ghost use Rattle.omi_script.specs.declared.program.Program.{Program};
 ghost use Rattle.omi_rewind.specs.declared.test.Test.TheVariants.{State};
-ghost use Rattle.omi_verbs.specs.Refusal.{HasRoom, IsReadFault, status_of};
-ghost use Rattle.omi_verbs.specs.Said.{IsCounted, IsSaid};
-ghost use Rattle.omi_verbs.specs.Scripts.{IsOfScript};
-ghost use Rattle.omi_verbs.specs.Seen.{files_seen, output_seen};
-ghost use Rattle.omi_verbs.specs.Statuses.{ComesWhere, IsOfCore};
-ghost use Rattle.omi_rewind_top.specs.Answer.{IsRewindAnswered, IsRewindLeft, IsRewindText, IsThreadless, LacksThread, MayLackThread};
+ghost use Rattle.omi_frame.specs.Concluded.{Causes, Concluded, Leaves, Performed};
+ghost use Rattle.omi_frame.specs.Seen.{files_seen, output_seen};
+ghost use Rattle.omi_frame.specs.Statuses.{ComesWhere, IsOfCore};
+ghost use Rattle.omi_rewind_top.specs.Answer.{IsRewindText, IsThreadless, LacksThread, MayLackThread, rewind_verb};
 ghost use Rattle.omi_rewind_top.specs.Asked.{asked, IsPossible};
-ghost use Rattle.omi_rewind_top.specs.Causes.{RewindConcluded};
-ghost use Rattle.omi_rewind_top.specs.Command.{GoTo, FindState, RewindCommand, names_of, rewind_command_in, script_of};
+ghost use Rattle.omi_rewind_top.specs.Command.{GoTo, FindState, RewindCommand, rewind_command_in, script_of};
 ghost use Rattle.omi_rewind_top.specs.Turns.{IsAtText, IsWhenText};
 
 use crate::at::at_text;
 use crate::command::{Request, request_of};
 use crate::when::when_text;
+use omi_frame::{Refusal, end_with, line_in, program_of, refuse_words, room_for};
 use omi_outside::{Files, Sink, Status};
 use omi_script::Program;
-use omi_verbs::{Refusal, line_in, print, program_of, refuse, refuse_words, room_for};
 use std::alloc::Global;
 
 /// What a request prints of a program. Its refusal is that of a thread that the program doesn't have.
@@ -53,42 +49,15 @@ fn text_of(alloc: Global, p: Program, request: Request<'_>) -> Result<Vec<u8>, R
 /// Reads the script of a request, and answers what is printed of its program.
 fn perform<F: Files>(alloc: Global, request: Request<'_>, files: &mut F) -> Result<Vec<u8>, Refusal>
     requires { IsPossible request }
-    ensures answer { let command = asked request.entry in (content : Option (List ℕ))
-        → F.told files.old (script_of command) ≡ Some content
-        → IsRewindAnswered command content result }
-    ensures kind { IfErr result (λ r. IsOfScript r
-        ⊎ ((r ≡ Refusal.Usage) × MayLackThread (Some (asked request.entry)))) }
-    ensures read { HasCause (F.reads files.old) (F.reads files.new)
-        (IsErrAnd result IsReadFault) }
-    ensures told { F.told files.new ≡ F.told files.old }
+    ensures performed { Performed (rewind_verb (asked request.entry)) result
+        (files_seen (F.told files.old) (F.reads files.old) (F.writes files.old))
+        (files_seen (F.told files.new) (F.reads files.new) (F.writes files.new))
+        (files_seen (F.told files.old) (F.reads files.old) (F.writes files.old))
+        (files_seen (F.told files.new) (F.reads files.new) (F.writes files.new)) }
     ensures writes { F.writes files.new ≡ F.writes files.old }
 {
     let p = program_of(alloc, request.script(), files)?;
     text_of(alloc, p, request)
-}
-
-/// Does what a request asks for, and prints. The room is for the line of a refusal.
-fn carry_out_in<F: Files, K: Sink>(
-    alloc: Global,
-    request: Request<'_>,
-    room: &mut String,
-    files: &mut F,
-    out: &mut K,
-) -> Status
-    requires possible { IsPossible request }
-    requires empty { string_bytes room.old ≡ [] }
-    requires enough { HasRoom (names_of (asked request)) (string_capacity room.old) }
-    ensures { RewindConcluded (asked request.entry) result
-        (files_seen (F.told files.old) (F.reads files.old) (F.writes files.old))
-        (files_seen (F.told files.new) (F.reads files.new) (F.writes files.new))
-        (output_seen (K.told out.old) (K.faults out.old) (K.wants out.old))
-        (output_seen (K.told out.new) (K.faults out.new) (K.wants out.new)) }
-{
-    let names = request.names();
-    match perform(alloc, request, files) {
-        Ok(text) => print(&text, out),
-        Err(refusal) => refuse(names, refusal, room, out),
-    }
 }
 
 /// Does what a request asks for, and prints. Room for the line of a refusal is taken first.
@@ -99,16 +68,21 @@ fn carry_out<F: Files, K: Sink>(
     out: &mut K,
 ) -> Status
     requires { IsPossible request }
-    ensures { RewindConcluded (asked request.entry) result
+    ensures concluded { Concluded (rewind_verb (asked request.entry)) result
+        (files_seen (F.told files.old) (F.reads files.old) (F.writes files.old))
+        (files_seen (F.told files.new) (F.reads files.new) (F.writes files.new))
         (files_seen (F.told files.old) (F.reads files.old) (F.writes files.old))
         (files_seen (F.told files.new) (F.reads files.new) (F.writes files.new))
         (output_seen (K.told out.old) (K.faults out.old) (K.wants out.old))
         (output_seen (K.told out.new) (K.faults out.new) (K.wants out.new)) }
+    ensures writes { F.writes files.new ≡ F.writes files.old }
 {
-    match room_for(alloc, request.names()) {
-        Ok(mut room) => carry_out_in(alloc, request, &mut room, files, out),
-        Err(_) => Status::OutOfMemory,
-    }
+    let names = request.names();
+    let Ok(mut room) = room_for(alloc, names) else {
+        return Status::OutOfMemory;
+    };
+    let answer = perform(alloc, request, files);
+    end_with(names, answer, &mut room, out)
 }
 
 /// All that the program does with the words behind its name: `at N,N,.. SCRIPT` runs the program of a script, its threads in turn and in
@@ -121,22 +95,19 @@ pub fn rewind_top<F: Files, K: Sink>(
     files: &mut F,
     out: &mut K,
 ) -> Status
-    // The causes for which no bytes need be told. No core is read, so none is refused. Where the words
-    // are refused, that line is put whole, or the sink counted why not. Memory ran out before anything
-    // was put, or the sink counted a put for which there was none.
+    // No core is read, so none is refused. Where the words are refused, that line is put; and for what
+    // cause each fault comes.
     ensures of_core { IsOfCore result → ⊥ }
     ensures usage { result ≡ Status.Usage → MayLackThread (rewind_command_in words.now) }
     ensures faulty { rewind_command_in words.now ≡ None
         → (result ≡ Status.Usage) ⊎ (result ≡ Status.OutOfMemory) }
-    ensures usage_line { result ≡ Status.Usage
-        → IsSaid (Some (codes "usage" ++ 10 ∷ []))
-        (IsCounted (K.faults out.old) (K.faults out.new) (K.wants out.old) (K.wants out.new))
-        (K.told out.old) (K.told out.new) }
-    ensures read_fault { result ≡ Status.ReadFault → Rose (F.reads files.old) (F.reads files.new) }
-    ensures write_fault { result ≡ Status.WriteFault
-        → Rose (K.faults out.old) (K.faults out.new) }
-    ensures out_of_memory { result ≡ Status.OutOfMemory
-        → (K.told out.new ≡ K.told out.old) ⊎ Rose (K.wants out.old) (K.wants out.new) }
+    ensures causes { Causes ⊥ result
+        (files_seen (F.told files.old) (F.reads files.old) (F.writes files.old))
+        (files_seen (F.told files.new) (F.reads files.new) (F.writes files.new))
+        (files_seen (F.told files.old) (F.reads files.old) (F.writes files.old))
+        (files_seen (F.told files.new) (F.reads files.new) (F.writes files.new))
+        (output_seen (K.told out.old) (K.faults out.old) (K.wants out.old))
+        (output_seen (K.told out.new) (K.faults out.new) (K.wants out.new)) }
 
     // Where the script's file is told: there is none, the grammar refuses it, or its program has no
     // thread of the command's number, exactly where the status says so.
@@ -170,20 +141,16 @@ pub fn rewind_top<F: Files, K: Sink>(
         × IsWhenText p (State thread state) last text
         × (K.told out.new ≡ put_on (K.told out.old) text) }
 
-    // What is left of the output with every status.
-    ensures left { (command : RewindCommand) (content : Option (List ℕ))
-        → rewind_command_in words.now ≡ Some command
-        → F.told files.old (script_of command) ≡ Some content
-        → IsRewindLeft command content result
-        (IsCounted (K.faults out.old) (K.faults out.new) (K.wants out.old) (K.wants out.new))
-        (K.told out.old) (K.told out.new) }
-
-    // No file is written, and no count falls.
+    // What is left of the output with every status. No file is written.
+    ensures left { (command : RewindCommand) → rewind_command_in words.now ≡ Some command
+        → Leaves (rewind_verb command) result
+        (files_seen (F.told files.old) (F.reads files.old) (F.writes files.old))
+        (files_seen (F.told files.old) (F.reads files.old) (F.writes files.old))
+        (files_seen (F.told files.new) (F.reads files.new) (F.writes files.new))
+        (output_seen (K.told out.old) (K.faults out.old) (K.wants out.old))
+        (output_seen (K.told out.new) (K.faults out.new) (K.wants out.new)) }
     ensures files_told { F.told files.new ≡ F.told files.old }
     ensures files_writes { F.writes files.new ≡ F.writes files.old }
-    ensures reads { F.reads files.old ≤ F.reads files.new }
-    ensures faults { K.faults out.old ≤ K.faults out.new }
-    ensures wants { K.wants out.old ≤ K.wants out.new }
 {
     let Ok(line) = line_in(alloc, words) else {
         return Status::OutOfMemory;

@@ -12,10 +12,10 @@ use Rattle.omi_top.specs.Questions.{IsLayoutRefusal, refusal_of_layout}
 use Rattle.omi_top.specs.Files.{HasFault}
 use Rattle.omi_top.proofs.Files.{fault_told, file_not_refused, file_unique, told_status}
 use Rattle.omi_top.proofs.ShowVerdicts.{either_table, lacking_status, one_refusal, wrong_status}
-use Rattle.omi_verbs.specs.Refusal.{status_of}
-use Rattle.omi_verbs.specs.declared.refusal.Input.TheVariants as input
-use Rattle.omi_verbs.specs.declared.refusal.Refusal.{Refusal}
-use Rattle.omi_verbs.specs.declared.refusal.Refusal.TheVariants as refusal
+use Rattle.omi_frame.specs.Refusal.{status_of}
+use Rattle.omi_frame.specs.declared.refusal.Input.TheVariants as input
+use Rattle.omi_frame.specs.declared.refusal.Refusal.{Refusal}
+use Rattle.omi_frame.specs.declared.refusal.Refusal.TheVariants as refusal
 
 -- what `audit` refuses, `show` does
 pub refused_by_show : (content : Option (List ℕ)) (r : Refusal) → IsAuditRefusal content r → IsShowRefusal content r

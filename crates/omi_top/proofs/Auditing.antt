@@ -16,9 +16,9 @@ use Rattle.omi_top.specs.Command.{Audit}
 use Rattle.omi_top.specs.Cores.{words_of_core}
 use Rattle.omi_top.specs.Questions.{IsAnswerOf, IsUnopened}
 use Rattle.omi_verbs.specs.Inquiries.{ComesOfWords}
-use Rattle.omi_verbs.specs.Refusal.{IsReadFault, IsUnread}
-use Rattle.omi_verbs.specs.declared.refusal.Input.TheVariants as input
-use Rattle.omi_verbs.specs.declared.refusal.Refusal.{Refusal}
+use Rattle.omi_frame.specs.Refusal.{IsReadFault, IsUnread}
+use Rattle.omi_frame.specs.declared.refusal.Input.TheVariants as input
+use Rattle.omi_frame.specs.declared.refusal.Refusal.{Refusal}
 
 -- a core over which there is no session has no verdict
 pub unopened_judged : (core : CoreImage) (r : Refusal) → IsUnopened core r → IsJudged core (Err r)

@@ -3,10 +3,10 @@ use Rattle.std.proofs.Common.{inl, inr, ℕ, Ok, Err, subst}
 use Rattle.std.specs.Prelude.{Result, IfErr, IsErrAnd}
 use Rattle.std.specs.Global.{Vec}
 use Rattle.omi_outside.specs.declared.status.Status.{Status}
-use Rattle.omi_verbs.specs.Refusal.{IsLate, IsReadFault, status_of}
-use Rattle.omi_verbs.specs.Statuses.{IsPrinting}
-use Rattle.omi_verbs.specs.declared.refusal.Refusal.{Refusal}
-use Rattle.omi_verbs.specs.declared.refusal.Refusal.TheVariants as refusal
+use Rattle.omi_frame.specs.Refusal.{IsLate, IsReadFault, status_of}
+use Rattle.omi_frame.specs.Statuses.{IsPrinting}
+use Rattle.omi_frame.specs.declared.refusal.Refusal.{Refusal}
+use Rattle.omi_frame.specs.declared.refusal.Refusal.TheVariants as refusal
 use Rattle.omi_top.specs.Answer.{IsUnwritten}
 use Rattle.omi_top.specs.Command.{Command}
 

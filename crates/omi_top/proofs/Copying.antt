@@ -20,12 +20,12 @@ use Rattle.omi_top.specs.Files.{Holds}
 use Rattle.omi_top.specs.Questions.{IsCoreRefusal}
 use Rattle.omi_top.specs.Recode.{IsRecodedCopy}
 use Rattle.omi_top.specs.declared.limits.TheConstants.{CORE_FRONT}
-use Rattle.omi_verbs.specs.Refusal.{IsReadFault, IsUnread, refusal_of_core, refusal_of_write, status_of}
-use Rattle.omi_verbs.specs.Statuses.{IsOfCore}
-use Rattle.omi_verbs.specs.declared.refusal.Input.TheVariants as input
-use Rattle.omi_verbs.specs.declared.refusal.Refusal.{Refusal}
-use Rattle.omi_verbs.specs.declared.refusal.Refusal.TheVariants as refusal
-use Rattle.omi_verbs.proofs.Elsewhere.{late}
+use Rattle.omi_frame.specs.Refusal.{IsReadFault, IsUnread, refusal_of_core, refusal_of_write, status_of}
+use Rattle.omi_frame.specs.Statuses.{IsOfCore}
+use Rattle.omi_frame.specs.declared.refusal.Input.TheVariants as input
+use Rattle.omi_frame.specs.declared.refusal.Refusal.{Refusal}
+use Rattle.omi_frame.specs.declared.refusal.Refusal.TheVariants as refusal
+use Rattle.omi_frame.proofs.Elsewhere.{late}
 
 -- ---- a file that can't be read
 

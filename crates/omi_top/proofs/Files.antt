@@ -21,10 +21,10 @@ use Rattle.omi_outside.specs.declared.status.Status.TheVariants as status
 use Rattle.omi_word.specs.declared.limits.TheConstants.{FIRST_ADDRESS}
 use Rattle.omi_top.specs.Files.{HasFault, HasFaultBy, IsCoreBy, IsFaultBy, IsFileOf, IsFileRefusal, IsRefusalBy}
 use Rattle.omi_top.specs.declared.limits.TheConstants.{ELF_FRONT}
-use Rattle.omi_verbs.specs.Refusal.{IsUnread, status_of}
-use Rattle.omi_verbs.specs.declared.refusal.Input.TheVariants as input
-use Rattle.omi_verbs.specs.declared.refusal.Refusal.{Refusal}
-use Rattle.omi_verbs.specs.declared.refusal.Refusal.TheVariants as refusal
+use Rattle.omi_frame.specs.Refusal.{IsUnread, status_of}
+use Rattle.omi_frame.specs.declared.refusal.Input.TheVariants as input
+use Rattle.omi_frame.specs.declared.refusal.Refusal.{Refusal}
+use Rattle.omi_frame.specs.declared.refusal.Refusal.TheVariants as refusal
 
 -- ---- an ELF file stands for one core, or has a fault
 

@@ -15,7 +15,7 @@ use Rattle.omi_top.specs.Questions.{refusal_of_layout}
 use Rattle.omi_verbs.specs.Inquiries.{refusal_of_look}
 use Rattle.omi_top.proofs.Files.{file_not_refused, file_unique, one_told}
 use Rattle.omi_top.proofs.ShowVerdicts.{one_refusal, one_view, report_not_refused}
-use Rattle.omi_verbs.specs.declared.refusal.Refusal.{Refusal}
+use Rattle.omi_frame.specs.declared.refusal.Refusal.{Refusal}
 
 -- ---- one answer of the words of two cores
 

@@ -38,10 +38,10 @@ use Rattle.omi_verbs.specs.Fates.{AreLines, HoldsEach, look_fates}
 use Rattle.omi_top.specs.Questions.{IsAnswerOf, refusal_of_layout}
 use Rattle.omi_verbs.specs.Inquiries.{ComesOfWords, refusal_of_code, refusal_of_look}
 use Rattle.omi_verbs.specs.declared.kept_tasks.KeptTasks.{KeptTasks}
-use Rattle.omi_verbs.specs.Refusal.{IsReadFault, IsUnread}
-use Rattle.omi_verbs.specs.declared.refusal.Input.TheVariants as input
-use Rattle.omi_verbs.specs.declared.refusal.Refusal.{Refusal}
-use Rattle.omi_verbs.specs.declared.refusal.Refusal.TheVariants as refusal
+use Rattle.omi_frame.specs.Refusal.{IsReadFault, IsUnread}
+use Rattle.omi_frame.specs.declared.refusal.Input.TheVariants as input
+use Rattle.omi_frame.specs.declared.refusal.Refusal.{Refusal}
+use Rattle.omi_frame.specs.declared.refusal.Refusal.TheVariants as refusal
 use Rattle.omi_walk.specs.Gives.{Gives}
 use Rattle.omi_walk.specs.Kept.{Keeps, look_names, names_kept, task_names}
 use Rattle.omi_walk.specs.declared.fault.WalkFault.{WalkFault}

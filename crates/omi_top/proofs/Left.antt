@@ -6,14 +6,14 @@ use Rattle.omi_outside.specs.declared.status.Status.{Status}
 use Rattle.omi_outside.specs.declared.status.Status.TheVariants as status
 use Rattle.omi_top.specs.Command.{Command, Stop, Make, Show, Run, Recode, Elf, Audit, Follow, Faulty, names_of, written_name}
 use Rattle.omi_top.specs.Answer.{Answer, Gives, AreTold, IsAnswer, IsAuditAnswer, IsFollowAnswer, IsStopAnswer, IsCopyAnswer, IsMakeAnswer, IsRunAnswer, IsShowAnswer, IsAnswered, IsLeft}
-use Rattle.omi_verbs.specs.Said.{IsSaid}
+use Rattle.omi_frame.specs.Said.{IsSaid}
 use Rattle.omi_top.specs.declared.plan.Plan.{Plan}
 use Rattle.omi_layout.specs.declared.fault.LayoutFault.TheVariants.{Version, Overlap, OutOfRecord, BadArena}
 use Rattle.omi_layout.specs.declared.reading.LayoutError.{LayoutError}
 use Rattle.omi_layout.specs.declared.reading.LayoutError.TheVariants as layout
 use Rattle.omi_rep.specs.declared.fault.LookFault.{LookFault}
 use Rattle.omi_rep.specs.declared.fault.LookFault.TheVariants as look
-use Rattle.omi_verbs.specs.Refusal.{refusal_line, status_of}
+use Rattle.omi_frame.specs.Refusal.{refusal_line, status_of}
 use Rattle.omi_top.specs.Elf.{IsElfCopy}
 use Rattle.omi_top.specs.Files.{IsFileRefusal}
 use Rattle.omi_top.specs.Follow.{IsLaterRefusal}
@@ -21,9 +21,9 @@ use Rattle.omi_top.specs.Questions.{refusal_of_layout}
 use Rattle.omi_top.specs.Recode.{IsRecodedCopy}
 use Rattle.omi_top.proofs.Files.{told_holds}
 use Rattle.omi_verbs.specs.Inquiries.{refusal_of_look}
-use Rattle.omi_verbs.specs.Statuses.{IsPrinting}
-use Rattle.omi_verbs.specs.declared.refusal.Refusal.{Refusal}
-use Rattle.omi_verbs.specs.declared.refusal.Refusal.TheVariants as refusal
+use Rattle.omi_frame.specs.Statuses.{IsPrinting}
+use Rattle.omi_frame.specs.declared.refusal.Refusal.{Refusal}
+use Rattle.omi_frame.specs.declared.refusal.Refusal.TheVariants as refusal
 
 -- a fault of the outside, or want of memory
 abbrev is_fault : Refusal → Bool

@@ -18,9 +18,9 @@ use Rattle.omi_top.specs.Files.{HasFault, IsFileOf}
 use Rattle.omi_top.proofs.Files.{file_unique}
 use Rattle.omi_top.proofs.ShowVerdicts.{says_core, says_incompatible, says_missing}
 use Rattle.omi_top.proofs.Statuses.{DidMore, DoesMore, IsDoneStatus, one_content, comes_where, never_refused as nothing_refused, written_more}
-use Rattle.omi_verbs.specs.Refusal.{status_of}
-use Rattle.omi_verbs.specs.Statuses.{ComesWhere, IsFaultStatus}
-use Rattle.omi_verbs.specs.declared.refusal.Refusal.{Refusal}
+use Rattle.omi_frame.specs.Refusal.{status_of}
+use Rattle.omi_frame.specs.Statuses.{ComesWhere, IsFaultStatus}
+use Rattle.omi_frame.specs.declared.refusal.Refusal.{Refusal}
 
 -- the core in the file gives a layout
 abbrev GivesOne : Option (List ℕ) → Type 0

@@ -8,9 +8,9 @@ use Rattle.omi_corefile.specs.Spelling.{Core}
 use Rattle.omi_corefile.specs.declared.core_image.CoreImage.{CoreImage}
 use Rattle.omi_elf.specs.Spelling.{elf_bytes}
 use Rattle.omi_corefile.proofs.FileLaws.{core_not_refused}
-use Rattle.omi_verbs.specs.declared.refusal.Refusal.{Refusal}
-use Rattle.omi_verbs.specs.Refusal.{status_of}
-use Rattle.omi_verbs.specs.Statuses.{IsFaultStatus, ComesWhere}
+use Rattle.omi_frame.specs.declared.refusal.Refusal.{Refusal}
+use Rattle.omi_frame.specs.Refusal.{status_of}
+use Rattle.omi_frame.specs.Statuses.{IsFaultStatus, ComesWhere}
 use Rattle.omi_top.specs.Answer.{Answer, Gives, IsAnswer, IsCopyAnswer, IsDoneOrFailed, IsLeft, writing}
 use Rattle.omi_top.specs.Command.{Command, Recode, Elf}
 use Rattle.omi_top.specs.Elf.{IsElfCopy, elf_line}

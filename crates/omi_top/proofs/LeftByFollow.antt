@@ -19,9 +19,9 @@ use Rattle.omi_top.proofs.FollowVerdicts.{follow_not_refused, one_follow_answer,
 use Rattle.omi_top.proofs.Statuses.{DidMore, DoesMore, IsDoneStatus, one_content, comes_where, never_refused, written_more}
 use Rattle.omi_top.proofs.TwoStops.{by_runs, stops_of}
 use Rattle.omi_verbs.specs.Cores.{thread_ids}
-use Rattle.omi_verbs.specs.Refusal.{status_of}
-use Rattle.omi_verbs.specs.Statuses.{ComesWhere, IsFaultStatus}
-use Rattle.omi_verbs.specs.declared.refusal.Refusal.{Refusal}
+use Rattle.omi_frame.specs.Refusal.{status_of}
+use Rattle.omi_frame.specs.Statuses.{ComesWhere, IsFaultStatus}
+use Rattle.omi_frame.specs.declared.refusal.Refusal.{Refusal}
 
 -- both files have an answer
 abbrev IsAnswered : Option (List ℕ) → Option (List ℕ) → Type 0

@@ -8,7 +8,7 @@ use Rattle.omi_script.specs.declared.program.Program.{Program}
 use Rattle.omi_top.specs.Answer.{Gives, IsMakeAnswer, IsLeft, IsRefused, IsWritingStatus}
 use Rattle.omi_top.specs.Command.{Make}
 use Rattle.omi_top.specs.Make.{IsMade, make_text}
-use Rattle.omi_verbs.specs.declared.refusal.Refusal.{Refusal}
+use Rattle.omi_frame.specs.declared.refusal.Refusal.{Refusal}
 
 -- it is refused nothing
 never_refused : (n : ℕ) (written : Option (List ℕ)) (r : Refusal) → IsMakeAnswer n (Gives written (Err r)) → ⊥

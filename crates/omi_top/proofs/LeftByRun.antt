@@ -11,13 +11,13 @@ use Rattle.omi_script.specs.declared.fault.ScriptFault.{ScriptFault}
 use Rattle.omi_script.specs.declared.program.Program.{Program}
 use Rattle.omi_script.proofs.VerdictLemmas.{not_both}
 use Rattle.omi_top.specs.Answer.{Answer, Gives, ComesBehind, IsAnswer, IsDoneOrFailed, IsLeft, IsOutsideStatus, IsReadBackStatus, IsRefused, IsReportOf, IsRunAnswer, IsRunShown, IsShowAnswer, IsShowRefusal, IsStopAnswer, IsStopped}
-use Rattle.omi_verbs.specs.Statuses.{ComesWhere}
-use Rattle.omi_verbs.specs.Scripts.{HoldsProgram, IsScriptRefusal}
+use Rattle.omi_frame.specs.Statuses.{ComesWhere}
+use Rattle.omi_frame.specs.Scripts.{HoldsProgram, IsScriptRefusal}
 use Rattle.omi_top.specs.Command.{Run}
 use Rattle.omi_top.specs.Cores.{IsDamaged, IsIncompatible, IsLooked, Spells}
-use Rattle.omi_verbs.specs.Refusal.{status_of}
+use Rattle.omi_frame.specs.Refusal.{status_of}
 use Rattle.omi_top.specs.declared.plan.Plan.{Plan}
-use Rattle.omi_verbs.specs.declared.refusal.Refusal.{Refusal}
+use Rattle.omi_frame.specs.declared.refusal.Refusal.{Refusal}
 use Rattle.omi_top.proofs.LeftByShow.{HasReport, looked_shown, not_refused, run_shown, shown_looked}
 use Rattle.omi_top.specs.Files.{HasFault}
 use Rattle.omi_top.proofs.Files.{core_is_file, file_unique}

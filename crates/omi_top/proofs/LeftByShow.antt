@@ -14,13 +14,13 @@ use Rattle.omi_script.specs.declared.program.Program.{Program}
 use Rattle.omi_model.specs.State.{State}
 use Rattle.omi_model.specs.Views.{IsViewOf}
 use Rattle.omi_model.specs.declared.view.View.{View}
-use Rattle.omi_verbs.specs.declared.refusal.Refusal.{Refusal}
+use Rattle.omi_frame.specs.declared.refusal.Refusal.{Refusal}
 use Rattle.omi_top.specs.declared.plan.Plan.{Plan}
 use Rattle.omi_top.specs.Answer.{Answer, Gives, IsAnswer, IsDoneOrFailed, IsReported, IsReportOf, IsShowAnswer, IsShowRefusal, IsShown, IsStopped, IsLeft, IsRefused}
-use Rattle.omi_verbs.specs.Statuses.{ComesWhere, IsFaultStatus}
+use Rattle.omi_frame.specs.Statuses.{ComesWhere, IsFaultStatus}
 use Rattle.omi_top.specs.Command.{Show}
 use Rattle.omi_top.specs.Cores.{IsDamaged, IsIncompatible, IsLooked, ShowsState, Spells, words_of_core}
-use Rattle.omi_verbs.specs.Refusal.{status_of}
+use Rattle.omi_frame.specs.Refusal.{status_of}
 use Rattle.omi_verbs.specs.Cores.{IsReachedCore, thread_ids}
 use Rattle.omi_verbs.proofs.ImageWords.{image_words}
 use Rattle.omi_rep.proofs.shown.ShownViews.{shown_looked as shown_look}

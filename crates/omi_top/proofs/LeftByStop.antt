@@ -7,13 +7,13 @@ use Rattle.omi_script.specs.Grammar.{Grammar, Refused}
 use Rattle.omi_script.proofs.VerdictLemmas.{not_both}
 use Rattle.omi_script.specs.declared.fault.ScriptFault.{ScriptFault}
 use Rattle.omi_script.specs.declared.program.Program.{Program}
-use Rattle.omi_verbs.specs.declared.refusal.Refusal.{Refusal}
+use Rattle.omi_frame.specs.declared.refusal.Refusal.{Refusal}
 use Rattle.omi_top.specs.Answer.{Answer, Gives, IsAnswer, IsDoneOrFailed, IsStopAnswer, IsLeft, IsStopped}
-use Rattle.omi_verbs.specs.Scripts.{IsScriptRefusal, HoldsProgram}
-use Rattle.omi_verbs.specs.Statuses.{IsFaultStatus, ComesWhere}
+use Rattle.omi_frame.specs.Scripts.{IsScriptRefusal, HoldsProgram}
+use Rattle.omi_frame.specs.Statuses.{IsFaultStatus, ComesWhere}
 use Rattle.omi_top.specs.Command.{Stop}
 use Rattle.omi_top.specs.declared.plan.Plan.{Plan}
-use Rattle.omi_verbs.specs.Refusal.{status_of}
+use Rattle.omi_frame.specs.Refusal.{status_of}
 use Rattle.omi_top.proofs.Statuses.{DidMore, DoesMore, IsDoneStatus, one_content, comes_where, never_refused, written_more}
 
 -- the text has a fault

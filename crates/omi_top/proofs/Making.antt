@@ -14,10 +14,10 @@ use Rattle.omi_top.specs.Make.{IsMade, made_line, make_plan, make_text}
 use Rattle.omi_core.specs.declared.stop.End.{End}
 use Rattle.omi_core.specs.Steps.{events_behind}
 use Rattle.omi_top.specs.Ran.{IsRanBy}
-use Rattle.omi_verbs.specs.Refusal.{refusal_of_write}
-use Rattle.omi_verbs.specs.declared.refusal.Refusal.TheVariants as refusal
+use Rattle.omi_frame.specs.Refusal.{refusal_of_write}
+use Rattle.omi_frame.specs.declared.refusal.Refusal.TheVariants as refusal
 use Rattle.omi_top.proofs.Running.{made_run}
-use Rattle.omi_verbs.proofs.Elsewhere.{late}
+use Rattle.omi_frame.proofs.Elsewhere.{late}
 
 -- a run that was made, and its line
 pub made : (n : ℕ) (p : Program) (tells : List (ℕ × ℕ × Event) → Type 0) (words : List ℕ) (steps : ℕ) (why : End) (line : List ℕ)

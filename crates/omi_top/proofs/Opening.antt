@@ -22,8 +22,8 @@ use Rattle.omi_top.specs.Cores.{IsLooked, words_of_core}
 use Rattle.omi_top.specs.Questions.{IsLayoutRefusal, IsUnopened, refusal_of_layout}
 use Rattle.omi_verbs.specs.Inquiries.{ComesOfWords, refusal_of_code}
 use Rattle.omi_top.specs.Shown.{IsViewed, handed_on}
-use Rattle.omi_verbs.specs.Refusal.{IsReadFault}
-use Rattle.omi_verbs.specs.declared.refusal.Refusal.{Refusal}
+use Rattle.omi_frame.specs.Refusal.{IsReadFault}
+use Rattle.omi_frame.specs.declared.refusal.Refusal.{Refusal}
 use Rattle.omi_walk.specs.Gives.{Gives}
 use Rattle.omi_walk.specs.declared.fault.WalkFault.{WalkFault}
 use Rattle.omi_walk.specs.declared.fault.WalkFault.TheVariants as walk

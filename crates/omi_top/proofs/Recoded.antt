@@ -23,7 +23,7 @@ use Rattle.omi_top.specs.Recoded.{AreAlike, HaveOneAnswer}
 use Rattle.omi_top.proofs.Files.{core_is_file, elf_is_file, file_not_refused, file_unique}
 use Rattle.omi_top.specs.Shown.{IsRefusedCore}
 use Rattle.omi_top.proofs.ShowVerdicts.{one_looked, one_refusal, one_view, report_not_refused}
-use Rattle.omi_verbs.specs.declared.refusal.Refusal.{Refusal}
+use Rattle.omi_frame.specs.declared.refusal.Refusal.{Refusal}
 
 -- ---- two cores with the same contexts and words
 

@@ -7,10 +7,10 @@ use Rattle.omi_top.specs.Answer.{Gives, IsAnswered, IsBehind, IsEarly, IsShowAns
 use Rattle.omi_top.specs.Command.{Run, Show, Stop}
 use Rattle.omi_top.specs.declared.plan.Plan.{Plan}
 use Rattle.omi_outside.specs.declared.status.Status.TheVariants as status
-use Rattle.omi_verbs.specs.Refusal.{status_of}
-use Rattle.omi_verbs.specs.declared.refusal.Input.TheVariants as input
-use Rattle.omi_verbs.specs.declared.refusal.Refusal.{Refusal}
-use Rattle.omi_verbs.specs.declared.refusal.Refusal.TheVariants as refusal
+use Rattle.omi_frame.specs.Refusal.{status_of}
+use Rattle.omi_frame.specs.declared.refusal.Input.TheVariants as input
+use Rattle.omi_frame.specs.declared.refusal.Refusal.{Refusal}
+use Rattle.omi_frame.specs.declared.refusal.Refusal.TheVariants as refusal
 
 -- a fault before `show` reads is one behind the core that was written
 read_back : (plan : Plan) (script core : List ℕ) (r : Refusal) → IsEarly (Show core) r

@@ -19,10 +19,10 @@ use Rattle.omi_top.specs.Cores.{IsDamaged, IsIncompatible, IsLooked, IsWrongTabl
 use Rattle.omi_top.specs.Questions.{refusal_of_layout}
 use Rattle.omi_top.specs.Shown.{IsRefusedCore}
 use Rattle.omi_verbs.specs.Inquiries.{refusal_of_look}
-use Rattle.omi_verbs.specs.Refusal.{status_of}
-use Rattle.omi_verbs.specs.declared.refusal.Input.TheVariants as input
-use Rattle.omi_verbs.specs.declared.refusal.Refusal.{Refusal}
-use Rattle.omi_verbs.specs.declared.refusal.Refusal.TheVariants as refusal
+use Rattle.omi_frame.specs.Refusal.{status_of}
+use Rattle.omi_frame.specs.declared.refusal.Input.TheVariants as input
+use Rattle.omi_frame.specs.declared.refusal.Refusal.{Refusal}
+use Rattle.omi_frame.specs.declared.refusal.Refusal.TheVariants as refusal
 
 -- ---- one answer
 

@@ -8,9 +8,9 @@ use Rattle.omi_top.specs.Answer.{IsAnswered, IsEarly}
 use Rattle.omi_top.specs.Command.{Show}
 use Rattle.omi_top.specs.Questions.{IsAnswerOf}
 use Rattle.omi_top.specs.Shown.{IsViewed}
-use Rattle.omi_verbs.specs.Refusal.{IsUnread}
-use Rattle.omi_verbs.specs.declared.refusal.Input.TheVariants as input
-use Rattle.omi_verbs.specs.declared.refusal.Refusal.{Refusal}
+use Rattle.omi_frame.specs.Refusal.{IsUnread}
+use Rattle.omi_frame.specs.declared.refusal.Input.TheVariants as input
+use Rattle.omi_frame.specs.declared.refusal.Refusal.{Refusal}
 
 module _ (name : List ℕ) (told : List ℕ → Told) (content : Option (List ℕ))
     (is : told name ≡ Some content) (old : Told) where

@@ -4,11 +4,11 @@ use Rattle.std.specs.Prelude.{Result, ⊤}
 use Rattle.omi_outside.specs.Outside.{Told}
 use Rattle.omi_outside.specs.declared.status.Status.{Status}
 use Rattle.omi_outside.specs.declared.status.Status.TheVariants as status
-use Rattle.omi_verbs.specs.declared.refusal.Refusal.{Refusal}
+use Rattle.omi_frame.specs.declared.refusal.Refusal.{Refusal}
 use Rattle.omi_top.specs.Answer.{Answer, Gives, IsAnswer, IsDoneOrFailed, IsLeft, IsPartlyDone, IsToWrite}
-use Rattle.omi_verbs.specs.Statuses.{IsFaultStatus, ComesWhere}
+use Rattle.omi_frame.specs.Statuses.{IsFaultStatus, ComesWhere}
 use Rattle.omi_top.specs.Command.{Command}
-use Rattle.omi_verbs.specs.Refusal.{status_of}
+use Rattle.omi_frame.specs.Refusal.{status_of}
 
 -- an answer writes a core or says a text
 abbrev pub DoesMore : Answer → Type 0

@@ -9,7 +9,7 @@ use Rattle.omi_corefile.specs.Spelling.{core_bytes}
 use Rattle.omi_model.specs.declared.event.Event.{Event}
 use Rattle.omi_core.specs.Steps.{events_behind}
 use Rattle.omi_top.specs.Answer.{Gives, IsAnswer, IsAnswered, IsEarly, IsStopped, IsUnwritten}
-use Rattle.omi_verbs.specs.Scripts.{IsProgramIn, IsScriptRefusal}
+use Rattle.omi_frame.specs.Scripts.{IsProgramIn, IsScriptRefusal}
 use Rattle.omi_top.specs.Command.{Command, Stop as StopCommand}
 use Rattle.omi_verbs.specs.Cores.{IsCoreOf, thread_ids}
 use Rattle.omi_top.specs.Lines.{run_text}
@@ -17,10 +17,10 @@ use Rattle.omi_core.specs.declared.stop.End.{End}
 use Rattle.omi_top.specs.Ran.{IsRanBy}
 use Rattle.omi_top.proofs.Running.{made_run}
 use Rattle.omi_top.specs.declared.plan.Plan.{Plan}
-use Rattle.omi_verbs.specs.Refusal.{refusal_of_write, status_of, IsUnread}
-use Rattle.omi_verbs.proofs.Elsewhere.{late}
-use Rattle.omi_verbs.specs.declared.refusal.Input.TheVariants as input
-use Rattle.omi_verbs.specs.declared.refusal.Refusal.{Refusal}
+use Rattle.omi_frame.specs.Refusal.{refusal_of_write, status_of, IsUnread}
+use Rattle.omi_frame.proofs.Elsewhere.{late}
+use Rattle.omi_frame.specs.declared.refusal.Input.TheVariants as input
+use Rattle.omi_frame.specs.declared.refusal.Refusal.{Refusal}
 
 module _ (plan : Plan) (script core : List ℕ) (told : List ℕ → Told) (content : Option (List ℕ))
     (is : told script ≡ Some content) where

@@ -15,10 +15,10 @@ use Rattle.omi_model.specs.declared.view.View.{View}
 use Rattle.omi_core.specs.declared.entry.Entry.{Entry}
 use Rattle.omi_core.specs.declared.stop.End.{End}
 use Rattle.omi_core.specs.Steps.{events_behind}
-use Rattle.omi_verbs.specs.declared.refusal.Input.{Input}
-use Rattle.omi_verbs.specs.declared.refusal.Input.TheVariants as input
-use Rattle.omi_verbs.specs.declared.refusal.Refusal.{Refusal}
-use Rattle.omi_verbs.specs.declared.refusal.Refusal.TheVariants as refusal
+use Rattle.omi_frame.specs.declared.refusal.Input.{Input}
+use Rattle.omi_frame.specs.declared.refusal.Input.TheVariants as input
+use Rattle.omi_frame.specs.declared.refusal.Refusal.{Refusal}
+use Rattle.omi_frame.specs.declared.refusal.Refusal.TheVariants as refusal
 use Rattle.omi_top.specs.Command.{Command, Stop, Make, Show, Run, Recode, Elf, Audit, Follow, Faulty, ReadsBack, ReadsFirst, WritesLast, names_of}
 use Rattle.omi_text.specs.Report.{report}
 use Rattle.omi_verbs.specs.Cores.{IsCoreOf, thread_ids}
@@ -34,9 +34,9 @@ use Rattle.omi_top.specs.Make.{IsMade, make_text}
 use Rattle.omi_top.specs.Elf.{IsElfCopy}
 use Rattle.omi_top.specs.Files.{IsFileRefusal}
 use Rattle.omi_top.specs.Recode.{IsRecodedCopy}
-use Rattle.omi_verbs.specs.Refusal.{IsLate, refusal_line, status_of}
-use Rattle.omi_verbs.specs.Said.{IsSaid}
-use Rattle.omi_verbs.specs.Scripts.{IsScriptRefusal}
+use Rattle.omi_frame.specs.Refusal.{IsLate, refusal_line, status_of}
+use Rattle.omi_frame.specs.Said.{IsSaid}
+use Rattle.omi_frame.specs.Scripts.{IsScriptRefusal}
 use Rattle.omi_top.specs.Run.{IsRun}
 use Rattle.omi_top.specs.declared.plan.Plan.{Plan}
 

@@ -14,10 +14,10 @@ use Rattle.omi_model.specs.State.{State}
 use Rattle.omi_text.specs.Numbers.{hexadecimal}
 use Rattle.omi_top.specs.Cores.{ShowsState, words_of_core}
 use Rattle.omi_top.specs.Questions.{IsLayoutRefusal}
-use Rattle.omi_verbs.specs.Refusal.{IsUnread}
-use Rattle.omi_verbs.specs.declared.refusal.Input.TheVariants as input
-use Rattle.omi_verbs.specs.declared.refusal.Refusal.{Refusal}
-use Rattle.omi_verbs.specs.declared.refusal.Refusal.TheVariants as refusal
+use Rattle.omi_frame.specs.Refusal.{IsUnread}
+use Rattle.omi_frame.specs.declared.refusal.Input.TheVariants as input
+use Rattle.omi_frame.specs.declared.refusal.Refusal.{Refusal}
+use Rattle.omi_frame.specs.declared.refusal.Refusal.TheVariants as refusal
 
 -- the verdict on the words of a core, through the valid layout that they give
 pub record IsAudited (core : CoreImage) (v : Verdict) : Type 0 where

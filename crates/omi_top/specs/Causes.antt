@@ -5,12 +5,12 @@ use Rattle.std.specs.Global.{Vec}
 use Rattle.omi_outside.specs.Outside.{HasCause, Rose}
 use Rattle.omi_outside.specs.declared.status.Status.{Status}
 use Rattle.omi_outside.specs.declared.status.Status.TheVariants as status
-use Rattle.omi_verbs.specs.Refusal.{IsReadFault, status_of}
-use Rattle.omi_verbs.specs.Said.{IsCounted}
-use Rattle.omi_verbs.specs.Seen.{SeenFiles, SeenOutput}
-use Rattle.omi_verbs.specs.Statuses.{IsOfCore}
-use Rattle.omi_verbs.specs.declared.refusal.Refusal.{Refusal}
-use Rattle.omi_verbs.specs.declared.refusal.Refusal.TheVariants as refusal
+use Rattle.omi_frame.specs.Refusal.{IsReadFault, status_of}
+use Rattle.omi_frame.specs.Said.{IsCounted}
+use Rattle.omi_frame.specs.Seen.{SeenFiles, SeenOutput}
+use Rattle.omi_frame.specs.Statuses.{IsOfCore}
+use Rattle.omi_frame.specs.declared.refusal.Refusal.{Refusal}
+use Rattle.omi_frame.specs.declared.refusal.Refusal.TheVariants as refusal
 use Rattle.omi_top.specs.Answer.{AreTold, IsAnswered, IsLeft, IsUnwritten}
 use Rattle.omi_top.specs.Command.{Command, Faulty, RefusesCore, Writes, written_name}
 

@@ -9,9 +9,9 @@ use Rattle.omi_top.specs.declared.limits.TheConstants.{MOST_NODES}
 use Rattle.omi_top.specs.declared.plan.Plan.{Plan}
 use Rattle.omi_outside.specs.declared.status.Status.{Status}
 use Rattle.omi_outside.specs.declared.status.Status.TheVariants as status
-use Rattle.omi_verbs.specs.Refusal.{Named}
-use Rattle.omi_verbs.specs.declared.refusal.Input.{Input}
-use Rattle.omi_verbs.specs.declared.refusal.Input.TheVariants as input
+use Rattle.omi_frame.specs.Refusal.{Named}
+use Rattle.omi_frame.specs.declared.refusal.Input.{Input}
+use Rattle.omi_frame.specs.declared.refusal.Input.TheVariants as input
 use Rattle.omi_top.specs.Plan.{plan_of}
 
 -- a command of the program, or words that are none

@@ -3,9 +3,9 @@ use Rattle.std.specs.Prelude.{◌≡◌, ℕ, List, Option, Some, ⊤}
 use Rattle.omi_outside.specs.Outside.{Told}
 use Rattle.omi_top.specs.Answer.{Answer, AreTold, IsAnswer, IsCopyAnswer, writing}
 use Rattle.omi_top.specs.Command.{Command, ReadsFirst, Writes, written_name}
-use Rattle.omi_verbs.specs.declared.refusal.Input.TheVariants as input
-use Rattle.omi_verbs.specs.declared.refusal.Refusal.{Refusal}
-use Rattle.omi_verbs.specs.declared.refusal.Refusal.TheVariants as refusal
+use Rattle.omi_frame.specs.declared.refusal.Input.TheVariants as input
+use Rattle.omi_frame.specs.declared.refusal.Refusal.{Refusal}
+use Rattle.omi_frame.specs.declared.refusal.Refusal.TheVariants as refusal
 
 -- the command reads the file of a core and then writes that of a copy, and its answers are such copies
 pub record IsCopying (command : Command) (core copy : List ℕ) (copies : List ℕ → List ℕ → List ℕ → Type 0)

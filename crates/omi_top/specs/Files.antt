@@ -10,9 +10,9 @@ use Rattle.omi_elf.specs.Header.{begins_as_elf}
 use Rattle.omi_elf.specs.Table.{ElfRefused}
 use Rattle.omi_elf.specs.declared.fault.ElfFault.{ElfFault}
 use Rattle.omi_top.specs.declared.limits.TheConstants.{ELF_FRONT}
-use Rattle.omi_verbs.specs.declared.refusal.Input.TheVariants as input
-use Rattle.omi_verbs.specs.declared.refusal.Refusal.{Refusal}
-use Rattle.omi_verbs.specs.declared.refusal.Refusal.TheVariants as refusal
+use Rattle.omi_frame.specs.declared.refusal.Input.TheVariants as input
+use Rattle.omi_frame.specs.declared.refusal.Refusal.{Refusal}
+use Rattle.omi_frame.specs.declared.refusal.Refusal.TheVariants as refusal
 
 -- Each of the following is said of an ELF file, `true`, and of any other one.
 

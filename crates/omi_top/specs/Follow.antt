@@ -22,10 +22,10 @@ use Rattle.omi_verbs.specs.Fates.{AreHeld, look_fates}
 use Rattle.omi_verbs.specs.Inquiries.{refusal_of_look, refusal_of_walk}
 use Rattle.omi_top.specs.Shown.{IsRefusedCore}
 use Rattle.omi_verbs.specs.declared.kept_tasks.KeptTasks.{KeptTasks}
-use Rattle.omi_verbs.specs.Refusal.{IsUnread}
-use Rattle.omi_verbs.specs.declared.refusal.Input.TheVariants as input
-use Rattle.omi_verbs.specs.declared.refusal.Refusal.{Refusal}
-use Rattle.omi_verbs.specs.declared.refusal.Refusal.TheVariants as refusal
+use Rattle.omi_frame.specs.Refusal.{IsUnread}
+use Rattle.omi_frame.specs.declared.refusal.Input.TheVariants as input
+use Rattle.omi_frame.specs.declared.refusal.Refusal.{Refusal}
+use Rattle.omi_frame.specs.declared.refusal.Refusal.TheVariants as refusal
 
 -- ---- what is made of two cores
 

@@ -11,10 +11,10 @@ use Rattle.omi_top.specs.Cores.{words_of_core}
 use Rattle.omi_elf.specs.Header.{begins_as_elf}
 use Rattle.omi_top.specs.Files.{IsCoreBy, IsFaultBy, IsRefusalBy}
 use Rattle.omi_verbs.specs.Inquiries.{ComesOfWords}
-use Rattle.omi_verbs.specs.Refusal.{IsUnread}
-use Rattle.omi_verbs.specs.declared.refusal.Input.TheVariants as input
-use Rattle.omi_verbs.specs.declared.refusal.Refusal.{Refusal}
-use Rattle.omi_verbs.specs.declared.refusal.Refusal.TheVariants as refusal
+use Rattle.omi_frame.specs.Refusal.{IsUnread}
+use Rattle.omi_frame.specs.declared.refusal.Input.TheVariants as input
+use Rattle.omi_frame.specs.declared.refusal.Refusal.{Refusal}
+use Rattle.omi_frame.specs.declared.refusal.Refusal.TheVariants as refusal
 
 -- ---- what an error is handed on as. A callback that fails is a read that failed
 

@@ -6,14 +6,14 @@ ghost use Rattle.omi_outside.specs.declared.status.Status.TheVariants.{Script};
 ghost use Rattle.omi_top.specs.Answer.{AreTold, IsAnswered};
 ghost use Rattle.omi_top.specs.Audit.{audit_line, judged, refusal_of_audit};
 ghost use Rattle.omi_top.specs.Command.{Audit};
-ghost use Rattle.omi_verbs.specs.Refusal.{IsReadFault, status_of};
+ghost use Rattle.omi_frame.specs.Refusal.{IsReadFault, status_of};
 
 use crate::opened::{has_valid_layout, opened};
 use crate::question::{Question, ask_file};
 use omi_audit::{AuditFault, Verdict, audit as audit_words};
 use omi_calls::{Callbacks, ToHost};
+use omi_frame::{Input, Refusal, field_text};
 use omi_outside::Files;
-use omi_verbs::{Input, Refusal, field_text};
 use omi_word::Natives;
 use std::alloc::{AllocError, Global};
 

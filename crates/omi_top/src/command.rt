@@ -6,12 +6,12 @@ ghost use Rattle.std.specs.Str.{IsUtf8};
 ghost use Rattle.omi_line.specs.Line.{IsText};
 ghost use Rattle.omi_top.specs.Command.{audit_by, command_by, elf_by, follow_by, has_option, make_by, names_of, recode_by, run_by, show_by, stop_by, verb_by};
 ghost use Rattle.omi_top.specs.Asked.{asked, IsBounded};
-ghost use Rattle.omi_verbs.specs.Refusal.{named};
+ghost use Rattle.omi_frame.specs.Refusal.{named};
 
 use crate::limits::MOST_NODES;
 use crate::plan::{Plan, plan_of};
+use omi_frame::{Names, text_of};
 use omi_line::{Line, Text, number};
-use omi_verbs::{Names, text_of};
 
 /// What a command line asks for.
 #[derive(Clone, Copy)]

@@ -9,14 +9,14 @@ ghost use Rattle.omi_top.specs.Command.{Command};
 ghost use Rattle.omi_top.specs.Copy.{IsCopying, IsOfCoreFile};
 ghost use Rattle.omi_top.specs.Files.{Holds};
 ghost use Rattle.omi_top.specs.Questions.{IsCoreRefusal};
-ghost use Rattle.omi_verbs.specs.Refusal.{IsReadFault, IsUnread, status_of};
-ghost use Rattle.omi_verbs.specs.Seen.{files_seen};
-ghost use Rattle.omi_verbs.specs.Statuses.{IsOfCore};
+ghost use Rattle.omi_frame.specs.Refusal.{IsReadFault, IsUnread, status_of};
+ghost use Rattle.omi_frame.specs.Seen.{files_seen};
+ghost use Rattle.omi_frame.specs.Statuses.{IsOfCore};
 
 use crate::limits::CORE_FRONT;
 use omi_corefile::{CoreImage, decode};
+use omi_frame::{Input, Refusal, load};
 use omi_outside::{Files, write_whole};
-use omi_verbs::{Input, Refusal, load};
 use std::alloc::{AllocError, Global};
 
 /// The bytes of a copy, and what is printed of it.

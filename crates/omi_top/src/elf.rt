@@ -5,15 +5,15 @@ ghost use Rattle.omi_outside.specs.declared.status.Status.TheVariants.{Core};
 ghost use Rattle.omi_top.specs.Causes.{Performed};
 ghost use Rattle.omi_top.specs.Command.{Elf};
 ghost use Rattle.omi_top.specs.Elf.{elf_line};
-ghost use Rattle.omi_verbs.specs.Refusal.{status_of};
-ghost use Rattle.omi_verbs.specs.Seen.{files_seen};
-ghost use Rattle.omi_verbs.specs.Statuses.{IsOfCore};
+ghost use Rattle.omi_frame.specs.Refusal.{status_of};
+ghost use Rattle.omi_frame.specs.Seen.{files_seen};
+ghost use Rattle.omi_frame.specs.Statuses.{IsOfCore};
 
 use crate::copy::{Copied, Copying, write_copy};
 use omi_corefile::CoreImage;
 use omi_elf::encode_elf;
+use omi_frame::Refusal;
 use omi_outside::Files;
-use omi_verbs::Refusal;
 use std::alloc::{AllocError, Global};
 
 /// What is printed of an ELF file with so many segments of memory.

@@ -6,14 +6,15 @@ ghost use Rattle.omi_outside.specs.declared.status.Status.TheVariants.{Script};
 ghost use Rattle.omi_top.specs.Answer.{AreTold, IsAnswered};
 ghost use Rattle.omi_top.specs.Command.{Follow};
 ghost use Rattle.omi_top.specs.Follow.{kept_in, of_later};
-ghost use Rattle.omi_verbs.specs.Refusal.{IsReadFault, status_of};
+ghost use Rattle.omi_frame.specs.Refusal.{IsReadFault, status_of};
 
 use crate::opened::{has_valid_layout, opened};
 use crate::question::{Question, ask_file};
 use omi_calls::{Callbacks, Table, ToHost};
+use omi_frame::{Input, Refusal};
 use omi_outside::Files;
 use omi_session::Parted;
-use omi_verbs::{Input, KeptTasks, Refusal, fates, refusal_of_code, refusal_of_walk};
+use omi_verbs::{KeptTasks, fates, refusal_of_code, refusal_of_walk};
 use omi_walk::{KeptList, WalkFault, kept};
 use omi_word::Natives;
 use std::alloc::Global;

@@ -6,14 +6,14 @@ ghost use Rattle.omi_top.specs.Answer.{AreTold, IsAnswered, IsUnwritten};
 ghost use Rattle.omi_top.specs.Asked.{IsPossible};
 ghost use Rattle.omi_top.specs.Command.{Run};
 ghost use Rattle.omi_top.specs.Causes.{Stays};
-ghost use Rattle.omi_verbs.specs.Refusal.{IsReadFault, status_of};
-ghost use Rattle.omi_verbs.specs.Seen.{files_seen};
+ghost use Rattle.omi_frame.specs.Refusal.{IsReadFault, status_of};
+ghost use Rattle.omi_frame.specs.Seen.{files_seen};
 
 use crate::plan::Plan;
 use crate::show::show;
 use crate::stop::stop;
+use omi_frame::Refusal;
 use omi_outside::Files;
-use omi_verbs::Refusal;
 use std::alloc::Global;
 
 /// Does what `stop` does, reads the core back, and answers what `stop` prints with the core's report behind it.

@@ -6,15 +6,16 @@ ghost use Rattle.omi_outside.specs.declared.status.Status.TheVariants.{Script};
 ghost use Rattle.omi_top.specs.Answer.{AreTold, IsAnswered};
 ghost use Rattle.omi_top.specs.Command.{Show};
 ghost use Rattle.omi_top.specs.Shown.{handed_on};
-ghost use Rattle.omi_verbs.specs.Refusal.{IsReadFault, status_of};
+ghost use Rattle.omi_frame.specs.Refusal.{IsReadFault, status_of};
 
 use crate::opened::{has_valid_layout, opened};
 use crate::question::{Question, ask_file};
 use omi_calls::{Callbacks, ToHost};
+use omi_frame::Refusal;
 use omi_model::View;
 use omi_outside::Files;
 use omi_text::report_text;
-use omi_verbs::{Refusal, refusal_of_walk};
+use omi_verbs::refusal_of_walk;
 use omi_walk::{WalkFault, walk};
 use omi_word::Natives;
 use std::alloc::Global;

@@ -4,21 +4,22 @@ ghost use Rattle.std.specs.Prelude.{◌≢◌, ◌<◌, ◌≤◌, length, IfOk,
 ghost use Rattle.omi_corefile.specs.Spelling.{core_bytes};
 ghost use Rattle.omi_script.specs.declared.limits.TheConstants.{MAX_THREADS};
 ghost use Rattle.omi_top.specs.Answer.{IsStopped};
-ghost use Rattle.omi_verbs.specs.Statuses.{IsOfCore};
+ghost use Rattle.omi_frame.specs.Statuses.{IsOfCore};
 ghost use Rattle.omi_top.specs.Command.{Stop as StopCommand};
 ghost use Rattle.omi_top.specs.Asked.{IsPossible};
 ghost use Rattle.omi_top.specs.Causes.{Performed};
-ghost use Rattle.omi_verbs.specs.Seen.{files_seen};
-ghost use Rattle.omi_verbs.specs.Refusal.{status_of};
+ghost use Rattle.omi_frame.specs.Seen.{files_seen};
+ghost use Rattle.omi_frame.specs.Refusal.{status_of};
 
 use crate::lines::text_of;
 use crate::plan::Plan;
 use crate::run::run_of;
 use omi_core::Recorded;
 use omi_corefile::image_makes_a_core;
+use omi_frame::{Refusal, program_of};
 use omi_outside::Files;
 use omi_script::Program;
-use omi_verbs::{Lines, Refusal, contexts_of, program_of, write_core};
+use omi_verbs::{Lines, contexts_of, write_core};
 use omi_word::{Image, Natives, OutOfMemory};
 use std::alloc::Global;
 

@@ -12,15 +12,15 @@ ghost use Rattle.omi_top.specs.Command.{Stop, Make, Show, Run, Recode, Elf, Audi
 ghost use Rattle.omi_top.specs.declared.plan.Plan.{Plan};
 ghost use Rattle.omi_top.specs.Asked.{asked, IsBounded};
 ghost use Rattle.omi_top.specs.Causes.{Concluded, Performed};
-ghost use Rattle.omi_verbs.specs.Seen.{files_seen, output_seen};
-ghost use Rattle.omi_verbs.specs.Refusal.{HasRoom, status_of};
-ghost use Rattle.omi_verbs.specs.declared.refusal.Refusal.{Refusal as Why};
+ghost use Rattle.omi_frame.specs.Seen.{files_seen, output_seen};
+ghost use Rattle.omi_frame.specs.Refusal.{HasRoom, status_of};
+ghost use Rattle.omi_frame.specs.declared.refusal.Refusal.{Refusal as Why};
 ghost use Rattle.omi_outside.specs.declared.status.Status.{Status as Ending};
 ghost use Rattle.omi_top.specs.Answer.{AreTold, Gives, IsFollowAnswer, IsFollowRefusal, IsApproved, IsStopped, IsLeft, IsUnwritten, ComesBehind, IsDoneOrFailed, IsReadBackStatus, IsReported, IsReportOf, IsRunShown, IsShown, IsWritingStatus};
 ghost use Rattle.omi_top.specs.Promise.{IsPromised};
-ghost use Rattle.omi_verbs.specs.Said.{IsSaid, IsCounted};
-ghost use Rattle.omi_verbs.specs.Statuses.{ComesWhere, IsOfCore};
-ghost use Rattle.omi_verbs.specs.Scripts.{HoldsProgram};
+ghost use Rattle.omi_frame.specs.Said.{IsSaid, IsCounted};
+ghost use Rattle.omi_frame.specs.Statuses.{ComesWhere, IsOfCore};
+ghost use Rattle.omi_frame.specs.Scripts.{HoldsProgram};
 ghost use Rattle.omi_top.specs.Make.{IsMade, make_text};
 ghost use Rattle.omi_top.specs.Recode.{IsRecoded, recoded_line};
 ghost use Rattle.omi_top.specs.Elf.{elf_line};
@@ -48,8 +48,8 @@ use crate::recode::recode;
 use crate::run_and_show::run_and_show;
 use crate::show::show;
 use crate::stop::stop;
+use omi_frame::{Refusal, line_in, print, refuse, refuse_words, room_for};
 use omi_outside::{Files, Sink, Status};
-use omi_verbs::{Refusal, line_in, print, refuse, refuse_words, room_for};
 use std::alloc::Global;
 
 /// Does all but the printing.

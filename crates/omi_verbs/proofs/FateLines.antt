@@ -30,8 +30,8 @@ use Rattle.omi_session.specs.declared.rc.Rc.{Rc}
 use Rattle.omi_session.specs.declared.rc.Rc.TheVariants as code
 use Rattle.omi_verbs.specs.Fates.{AreLines, HoldsEach, IsFate, fate_line, fate_of, is_current, look_fates}
 use Rattle.omi_verbs.specs.Inquiries.{ComesOfWords, refusal_of_code}
-use Rattle.omi_verbs.specs.Refusal.{IsReadFault}
-use Rattle.omi_verbs.specs.declared.refusal.Refusal.{Refusal}
+use Rattle.omi_frame.specs.Refusal.{IsReadFault}
+use Rattle.omi_frame.specs.declared.refusal.Refusal.{Refusal}
 use Rattle.omi_walk.proofs.Steps.{mapped_same}
 use Rattle.omi_walk.specs.Kept.{task_object}
 use Rattle.omi_word.specs.Words.{Words}

@@ -1,14 +1,9 @@
-pub mod Digits
-pub mod FieldNames
 pub mod ThreadIds
 pub mod CorePieces
 pub mod CoreFiles
 pub mod ImageWords
 pub mod EventLines
-pub mod Scripts
-pub mod Elsewhere
 pub mod RunLines
-pub mod Behind
 pub mod FateLines
 pub mod Current
 pub mod Lengths

@@ -18,11 +18,11 @@ use Rattle.omi_text.specs.Ids.{task_id}
 use Rattle.omi_walk.specs.Kept.{task_object}
 use Rattle.omi_word.specs.Words.{Words}
 use Rattle.omi_verbs.specs.Inquiries.{refusal_of_code, refusal_of_look}
-use Rattle.omi_verbs.specs.Refusal.{IsUnread}
+use Rattle.omi_frame.specs.Refusal.{IsUnread}
 use Rattle.omi_verbs.specs.declared.kept_tasks.KeptTasks.{KeptTasks}
-use Rattle.omi_verbs.specs.declared.refusal.Input.TheVariants as input
-use Rattle.omi_verbs.specs.declared.refusal.Refusal.{Refusal}
-use Rattle.omi_verbs.specs.declared.refusal.Refusal.TheVariants as refusal
+use Rattle.omi_frame.specs.declared.refusal.Input.TheVariants as input
+use Rattle.omi_frame.specs.declared.refusal.Refusal.{Refusal}
+use Rattle.omi_frame.specs.declared.refusal.Refusal.TheVariants as refusal
 
 -- ---- what became of a task
 

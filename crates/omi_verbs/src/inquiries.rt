@@ -3,7 +3,7 @@
 ghost use Rattle.std.specs.Prelude.{◌≡◌};
 ghost use Rattle.omi_verbs.specs.Inquiries.{refusal_of_code, refusal_of_walk};
 
-use crate::refusal::{Input, Refusal};
+use omi_frame::{Input, Refusal};
 use omi_session::Rc;
 use omi_walk::WalkFault;
 

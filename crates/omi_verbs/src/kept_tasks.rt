@@ -8,14 +8,14 @@ ghost use Rattle.omi_session.specs.Opened.{StaysWhole};
 ghost use Rattle.omi_session.specs.Tells.{Tells};
 ghost use Rattle.omi_verbs.specs.Fates.{AreLines, HoldsEach, IsFate, fate_line, fate_of, fate_word, is_current};
 ghost use Rattle.omi_verbs.specs.Inquiries.{ComesOfWords};
-ghost use Rattle.omi_verbs.specs.Refusal.{IsReadFault};
+ghost use Rattle.omi_frame.specs.Refusal.{IsReadFault};
 ghost use Rattle.omi_walk.specs.Kept.{task_object};
 ghost use Rattle.omi_word.specs.Words.{Words};
 
 use crate::inquiries::refusal_of_code;
-use crate::refusal::Refusal;
 use omi_asktask::get_task_function;
 use omi_calls::{Callbacks, ToHost};
+use omi_frame::Refusal;
 use omi_handle::TaskHandle;
 use omi_model::{Id, Tid};
 use omi_session::{Parted, Rc, Session};

@@ -1,12 +1,4 @@
-//! The limits that the commands of all programs share. Each stands here alone: definitions, code and proofs name it.
-
-use omi_script::limits::MAX_BYTES;
+//! The limit of an option that several programs have. It stands here alone: definitions, code and proofs name it.
 
 /// The greatest number of a family of layouts.
 pub const MOST_LAYOUT: u64 = 15;
-
-/// The most bytes that are read of a script: one more than a script may have.
-pub const SCRIPT_FRONT: u64 = MAX_BYTES as u64 + 1;
-
-/// The most bytes of a refusal's line besides the name of a file.
-pub const LINE_ROOM: usize = 128;

@@ -1,9 +1,9 @@
 //! The program: `rewind_top` over real files and standard output.
 #![tactic(auto)]
 
+use omi_frame::words_of;
 use omi_outside::{DiskFiles, Status, StdSink, hold_standard};
 use omi_rewind_top::rewind_top;
-use omi_verbs::words_of;
 use std::process::ExitCode;
 
 fn main(rt: HostRuntime) -> ExitCode {

@@ -1,9 +1,9 @@
 // The program: `run_top` over real files and standard output.
 #![tactic(auto)]
 
+use omi_frame::{handed_over, words_of};
 use omi_outside::{DiskFiles, Status, StdSink, hold_standard};
 use omi_top::run_top;
-use omi_verbs::{handed_over, words_of};
 use std::process::ExitCode;
 
 fn main(rt: HostRuntime) -> ExitCode {

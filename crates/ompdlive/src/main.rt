@@ -1,10 +1,10 @@
 // The program: `live_top` over real files and standard output.
 #![tactic(auto)]
 
+use omi_frame::{handed_over, words_of};
 use omi_live::live_top;
 use omi_outside::{DiskFiles, Status, StdSink, hold_standard};
 use omi_seat::{MOST_TURNS, StartGate};
-use omi_verbs::{handed_over, words_of};
 use std::process::ExitCode;
 
 fn main(rt: HostRuntime) -> ExitCode {

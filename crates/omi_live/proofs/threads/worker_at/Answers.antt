@@ -1,4 +1,4 @@
-use Rattle.std.proofs.Common.{◌≡◌, [], ◌∷◌, refl, sym, ap, ◌∙◌, subst}
+use Rattle.std.proofs.Common.{[], ◌∷◌, refl, sym, ap, ◌∙◌, subst}
 use Rattle.omi_seat.specs.Known.{untouched}
 use Rattle.omi_seat.specs.StepLog.{HasRoom, IsLogOf}
 use Rattle.omi_live.specs.Plays.{first_part}

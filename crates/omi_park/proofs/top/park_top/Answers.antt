@@ -1,37 +1,47 @@
-use Rattle.std.proofs.Common.{◌∙◌, Some, ap}
+use Rattle.std.proofs.Common.{◌≡◌, ◌∙◌, Some, ap}
 use Rattle.std.specs.Prelude.{option_and_then}
+use Rattle.omi_frame.specs.Concluded.{Leaves}
+use Rattle.omi_frame.specs.Seen.{SeenFiles, SeenOutput, files_seen, output_seen}
+use Rattle.omi_frame.proofs.Commands.{leaves_as, one_command}
+use Rattle.omi_frame.proofs.OfScript.{no_file, script_refused}
+use Rattle.omi_park.specs.Answer.{park_of, park_verb}
 use Rattle.omi_park.specs.Asked.{asked}
-use Rattle.omi_park.specs.Command.{park_command_by}
-use Rattle.omi_park.proofs.Left.{left_of, no_file, one_command, script_refused, success}
+use Rattle.omi_park.specs.Command.{ParkCommand, park_command_by, park_command_in}
+use Rattle.omi_park.proofs.Left.{success}
+use Rattle.omi_park.proofs.top.park_top.Given as given
 use Rattle.omi_park.proofs.top.park_top.Goals as goal
+use Rattle.omi_park.proofs.top.park_top.Goals.{Joined-line}
+
+-- what is seen before the call and behind it
+abbrev files : (g : given.Over) → Joined-line g → SeenFiles
+files g c = files_seen (g.F.Files.told c.args.files.now) (g.F.Files.reads c.args.files.now) (g.F.Files.writes c.args.files.now)
+
+abbrev files_now : (g : given.Over) → Joined-line g → SeenFiles
+files_now g c = files_seen (g.F.Files.told c.carry_out.new.files) (g.F.Files.reads c.carry_out.new.files) (g.F.Files.writes c.carry_out.new.files)
+
+abbrev out : (g : given.Over) → Joined-line g → SeenOutput
+out g c = output_seen (g.K.Sink.told c.args.out.now) (g.K.Sink.faults c.args.out.now) (g.K.Sink.wants c.args.out.now)
+
+abbrev out_now : (g : given.Over) → Joined-line g → SeenOutput
+out_now g c = output_seen (g.K.Sink.told c.carry_out.new.out) (g.K.Sink.faults c.carry_out.new.out) (g.K.Sink.wants c.carry_out.new.out)
+
+-- what the call leaves, by the words' command
+left_by : (g : given.Over) (c : Joined-line g) (command : ParkCommand) → park_command_in c.args.words.now ≡ Some command
+    → Leaves (park_verb command) c.carry_out.result (files g c) (files g c) (files_now g c) (out g c) (out_now g c)
+left_by g c command is =
+    leaves_as park_verb c.carry_out.result (files g c) (files g c) (files_now g c) (out g c) (out_now g c) (asked c.in-Some.request) command
+    (one_command (asked c.in-Some.request) command
+    (c.in-Some.ensures.asked ∙ ap (option_and_then park_command_by) c.in-Ok.ensures.line ∙ is))
+    c.carry_out.ensures.concluded.left
 
 pub returns-in-Some-clause-no_file : goal.returns-in-Some-clause-no_file
-returns-in-Some-clause-no_file g c = λ command content is told.
-    let same =
-    one_command (asked c.in-Some.request) command
-    (c.in-Some.ensures.asked ∙ ap (option_and_then park_command_by) c.in-Ok.ensures.line ∙ is) in
-    no_file command _ _ _ content c.carry_out.result
-    (left_of (asked c.in-Some.request) command c.carry_out.result (g.F.Files.told c.args.files.now) _ _ _ content same c.carry_out.ensures.left told)
+returns-in-Some-clause-no_file g c command content is told =
+    no_file (park_of command) (files g c).told content told _ _ _ _ _ c.carry_out.result (left_by g c command is (content, told))
 
 pub returns-in-Some-clause-script : goal.returns-in-Some-clause-script
-returns-in-Some-clause-script g c = λ command bytes is told.
-    let same =
-    one_command (asked c.in-Some.request) command
-    (c.in-Some.ensures.asked ∙ ap (option_and_then park_command_by) c.in-Ok.ensures.line ∙ is) in
-    script_refused command _ _ _ bytes c.carry_out.result
-    (left_of (asked c.in-Some.request) command c.carry_out.result (g.F.Files.told c.args.files.now) _ _ _ (Some bytes) same c.carry_out.ensures.left told)
-
-pub returns-in-Some-clause-left : goal.returns-in-Some-clause-left
-returns-in-Some-clause-left g c = λ command content is told.
-    let same =
-    one_command (asked c.in-Some.request) command
-    (c.in-Some.ensures.asked ∙ ap (option_and_then park_command_by) c.in-Ok.ensures.line ∙ is) in
-    left_of (asked c.in-Some.request) command c.carry_out.result (g.F.Files.told c.args.files.now) _ _ _ content same c.carry_out.ensures.left told
+returns-in-Some-clause-script g c command bytes is told =
+    script_refused (park_of command) (files g c).told bytes told _ _ _ _ _ c.carry_out.result (left_by g c command is (Some bytes, told))
 
 pub returns-in-Some-clause-success : goal.returns-in-Some-clause-success
-returns-in-Some-clause-success g c = λ command bytes is told done.
-    let same =
-    one_command (asked c.in-Some.request) command
-    (c.in-Some.ensures.asked ∙ ap (option_and_then park_command_by) c.in-Ok.ensures.line ∙ is) in
-    success command _ _ _ bytes c.carry_out.result done
-    (left_of (asked c.in-Some.request) command c.carry_out.result (g.F.Files.told c.args.files.now) _ _ _ (Some bytes) same c.carry_out.ensures.left told)
+returns-in-Some-clause-success g c command bytes is told done =
+    success c.carry_out.result (files g c) (files_now g c) (out g c) (out_now g c) command bytes told done (left_by g c command is)

@@ -1,30 +1,28 @@
-use Rattle.std.proofs.Common.{◌∙◌, ap, inl}
+use Rattle.std.proofs.Common.{◌∙◌, ap, arith}
 use Rattle.std.proofs.lemmas.Result.{err_from_is_err_and}
+use Rattle.omi_frame.specs.Seen.{files_seen}
+use Rattle.omi_frame.proofs.OfScript.{refused_performed}
+use Rattle.omi_rewind_top.specs.Answer.{rewind_of}
 use Rattle.omi_rewind_top.specs.Asked.{asked}
-use Rattle.omi_rewind_top.proofs.Left.{answered, kind_of_text, text_not_read, unread}
+use Rattle.omi_rewind_top.proofs.Performing.{text_performed}
 use Rattle.omi_rewind_top.proofs.top.perform.Goals as goal
 
-pub returns-in_err-p-clause-answer : goal.returns-in_err-p-clause-answer
-returns-in_err-p-clause-answer g c = λ content told.
+pub returns-in_err-p-clause-performed : goal.returns-in_err-p-clause-performed
+returns-in_err-p-clause-performed g c =
     let p = err_from_is_err_and c.from_residual.result c.from_residual.ensures.1 in
-    rw (p.1, p.2) (unread (asked c.args.request) content c.in_err-p.field-0.0 (c.in_err-p.ensures.refused content (ap (g.F.Files.told c.args.files.now) c.script.ensures ∙ told)))
+    let command = asked c.args.request in
+    let files = files_seen (g.F.Files.told c.args.files.now) (g.F.Files.reads c.args.files.now) (g.F.Files.writes c.args.files.now) in
+    let files_now = files_seen (g.F.Files.told c.program_of.new.files) (g.F.Files.reads c.program_of.new.files) (g.F.Files.writes c.program_of.new.files) in
+    rw (p.1, p.2)
+    (refused_performed (rewind_of command) files files_now files files_now c.in_err-p.field-0.0
+    (λ content told. c.in_err-p.ensures.refused content (ap (g.F.Files.told c.args.files.now) c.script.ensures ∙ told))
+    c.in_err-p.ensures.kind c.in_err-p.ensures.cause c.in_err-p.ensures.same (omega (arith, c.in_err-p.ensures.writes)))
 
-pub returns-in_err-p-clause-kind : goal.returns-in_err-p-clause-kind
-returns-in_err-p-clause-kind g c =
-    let p = err_from_is_err_and c.from_residual.result c.from_residual.ensures.1 in
-    rw (p.1, p.2) (inl c.in_err-p.ensures.kind)
-
-pub returns-clause-answer : goal.returns-clause-answer
-returns-clause-answer g c = λ content told.
-    answered (asked c.args.request) content c.in_ok-p.p (c.in_ok-p.ensures.program content (ap (g.F.Files.told c.args.files.now) c.script.ensures ∙ told)) c.text_of.result
-    c.text_of.ensures.text c.text_of.ensures.refused
-
-pub returns-clause-kind : goal.returns-clause-kind
-returns-clause-kind g c =
-    kind_of_text (asked c.args.request) c.in_ok-p.p c.text_of.result c.text_of.ensures.refused
-
-pub returns-clause-read : goal.returns-clause-read
-returns-clause-read g c = record {
-  later = c.in_ok-p.ensures.cause.later;
-  failed = λ is. absurd (text_not_read (asked c.args.request) c.in_ok-p.p c.text_of.result c.text_of.ensures.refused is);
-}
+pub returns-clause-performed : goal.returns-clause-performed
+returns-clause-performed g c =
+    let command = asked c.args.request in
+    let files = files_seen (g.F.Files.told c.args.files.now) (g.F.Files.reads c.args.files.now) (g.F.Files.writes c.args.files.now) in
+    let files_now = files_seen (g.F.Files.told c.program_of.new.files) (g.F.Files.reads c.program_of.new.files) (g.F.Files.writes c.program_of.new.files) in
+    text_performed command files files_now c.in_ok-p.ensures.cause.later c.in_ok-p.ensures.same (omega (arith, c.in_ok-p.ensures.writes)) c.in_ok-p.p
+    (λ content told. c.in_ok-p.ensures.program content (ap (g.F.Files.told c.args.files.now) c.script.ensures ∙ told))
+    c.text_of.result c.text_of.ensures.text c.text_of.ensures.refused

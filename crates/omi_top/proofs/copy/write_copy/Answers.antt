@@ -2,7 +2,7 @@ use Rattle.std.proofs.Common.{◌≡◌, ℕ, List, Err, arith, refl, ap, subst,
 use Rattle.std.specs.Global.{Vec}
 use Rattle.std.proofs.lemmas.Result.{err_from_is_err_and}
 use Rattle.omi_outside.specs.Outside.{IsCut, holding}
-use Rattle.omi_verbs.proofs.Elsewhere.{never_usage as write_no_usage, write_not_read, write_not_of_core, write_failed}
+use Rattle.omi_frame.proofs.Elsewhere.{never_usage as write_no_usage, write_not_read, write_not_of_core, write_failed}
 use Rattle.omi_top.proofs.Copying.{done_answered, never_usage, never_write, no_memory, only_bytes, partly_answered, refused_answered}
 use Rattle.omi_top.proofs.Stopping.{never_unwritten}
 use Rattle.omi_top.specs.Command.{Writes}

@@ -3,10 +3,10 @@ use Rattle.std.specs.Global.{Vec}
 use Rattle.std.proofs.lemmas.Result.{err_from_is_err_and}
 use Rattle.omi_outside.specs.Outside.{Told}
 use Rattle.omi_top.proofs.Asking.{file_of_command}
-use Rattle.omi_verbs.proofs.Behind.{rose_later}
+use Rattle.omi_frame.proofs.Behind.{rose_later}
 use Rattle.omi_top.proofs.Following.{first_refused, later_of_command, later_read, later_refused, tasks_followed}
-use Rattle.omi_verbs.specs.Refusal.{IsReadFault}
-use Rattle.omi_verbs.specs.declared.refusal.Refusal.TheVariants as refusal
+use Rattle.omi_frame.specs.Refusal.{IsReadFault}
+use Rattle.omi_frame.specs.declared.refusal.Refusal.TheVariants as refusal
 use Rattle.omi_top.proofs.follow.follow.Goals as goal
 
 -- ---- the first core is refused

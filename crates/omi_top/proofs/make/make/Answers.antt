@@ -6,7 +6,7 @@ use Rattle.std.proofs.lemmas.Result.{err_from_is_err_and}
 use Rattle.omi_outside.specs.Outside.{Told}
 use Rattle.omi_top.specs.Make.{IsMade}
 use Rattle.omi_top.proofs.Making.{partly_answered, done_answered}
-use Rattle.omi_verbs.proofs.Elsewhere.{late, write_failed}
+use Rattle.omi_frame.proofs.Elsewhere.{late, write_failed}
 use Rattle.omi_top.proofs.make.make.Goals as goal
 
 pub returns-in_err-write_whole-clause-answer : goal.returns-in_err-write_whole-clause-answer

@@ -4,7 +4,7 @@ use Rattle.omi_outside.specs.Outside.{Told}
 use Rattle.omi_top.specs.Answer.{AreTold, IsAnswered}
 use Rattle.omi_top.specs.Command.{Show}
 use Rattle.omi_top.proofs.RunAnswers.{no_memory, show_failed, shown_behind, shows_last}
-use Rattle.omi_verbs.proofs.Behind.{rose_later}
+use Rattle.omi_frame.proofs.Behind.{rose_later}
 use Rattle.omi_top.proofs.run_and_show.run_and_show.Goals as goal
 
 -- ---- the core is written, and then its report is refused

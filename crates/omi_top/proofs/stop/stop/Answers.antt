@@ -3,8 +3,8 @@ use Rattle.std.specs.Global.{Vec}
 use Rattle.std.proofs.lemmas.Result.{err_from_is_err_and}
 use Rattle.omi_corefile.specs.Spelling.{core_bytes}
 use Rattle.omi_top.specs.Answer.{IsStopped}
-use Rattle.omi_verbs.specs.declared.refusal.Refusal.TheVariants as refusal
-use Rattle.omi_verbs.proofs.Elsewhere.{never_elsewhere, never_usage, write_not_read, never_of_core, write_not_of_core, write_failed}
+use Rattle.omi_frame.specs.declared.refusal.Refusal.TheVariants as refusal
+use Rattle.omi_frame.proofs.Elsewhere.{never_elsewhere, never_usage, write_not_read, never_of_core, write_not_of_core, write_failed}
 use Rattle.omi_top.proofs.Stopping.{refused_answered, partly_answered, done_answered, never_unwritten}
 use Rattle.omi_top.specs.Command.{Stop as StopCommand}
 use Rattle.omi_top.proofs.stop.stop.Goals as goal

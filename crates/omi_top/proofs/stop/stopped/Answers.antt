@@ -1,9 +1,7 @@
-use Rattle.std.proofs.Common.{◌≡◌, ◌++◌, ◌∙◌, ◌<◌, ◌≤◌, ℕ, List, length, ap, sym, subst, arith, string_bytes}
+use Rattle.std.proofs.Common.{◌++◌, ◌∙◌, ℕ, List, length, ap, sym, subst, arith, string_bytes}
 use Rattle.std.specs.Prelude.{IsTrue}
-use Rattle.omi_corefile.specs.declared.limits.TheConstants.{MOST_CONTEXTS}
 use Rattle.omi_corefile.specs.Limits.{rises_from}
 use Rattle.omi_corefile.specs.Spelling.{core_bytes}
-use Rattle.omi_script.specs.declared.limits.TheConstants.{MAX_THREADS}
 use Rattle.omi_script.proofs.RuleLemmas.{Rules-from_accepted}
 use Rattle.omi_verbs.specs.EventLines.{AreLinesOf, event_lines}
 use Rattle.omi_verbs.proofs.CoreFiles.{core_of_ids}

@@ -1,5 +1,5 @@
 use Rattle.std.proofs.Common.{None, arith, refl}
-use Rattle.omi_verbs.specs.declared.refusal.Refusal.TheVariants as refusal
+use Rattle.omi_frame.specs.declared.refusal.Refusal.TheVariants as refusal
 use Rattle.omi_top.proofs.top.carry_out.Goals as goal
 
 pub returns-in-Faulty-clause-concluded : goal.returns-in-Faulty-clause-concluded

@@ -1,9 +1,9 @@
 use Rattle.std.proofs.Common.{inl, inr, refl, subst}
 use Rattle.omi_outside.specs.declared.status.Status.TheVariants as status
-use Rattle.omi_verbs.specs.Refusal.{Named, refusal_line}
-use Rattle.omi_verbs.specs.Said.{IsCounted, IsSaid}
+use Rattle.omi_frame.specs.Refusal.{Named, refusal_line}
+use Rattle.omi_frame.specs.Said.{IsCounted, IsSaid}
 use Rattle.omi_top.specs.Asked.{asked}
-use Rattle.omi_verbs.proofs.Elsewhere.{never_printing, of_read, of_usage, of_write, unsaid}
+use Rattle.omi_frame.proofs.Elsewhere.{never_printing, of_read, of_usage, of_write, printing_not_of_core, unsaid}
 use Rattle.omi_top.proofs.Causes.{printing_writes}
 use Rattle.omi_top.proofs.Left.{ok_left, err_left}
 use Rattle.omi_top.proofs.top.carry_out_in.Goals as goal
@@ -13,7 +13,7 @@ returns-in-Ok g c =
     let printed = c.print.ensures.status in
     let performed = c.in-Ok.ensures.performed in
     record {
-      of_core = λ is. absurd (c.print.ensures.not_of_core is);
+      of_core = λ is. absurd (printing_not_of_core c.print.result printed is);
       usage = λ is. absurd (never_printing c.print.result status.Usage printed refl is);
       read_fault = λ is. absurd (never_printing c.print.result status.ReadFault printed refl is);
       write_fault = λ is. inr (c.print.ensures.cause.failed is);

@@ -1,9 +1,9 @@
 use Rattle.std.proofs.Common.{◌≡◌, [], ℕ, None, Ok, Err, arith, inl, refl}
 use Rattle.std.specs.Prelude.{Result, IfErr}
 use Rattle.std.specs.Global.{Vec}
-use Rattle.omi_verbs.specs.Statuses.{IsOfCore}
-use Rattle.omi_verbs.specs.Refusal.{status_of}
-use Rattle.omi_verbs.specs.declared.refusal.Refusal.{Refusal}
+use Rattle.omi_frame.specs.Statuses.{IsOfCore}
+use Rattle.omi_frame.specs.Refusal.{status_of}
+use Rattle.omi_frame.specs.declared.refusal.Refusal.{Refusal}
 use Rattle.omi_top.specs.Command.{Make}
 use Rattle.omi_top.proofs.Causes.{late_not_read, late_writes}
 use Rattle.omi_top.proofs.top.perform.Goals as goal

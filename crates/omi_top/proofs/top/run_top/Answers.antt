@@ -2,10 +2,10 @@ use Rattle.std.proofs.Common.{◌≡◌, ◌∙◌, ℕ, List, Option, ap, refl,
 use Rattle.omi_outside.specs.Outside.{Told}
 use Rattle.omi_top.specs.declared.plan.Plan.{Plan}
 use Rattle.omi_outside.specs.declared.status.Status.TheVariants as status
-use Rattle.omi_verbs.specs.Statuses.{IsOfCore}
+use Rattle.omi_frame.specs.Statuses.{IsOfCore}
 use Rattle.omi_top.specs.Asked.{asked}
 use Rattle.omi_top.specs.Answer.{AreTold, IsLeft, IsUnwritten}
-use Rattle.omi_verbs.specs.Said.{IsCounted}
+use Rattle.omi_frame.specs.Said.{IsCounted}
 use Rattle.omi_top.specs.Command.{Command, Stop, Make, Show, Run, Recode, Elf, Audit, Follow, Faulty, RefusesCore, Writes, command_by, command_in, written_name}
 use Rattle.omi_top.proofs.Left.{left_by}
 use Rattle.omi_top.proofs.LeftByShow.{no_file as no_core, core_refused, incompatible, damaged, put_report as put_shown, report_put, shown, shows, shown_again, shown_reached}

@@ -3,7 +3,7 @@ use Rattle.std.specs.Prelude.{string_bytes}
 use Rattle.std.proofs.lemmas.Result.{err_from_is_err_and}
 use Rattle.omi_session.proofs.Told.{stays_then}
 use Rattle.omi_verbs.proofs.FateLines.{FatesSoFar, all_lines, fates_begin, names, next_line, no_line}
-use Rattle.omi_verbs.proofs.Behind.{cause_behind}
+use Rattle.omi_frame.proofs.Behind.{cause_behind}
 use Rattle.omi_verbs.proofs.kept_tasks.fates.Goals as goal
 
 pub loop-at-init : goal.loop-at-init

@@ -3,8 +3,8 @@ use Rattle.std.specs.Prelude.{IsErrAnd}
 use Rattle.omi_calls.specs.Kept.{Kept}
 use Rattle.omi_layout.specs.Valid.{IsValid}
 use Rattle.omi_walk.specs.Gives.{Looks}
-use Rattle.omi_verbs.specs.Refusal.{IsReadFault}
-use Rattle.omi_verbs.proofs.Behind.{cause_as, cause_behind}
+use Rattle.omi_frame.specs.Refusal.{IsReadFault}
+use Rattle.omi_frame.proofs.Behind.{cause_as, cause_behind}
 use Rattle.omi_top.proofs.Following.{kept_answer, kept_failed, kept_of_words}
 use Rattle.omi_top.proofs.Opening.{unopened_viewed}
 use Rattle.omi_top.proofs.follow.TasksWantedQuestion.ask.Goals as goal

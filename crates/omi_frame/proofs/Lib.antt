@@ -1,0 +1,9 @@
+pub mod Digits
+pub mod FieldNames
+pub mod Scripts
+pub mod Elsewhere
+pub mod Behind
+pub mod Concluding
+pub mod Statuses
+pub mod OfScript
+pub mod Commands
