@@ -14,7 +14,7 @@ mod words;
 
 pub use names::Names;
 pub use program::{handed_over, words_of};
-pub use put::{end_with, print, refuse, refuse_words};
+pub use put::{end_with, refuse_words};
 pub use reading::load;
 pub use refusal::{Input, Refusal};
 pub use refusal_line::{field_text, room_for};

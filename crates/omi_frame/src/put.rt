@@ -15,7 +15,7 @@ use crate::refusal_line::line_of;
 use omi_outside::{Refused, Sink, Status, put_whole};
 
 /// Puts the text of an answer.
-pub fn print<K: Sink>(text: &[u8], out: &mut K) -> Status
+fn print<K: Sink>(text: &[u8], out: &mut K) -> Status
     ensures success { result ≡ Status.Success → K.told out.new ≡ put_on (K.told out.old) text.now }
     ensures cut { (result ≡ Status.Success)
         ⊎ IsPutCut text.now (K.told out.old) (K.told out.new) }
@@ -32,7 +32,7 @@ pub fn print<K: Sink>(text: &[u8], out: &mut K) -> Status
 
 /// Puts the line of a refusal of a command that gives these names, made in the room that there is for it. Its status stays where the
 /// line can't be put.
-pub fn refuse<K: Sink>(names: Names<'_>, refusal: Refusal, room: &mut String, out: &mut K) -> Status
+fn refuse<K: Sink>(names: Names<'_>, refusal: Refusal, room: &mut String, out: &mut K) -> Status
     requires empty { string_bytes room.old ≡ [] }
     requires enough { HasRoom (named names) (string_capacity room.old) }
     ensures status { result ≡ status_of refusal }

@@ -10,7 +10,7 @@ use Rattle.omi_corefile.specs.declared.core_image.CoreImage.{CoreImage}
 use Rattle.omi_layout.specs.Given.{GivesLayout}
 use Rattle.omi_layout.specs.Valid.{IsValid}
 use Rattle.omi_outside.specs.Outside.{Told}
-use Rattle.omi_top.specs.Answer.{IsAnswered, IsEarly}
+use Rattle.omi_frame.specs.Left.{IsAnswered, IsEarly}
 use Rattle.omi_top.specs.Audit.{IsJudged, audit_line, judged}
 use Rattle.omi_top.specs.Command.{Audit}
 use Rattle.omi_top.specs.Cores.{words_of_core}
@@ -19,6 +19,7 @@ use Rattle.omi_verbs.specs.Inquiries.{ComesOfWords}
 use Rattle.omi_frame.specs.Refusal.{IsReadFault, IsUnread}
 use Rattle.omi_frame.specs.declared.refusal.Input.TheVariants as input
 use Rattle.omi_frame.specs.declared.refusal.Refusal.{Refusal}
+use Rattle.omi_top.specs.Answer.{verb_of}
 
 -- a core over which there is no session has no verdict
 pub unopened_judged : (core : CoreImage) (r : Refusal) → IsUnopened core r → IsJudged core (Err r)
@@ -44,16 +45,16 @@ audit_failed (Err fault.OutOfMemory) read = absurd read
 
 module _ (name : List ℕ) (told : List ℕ → Told) (content : Option (List ℕ))
     (is : told name ≡ Some content) (old : Told) where
-  unread : (r : Refusal) → IsUnread input.Core r → IsAnswered (Audit name) told (Err r) old old
-  unread r (inl failed) = inr (inl (subst (λ (x : Refusal). IsEarly (Audit name) x) (sym failed) tt, refl))
-  unread r (inr memory) = inr (inl (subst (λ (x : Refusal). IsEarly (Audit name) x) (sym memory) tt, refl))
+  unread : (r : Refusal) → IsUnread input.Core r → IsAnswered (verb_of (Audit name)) told (Err r) old old
+  unread r (inl failed) = inr (inl (subst (λ (x : Refusal). IsEarly (verb_of (Audit name)) x) (sym failed) tt, refl))
+  unread r (inr memory) = inr (inl (subst (λ (x : Refusal). IsEarly (verb_of (Audit name)) x) (sym memory) tt, refl))
 
   pub audit_refused : (r : Refusal) → IsAnswerOf IsJudged content (Err r)
-      → IsAnswered (Audit name) told (Err r) old old
+      → IsAnswered (verb_of (Audit name)) told (Err r) old old
   audit_refused r answer = go content is answer
     where
       go : (c : Option (List ℕ)) → told name ≡ Some c → IsAnswerOf IsJudged c (Err r)
-          → IsAnswered (Audit name) told (Err r) old old
+          → IsAnswered (verb_of (Audit name)) told (Err r) old old
       go None here (inl missing) = inl (None, (None, here, missing), refl)
       go None here (inr free) = unread r free
       go (Some bytes) here (inl refused) = inl (None, (Some bytes, here, inl refused), refl)
@@ -63,10 +64,10 @@ module _ (name : List ℕ) (told : List ℕ → Told) (content : Option (List �
       go (Some bytes) here (inr (inr (core, spelled, inr free))) = unread r free
 
   pub audit_judged : (v : Verdict) (text : Vec ℕ) (line : List ℕ) → IsAnswerOf IsJudged content (Ok v)
-      → line ≡ audit_line v → text.items ≡ line → IsAnswered (Audit name) told (Ok text) old old
+      → line ≡ audit_line v → text.items ≡ line → IsAnswered (verb_of (Audit name)) told (Ok text) old old
   audit_judged v text line answer same also = go content is answer
     where
       go : (c : Option (List ℕ)) → told name ≡ Some c → IsAnswerOf IsJudged c (Ok v)
-          → IsAnswered (Audit name) told (Ok text) old old
+          → IsAnswered (verb_of (Audit name)) told (Ok text) old old
       go None here answer = absurd answer
       go (Some bytes) here judged = (None, (Some bytes, here, (v, judged, also ∙ same)), refl)

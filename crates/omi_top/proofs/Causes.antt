@@ -1,10 +1,12 @@
 -- What a printed text and a fault of writing are not, for the causes that each layer of the top call says.
 use Rattle.std.proofs.Common.{inl, inr, ℕ, Ok, Err, subst}
-use Rattle.std.specs.Prelude.{Result, IfErr, IsErrAnd}
+use Rattle.std.specs.Prelude.{Result, IfErr, IsErrAnd, IsErrOf}
 use Rattle.std.specs.Global.{Vec}
 use Rattle.omi_outside.specs.declared.status.Status.{Status}
+use Rattle.omi_frame.specs.Concluded.{MayEndWith}
 use Rattle.omi_frame.specs.Refusal.{IsLate, IsReadFault, status_of}
-use Rattle.omi_frame.specs.Statuses.{IsPrinting}
+use Rattle.omi_frame.specs.Statuses.{IsOfCore, IsPrinting}
+use Rattle.omi_frame.proofs.Elsewhere.{late_not_of_core}
 use Rattle.omi_frame.specs.declared.refusal.Refusal.{Refusal}
 use Rattle.omi_frame.specs.declared.refusal.Refusal.TheVariants as refusal
 use Rattle.omi_top.specs.Answer.{IsUnwritten}
@@ -26,9 +28,29 @@ late_not_read (Err refusal.WriteFault) late read = read
 late_not_read (Err refusal.OutOfMemory) late read = read
 late_not_read (Err r) late read = late
 
-pub late_writes : (C : Type 0) (command : Command) (result : Result (Vec ℕ) Refusal) → IfErr result IsLate
+-- what a call wrote nothing of stays, whether it gave a text or a refusal
+pub unwritten_of : {C : Type 0} (command : Command) (result : Result (Vec ℕ) Refusal)
     → IfErr result (λ r. IsUnwritten command (status_of r) → C)
-late_writes C command (Ok text) late = tt
-late_writes C command (Err refusal.WriteFault) late = λ unwritten. absurd unwritten
-late_writes C command (Err refusal.OutOfMemory) late = λ unwritten. absurd unwritten
-late_writes C command (Err r) late = absurd late
+    → (s : Status) → MayEndWith result s → IsUnwritten command s → C
+unwritten_of command (Ok text) stays s ends unwritten = absurd (printing_writes command s ends unwritten)
+unwritten_of command (Err r) stays s ends unwritten =
+    stays (let P : Status → Type 0 = λ x. IsUnwritten command x in subst P ends unwritten)
+
+pub late_not_usage_of : (result : Result (Vec ℕ) Refusal) → IfErr result IsLate → IsErrOf result refusal.Usage → ⊥
+late_not_usage_of (Ok text) late is = cc
+late_not_usage_of (Err refusal.Usage) late is = late
+late_not_usage_of (Err r) late is = cc
+
+pub late_not_core : (C : Type 0) (result : Result (Vec ℕ) Refusal) → IfErr result IsLate
+    → IfErr result (λ r. IsOfCore (status_of r) → C)
+late_not_core C (Ok text) late = tt
+late_not_core C (Err r) late = λ is. absurd (late_not_of_core r late is)
+
+pub late_writes : {C : Type 0} (command : Command) (result : Result (Vec ℕ) Refusal) → IfErr result IsLate
+    → (s : Status) → MayEndWith result s → IsUnwritten command s → C
+late_writes command (Ok text) late s ends unwritten = absurd (printing_writes command s ends unwritten)
+late_writes command (Err refusal.WriteFault) late s ends unwritten =
+    absurd (let P : Status → Type 0 = λ x. IsUnwritten command x in subst P ends unwritten)
+late_writes command (Err refusal.OutOfMemory) late s ends unwritten =
+    absurd (let P : Status → Type 0 = λ x. IsUnwritten command x in subst P ends unwritten)
+late_writes command (Err r) late s ends unwritten = absurd late

@@ -12,7 +12,9 @@ use Rattle.omi_corefile.specs.Spelling.{Core}
 use Rattle.omi_corefile.specs.declared.core_image.CoreImage.{CoreImage}
 use Rattle.omi_corefile.specs.declared.fault.CoreError.{CoreError}
 use Rattle.omi_corefile.specs.declared.fault.CoreError.TheVariants as error
-use Rattle.omi_top.specs.Answer.{Gives, IsAnswer, IsAnswered, IsCopyAnswer, IsEarly, IsToWrite}
+use Rattle.omi_frame.specs.Verb.{Gives}
+use Rattle.omi_top.specs.Answer.{IsAnswer, IsCopyAnswer, IsToWrite, verb_of}
+use Rattle.omi_frame.specs.Left.{IsAnswered, IsEarly}
 use Rattle.omi_top.specs.Command.{Command, Recode, Elf}
 use Rattle.omi_top.specs.Copy.{IsCopying, IsOfCoreFile}
 use Rattle.omi_top.specs.Elf.{IsElfCopy}
@@ -85,13 +87,13 @@ only_bytes r is of_core = absurd of_core
 
 module _ (command : Command) (core copy : List ℕ) (copies : List ℕ → List ℕ → List ℕ → Type 0)
     (copying : IsCopying command core copy copies) (told : List ℕ → Told) where
-  early : (r : Refusal) (old : Told) → IsUnread input.Core r → IsAnswered command told (Err r) old old
+  early : (r : Refusal) (old : Told) → IsUnread input.Core r → IsAnswered (verb_of command) told (Err r) old old
   early r old (inl failed) =
-      inr (inl (subst (λ (x : Refusal). IsEarly command x) (sym failed) copying.reads, refl))
-  early r old (inr memory) = inr (inl (subst (λ (x : Refusal). IsEarly command x) (sym memory) tt, refl))
+      inr (inl (subst (λ (x : Refusal). IsEarly (verb_of command) x) (sym failed) copying.reads, refl))
+  early r old (inr memory) = inr (inl (subst (λ (x : Refusal). IsEarly (verb_of command) x) (sym memory) tt, refl))
 
   -- memory ran out before anything was written
-  pub no_memory : (old : Told) → IsAnswered command told (Err refusal.OutOfMemory) old old
+  pub no_memory : (old : Told) → IsAnswered (verb_of command) told (Err refusal.OutOfMemory) old old
   no_memory old = inr (inl (tt, refl))
 
   module _ (content : Option (List ℕ)) (is : told core ≡ Some content) where
@@ -104,7 +106,7 @@ module _ (command : Command) (core copy : List ℕ) (copies : List ℕ → List 
 
     -- the core is refused, can't be read, or memory ran out
     pub refused_answered : (r : Refusal) (old : Told) → IsCoreRefusal content r ⊎ IsUnread input.Core r
-        → IsAnswered command told (Err r) old old
+        → IsAnswered (verb_of command) told (Err r) old old
     refused_answered r old (inl refuses) = inl (None, refusal_answer r refuses, refl)
     refused_answered r old (inr unread) = early r old unread
 
@@ -125,12 +127,12 @@ module _ (command : Command) (core copy : List ℕ) (copies : List ℕ → List 
 
       -- the copy is partly written
       pub partly_answered : (r : RefusedWrite) (old new : Told) → IsCut old new written
-          → IsAnswered command told (Err (refusal_of_write r)) old new
+          → IsAnswered (verb_of command) told (Err (refusal_of_write r)) old new
       partly_answered r old new cut = inr (inr (inl (late r, (written, to_write, cut))))
 
       -- the copy is written, and the line is handed up
       pub done_answered : (v : Vec ℕ) (old new : Told) → v.items ≡ line → new ≡ holding old written
-          → IsAnswered command told (Ok v) old new
+          → IsAnswered (verb_of command) told (Ok v) old new
       done_answered v old new same held = (
         Some written,
         subst (λ (x : List ℕ). IsAnswer command told (Gives (Some written) (Ok x))) (sym same) answer,
@@ -145,8 +147,8 @@ recode_copying order core copy = record {
   answers = λ told content answer is said. (content, is, said);
   reads = tt;
   alone = refl;
-  name = refl;
   writes = refl;
+  refuses = λ is. is;
 }
 
 pub elf_copying : (core copy : List ℕ) → IsCopying (Elf core copy) core copy IsElfCopy
@@ -155,6 +157,6 @@ elf_copying core copy = record {
   answers = λ told content answer is said. (content, is, said);
   reads = tt;
   alone = refl;
-  name = refl;
   writes = refl;
+  refuses = λ is. is;
 }

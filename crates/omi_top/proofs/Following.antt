@@ -29,7 +29,7 @@ use Rattle.omi_top.proofs.Asking.{IsOfCommand}
 use Rattle.omi_verbs.proofs.FateLines.{names}
 use Rattle.omi_top.proofs.Files.{told_as}
 use Rattle.omi_top.proofs.Opening.{cause_refusal, tells_core}
-use Rattle.omi_top.specs.Answer.{IsAnswered, IsEarly}
+use Rattle.omi_frame.specs.Left.{IsAnswered, IsEarly}
 use Rattle.omi_top.specs.Command.{Follow}
 use Rattle.omi_top.specs.Cores.{IsLooked, words_of_core}
 use Rattle.omi_top.specs.Files.{IsFileOf, IsFileRefusal}
@@ -47,6 +47,7 @@ use Rattle.omi_walk.specs.Kept.{Keeps, look_names, names_kept, task_names}
 use Rattle.omi_walk.specs.declared.fault.WalkFault.{WalkFault}
 use Rattle.omi_walk.specs.declared.fault.WalkFault.TheVariants as walk
 use Rattle.omi_word.specs.Words.{Words}
+use Rattle.omi_top.specs.Answer.{verb_of}
 
 -- ---- the tasks of the first core
 
@@ -196,24 +197,24 @@ later_read r read = read
 
 module _ (name later : List ℕ) (told : List ℕ → Told) (content others : Option (List ℕ))
     (is : told name ≡ Some content) (also : told later ≡ Some others) (old : Told) where
-  unread : (r : Refusal) → IsUnread input.Core r → IsAnswered (Follow name later) told (Err r) old old
-  unread r (inl failed) = inr (inl (subst (λ (x : Refusal). IsEarly (Follow name later) x) (sym failed) tt, refl))
-  unread r (inr memory) = inr (inl (subst (λ (x : Refusal). IsEarly (Follow name later) x) (sym memory) tt, refl))
+  unread : (r : Refusal) → IsUnread input.Core r → IsAnswered (verb_of (Follow name later)) told (Err r) old old
+  unread r (inl failed) = inr (inl (subst (λ (x : Refusal). IsEarly (verb_of (Follow name later)) x) (sym failed) tt, refl))
+  unread r (inr memory) = inr (inl (subst (λ (x : Refusal). IsEarly (verb_of (Follow name later)) x) (sym memory) tt, refl))
 
   unread_later : (r : Refusal) → IsUnread input.Core r
-      → IsAnswered (Follow name later) told (Err (of_later r)) old old
+      → IsAnswered (verb_of (Follow name later)) told (Err (of_later r)) old old
   unread_later r (inl failed) =
-      inr (inl (subst (λ (x : Refusal). IsEarly (Follow name later) (of_later x)) (sym failed) tt, refl))
+      inr (inl (subst (λ (x : Refusal). IsEarly (verb_of (Follow name later)) (of_later x)) (sym failed) tt, refl))
   unread_later r (inr memory) =
-      inr (inl (subst (λ (x : Refusal). IsEarly (Follow name later) (of_later x)) (sym memory) tt, refl))
+      inr (inl (subst (λ (x : Refusal). IsEarly (verb_of (Follow name later)) (of_later x)) (sym memory) tt, refl))
 
   -- there are no tasks of the first core
   pub first_refused : (r : Refusal) → IsAnswerOf IsKept content (Err r)
-      → IsAnswered (Follow name later) told (Err r) old old
+      → IsAnswered (verb_of (Follow name later)) told (Err r) old old
   first_refused r answer = go content is answer
     where
       go : (c : Option (List ℕ)) → told name ≡ Some c → IsAnswerOf IsKept c (Err r)
-          → IsAnswered (Follow name later) told (Err r) old old
+          → IsAnswered (verb_of (Follow name later)) told (Err r) old old
       go None here (inl missing) = inl (None, (None, here, others, also, missing), refl)
       go None here (inr free) = unread r free
       go (Some bytes) here (inl refused) = inl (None, (Some bytes, here, others, also, inl (inl refused)), refl)
@@ -244,19 +245,19 @@ module _ (name later : List ℕ) (told : List ℕ → Told) (content others : Op
 
     -- there are tasks of the first core, and the later one is refused
     pub later_refused : (r : Refusal) → IsAnswerOf IsKept content (Ok kept) → IsAnswerOf (AreFates kept) others (Err r)
-        → IsAnswered (Follow name later) told (Err (of_later r)) old old
+        → IsAnswered (verb_of (Follow name later)) told (Err (of_later r)) old old
     later_refused r first answer = go content is first others also answer
       where
         refused : (bytes : List ℕ) (core : CoreImage) (c : Option (List ℕ)) → told name ≡ Some (Some bytes) → told later ≡ Some c
             → IsFileOf bytes core → KeepsTasks core kept → IsLaterRefusal core c (of_later r)
-            → IsAnswered (Follow name later) told (Err (of_later r)) old old
+            → IsAnswered (verb_of (Follow name later)) told (Err (of_later r)) old old
         refused bytes core c here there spelled keeps why =
             inl (None, (Some bytes, here, c, there, inr (keeps.view, (core, spelled, (looked core keeps, why)))), refl)
 
         fates : (bytes spelt : List ℕ) (core second : CoreImage) → told name ≡ Some (Some bytes)
             → told later ≡ Some (Some spelt) → IsFileOf bytes core → IsFileOf spelt second → KeepsTasks core kept
             → AreFatesOf kept.parted.layout (names kept.tasks) second (Err r)
-            → IsAnswered (Follow name later) told (Err (of_later r)) old old
+            → IsAnswered (verb_of (Follow name later)) told (Err (of_later r)) old old
         fates bytes spelt core second here there spelled also_spelled keeps (inl free) = unread_later r free
         fates bytes spelt core second here there spelled also_spelled keeps (inr (inl (cause, none, why))) =
             refused bytes core (Some spelt) here there spelled keeps
@@ -270,7 +271,7 @@ module _ (name later : List ℕ) (told : List ℕ → Told) (content others : Op
 
         go : (c : Option (List ℕ)) → told name ≡ Some c → IsAnswerOf IsKept c (Ok kept)
             → (d : Option (List ℕ)) → told later ≡ Some d → IsAnswerOf (AreFates kept) d (Err r)
-            → IsAnswered (Follow name later) told (Err (of_later r)) old old
+            → IsAnswered (verb_of (Follow name later)) told (Err (of_later r)) old old
         go None here first d there answer = absurd first
         go (Some bytes) here (core, spelled, keeps) None there (inl missing) =
             refused bytes core None here there spelled keeps (ap of_later missing)
@@ -284,12 +285,12 @@ module _ (name later : List ℕ) (told : List ℕ → Told) (content others : Op
     -- each of them has its line
     pub tasks_followed : (text : String Global) (bytes : Vec ℕ) → IsAnswerOf IsKept content (Ok kept)
         → IsAnswerOf (AreFates kept) others (Ok text) → bytes.items ≡ string_bytes text
-        → IsAnswered (Follow name later) told (Ok bytes) old old
+        → IsAnswered (verb_of (Follow name later)) told (Ok bytes) old old
     tasks_followed text bytes first answer same = go content is first others also answer
       where
         go : (c : Option (List ℕ)) → told name ≡ Some c → IsAnswerOf IsKept c (Ok kept)
             → (d : Option (List ℕ)) → told later ≡ Some d → IsAnswerOf (AreFates kept) d (Ok text)
-            → IsAnswered (Follow name later) told (Ok bytes) old old
+            → IsAnswered (verb_of (Follow name later)) told (Ok bytes) old old
         go None here first d there answer = absurd first
         go (Some spelt) here first None there answer = absurd answer
         go (Some spelt) here (core, spelled, keeps) (Some others) there (second, also_spelled, answers) =

@@ -1,19 +1,16 @@
--- What a command's result and its printing say of the whole call.
-use Rattle.std.proofs.Common.{◌≡◌, ◌⊎◌, inl, inr, ℕ, Bool, true, false, List, Option, Some, None, Ok, Err, refl, sym, ◌∙◌, ap, subst}
-use Rattle.std.specs.Global.{Vec}
-use Rattle.omi_outside.specs.Outside.{Told, IsPutCut, put_on}
-use Rattle.omi_outside.specs.declared.status.Status.{Status}
-use Rattle.omi_outside.specs.declared.status.Status.TheVariants as status
-use Rattle.omi_top.specs.Command.{Command, Stop, Make, Show, Run, Recode, Elf, Audit, Follow, Faulty, names_of, written_name}
-use Rattle.omi_top.specs.Answer.{Answer, Gives, AreTold, IsAnswer, IsAuditAnswer, IsFollowAnswer, IsStopAnswer, IsCopyAnswer, IsMakeAnswer, IsRunAnswer, IsShowAnswer, IsAnswered, IsLeft}
-use Rattle.omi_frame.specs.Said.{IsSaid}
+-- No fault of the outside is what an answer says.
+use Rattle.std.proofs.Common.{◌≡◌, inl, inr, ℕ, true, false, List, Option, Some, None, Ok, Err, refl, sym, ◌∙◌, ap}
+use Rattle.omi_outside.specs.Outside.{Told}
+use Rattle.omi_top.specs.Command.{Command, Stop, Make, Show, Run, Recode, Elf, Audit, Follow, Faulty}
+use Rattle.omi_frame.specs.Verb.{Answer, Gives}
+use Rattle.omi_top.specs.Answer.{IsAnswer, IsAuditAnswer, IsFollowAnswer, IsStopAnswer, IsCopyAnswer, IsMakeAnswer, IsRunAnswer, IsShowAnswer}
 use Rattle.omi_top.specs.declared.plan.Plan.{Plan}
 use Rattle.omi_layout.specs.declared.fault.LayoutFault.TheVariants.{Version, Overlap, OutOfRecord, BadArena}
 use Rattle.omi_layout.specs.declared.reading.LayoutError.{LayoutError}
 use Rattle.omi_layout.specs.declared.reading.LayoutError.TheVariants as layout
 use Rattle.omi_rep.specs.declared.fault.LookFault.{LookFault}
 use Rattle.omi_rep.specs.declared.fault.LookFault.TheVariants as look
-use Rattle.omi_frame.specs.Refusal.{refusal_line, status_of}
+use Rattle.omi_frame.proofs.Concluding.{is_fault}
 use Rattle.omi_top.specs.Elf.{IsElfCopy}
 use Rattle.omi_top.specs.Files.{IsFileRefusal}
 use Rattle.omi_top.specs.Follow.{IsLaterRefusal}
@@ -21,16 +18,8 @@ use Rattle.omi_top.specs.Questions.{refusal_of_layout}
 use Rattle.omi_top.specs.Recode.{IsRecodedCopy}
 use Rattle.omi_top.proofs.Files.{told_holds}
 use Rattle.omi_verbs.specs.Inquiries.{refusal_of_look}
-use Rattle.omi_frame.specs.Statuses.{IsPrinting}
 use Rattle.omi_frame.specs.declared.refusal.Refusal.{Refusal}
 use Rattle.omi_frame.specs.declared.refusal.Refusal.TheVariants as refusal
-
--- a fault of the outside, or want of memory
-abbrev is_fault : Refusal → Bool
-is_fault (refusal.ReadFault read) = true
-is_fault refusal.WriteFault = true
-is_fault refusal.OutOfMemory = true
-is_fault r = false
 
 -- a refusal that is one of the others is none of these
 another : (r s : Refusal) → is_fault r ≡ true → r ≡ s → is_fault s ≡ false → ⊥
@@ -122,7 +111,7 @@ abbrev said_of : Answer → Refusal
 said_of (Gives core (Ok text)) = refusal.Usage
 said_of (Gives core (Err r)) = r
 
-proper : (command : Command) (told : List ℕ → Told) (core : Option (List ℕ)) (r : Refusal) → is_fault r ≡ true
+pub proper : (command : Command) (told : List ℕ → Told) (core : Option (List ℕ)) (r : Refusal) → is_fault r ≡ true
     → IsAnswer command told (Gives core (Err r)) → ⊥
 proper (Stop plan script written) told core r fault (content, is, answer) =
     stop_proper plan content core r fault answer
@@ -137,91 +126,3 @@ proper (Audit written) told core r fault (content, is, answer) = audit_proper co
 proper (Follow first later) told core r fault (content, is, others, here, answer) =
     follow_proper content others core r fault answer
 proper Faulty told core r fault is = another r refusal.Usage fault (ap said_of is) refl
-
-module _ (command : Command) (told : List ℕ → Told) (old new : Told) (counted : Type 0)
-    (out after : Option (List ℕ)) where
-  -- after a text and an end of its printing
-  pub ok_left : (text : Vec ℕ) (s : Status) → IsAnswered command told (Ok text) old new → IsPrinting s
-      → (s ≡ status.Success → after ≡ put_on out text.items)
-      → (s ≡ status.Success) ⊎ IsPutCut text.items out after
-      → IsLeft command told s old new counted out after
-  ok_left text s (core, is, held) (inl e) put partly =
-      subst (λ (x : Status). IsLeft command told x old new counted out after) (sym e)
-      (core, text.items, is, held, put e)
-  ok_left text s (core, is, held) (inr (inl e)) put (inl done) =
-      let wrong : status.WriteFault ≡ status.Success = sym e ∙ done in absurd (cc)
-  ok_left text s (core, is, held) (inr (inl e)) put (inr cut) =
-      subst (λ (x : Status). IsLeft command told x old new counted out after) (sym e)
-      (inr (core, text.items, is, held, cut))
-  ok_left text s (core, is, held) (inr (inr e)) put (inl done) =
-      let wrong : status.OutOfMemory ≡ status.Success = sym e ∙ done in absurd (cc)
-  ok_left text s (core, is, held) (inr (inr e)) put (inr cut) =
-      subst (λ (x : Status). IsLeft command told x old new counted out after) (sym e)
-      (inr (inr (core, text.items, is, held, cut)))
-
-  -- after a refusal
-  pub err_left : (r : Refusal) → IsAnswered command told (Err r) old new
-      → IsSaid (refusal_line (names_of command) r) counted out after
-      → IsLeft command told (status_of r) old new counted out after
-  err_left refusal.Usage (inl (core, is, held)) said = (refusal.Usage, refl, core, is, held, said)
-  err_left refusal.Usage (inr (inl (early, same))) said = absurd early
-  err_left refusal.Usage (inr (inr (inl (late, half)))) said = absurd late
-  err_left refusal.Usage (inr (inr (inr (behind, whole)))) said = absurd behind
-  err_left (refusal.NoFile read) (inl (core, is, held)) said =
-      (refusal.NoFile read, refl, core, is, held, said)
-  err_left (refusal.NoFile read) (inr (inl (early, same))) said = absurd early
-  err_left (refusal.NoFile read) (inr (inr (inl (late, half)))) said = absurd late
-  err_left (refusal.NoFile read) (inr (inr (inr (behind, whole)))) said = absurd behind
-  err_left (refusal.Script f) (inl (core, is, held)) said = (refusal.Script f, refl, core, is, held, said)
-  err_left (refusal.Script f) (inr (inl (early, same))) said = absurd early
-  err_left (refusal.Script f) (inr (inr (inl (late, half)))) said = absurd late
-  err_left (refusal.Script f) (inr (inr (inr (behind, whole)))) said = absurd behind
-  err_left (refusal.Core at why) (inl (core, is, held)) said =
-      (refusal.Core at why, refl, core, is, held, said)
-  err_left (refusal.Core at why) (inr (inl (early, same))) said = absurd early
-  err_left (refusal.Core at why) (inr (inr (inl (late, half)))) said = absurd late
-  err_left (refusal.Core at why) (inr (inr (inr (behind, whole)))) said = absurd behind
-  err_left (refusal.Elf at why) (inl (core, is, held)) said =
-      (refusal.Elf at why, refl, core, is, held, said)
-  err_left (refusal.Elf at why) (inr (inl (early, same))) said = absurd early
-  err_left (refusal.Elf at why) (inr (inr (inl (late, half)))) said = absurd late
-  err_left (refusal.Elf at why) (inr (inr (inr (behind, whole)))) said = absurd behind
-  err_left (refusal.Damaged addr field) (inl (core, is, held)) said =
-      (refusal.Damaged addr field, refl, core, is, held, said)
-  err_left (refusal.Damaged addr field) (inr (inl (early, same))) said = absurd early
-  err_left (refusal.Damaged addr field) (inr (inr (inl (late, half)))) said = absurd late
-  err_left (refusal.Damaged addr field) (inr (inr (inr (behind, whole)))) said = absurd behind
-  err_left (refusal.Cycle addr) (inl (core, is, held)) said = (refusal.Cycle addr, refl, core, is, held, said)
-  err_left (refusal.Cycle addr) (inr (inl (early, same))) said = absurd early
-  err_left (refusal.Cycle addr) (inr (inr (inl (late, half)))) said = absurd late
-  err_left (refusal.Cycle addr) (inr (inr (inr (behind, whole)))) said = absurd behind
-  err_left refusal.Incompatible (inl (core, is, held)) said =
-      (refusal.Incompatible, refl, core, is, held, said)
-  err_left refusal.Incompatible (inr (inl (early, same))) said = absurd early
-  err_left refusal.Incompatible (inr (inr (inl (late, half)))) said = absurd late
-  err_left refusal.Incompatible (inr (inr (inr (behind, whole)))) said = absurd behind
-  err_left (refusal.ReadFault read) (inl (core, is, held)) said =
-      absurd (proper command told core (refusal.ReadFault read) refl is)
-  err_left (refusal.ReadFault read) (inr (inl (early, same))) said = (read, inl (early, same), said)
-  err_left (refusal.ReadFault read) (inr (inr (inl (late, half)))) said = absurd late
-  err_left (refusal.ReadFault read) (inr (inr (inr (behind, whole)))) said = (read, inr (behind, whole), said)
-  err_left refusal.WriteFault (inl (core, is, held)) said =
-      absurd (proper command told core refusal.WriteFault refl is)
-  err_left refusal.WriteFault (inr (inl (early, same))) said = absurd early
-  err_left refusal.WriteFault (inr (inr (inl (late, half)))) said = inl (half, said)
-  err_left refusal.WriteFault (inr (inr (inr (behind, whole)))) said = absurd behind
-  err_left refusal.OutOfMemory (inl (core, is, held)) said =
-      absurd (proper command told core refusal.OutOfMemory refl is)
-  err_left refusal.OutOfMemory (inr (inl (early, same))) said = inl (inl same, said)
-  err_left refusal.OutOfMemory (inr (inr (inl (late, half)))) said = inr (inl (half, said))
-  err_left refusal.OutOfMemory (inr (inr (inr (behind, whole)))) said = inl (inr (behind, whole), said)
-
--- What a request leaves is what its command leaves.
-pub left_by : (asked command : Command) (s : Status) (files old new : List ℕ → Told) (counted : Type 0) (out after : Option (List ℕ))
-    → asked ≡ command
-    →
-    (AreTold asked files → IsLeft asked files s (old (written_name asked)) (new (written_name asked)) counted out after)
-    → AreTold command files → IsLeft command files s (old (written_name command)) (new (written_name command)) counted out after
-left_by asked command s files old new counted out after is left =
-    subst
-    (λ (k : Command). AreTold k files → IsLeft k files s (old (written_name k)) (new (written_name k)) counted out after) is left

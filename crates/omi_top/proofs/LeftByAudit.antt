@@ -9,7 +9,10 @@ use Rattle.omi_outside.specs.declared.status.Status.TheVariants as status
 use Rattle.omi_corefile.specs.declared.core_image.CoreImage.{CoreImage}
 use Rattle.omi_layout.proofs.OneAnswer.{one_layout}
 use Rattle.omi_rep.specs.Shows.{Shows}
-use Rattle.omi_top.specs.Answer.{Answer, Gives, IsAnswer, IsApproved, IsAuditAnswer, IsAuditRefusal, IsDoneOrFailed, IsLeft, IsRefused}
+use Rattle.omi_frame.specs.Verb.{Answer, Gives}
+use Rattle.omi_top.specs.Answer.{IsAnswer, IsApproved, IsAuditAnswer, IsAuditRefusal, verb_of}
+use Rattle.omi_frame.specs.Statuses.{IsDoneOrFailed}
+use Rattle.omi_frame.specs.Left.{IsLeft, IsRefused}
 use Rattle.omi_top.specs.Audit.{IsAudited, ShowsWhereYes, audit_line}
 use Rattle.omi_top.specs.Command.{Audit}
 use Rattle.omi_top.specs.Cores.{HasLayout, HasWrongTable, IsIncompatible, ShowsReached, Spells, words_of_core}
@@ -17,7 +20,7 @@ use Rattle.omi_top.proofs.AuditVerdicts.{Declining, all_declining, audited_layou
 use Rattle.omi_top.specs.Files.{HasFault, IsFileOf}
 use Rattle.omi_top.proofs.Files.{file_unique}
 use Rattle.omi_top.proofs.ShowVerdicts.{says_core, says_incompatible, says_missing}
-use Rattle.omi_top.proofs.Statuses.{DidMore, DoesMore, IsDoneStatus, one_content, comes_where, never_refused as nothing_refused, written_more}
+use Rattle.omi_frame.proofs.Statuses.{DidMore, DoesMore, IsDoneStatus, one_content, comes_where, never_refused as nothing_refused, written_more}
 use Rattle.omi_frame.specs.Refusal.{status_of}
 use Rattle.omi_frame.specs.Statuses.{ComesWhere, IsFaultStatus}
 use Rattle.omi_frame.specs.declared.refusal.Refusal.{Refusal}
@@ -60,7 +63,7 @@ module _ (core : List ℕ) (told : List ℕ → Told) (content : Option (List �
       go (Some bytes) (Gives (Some core) (Ok text)) more said = absurd said
       go (Some bytes) (Gives (Some core) (Err r)) more said = absurd said
 
-  did : DidMore (Audit core) told → GivesOne content
+  did : DidMore (verb_of (Audit core)) told → GivesOne content
   did (inl (a, more, answer)) = verdicts a more answer
   did (inr (bytes, (says, answer))) = verdicts (Gives (Some bytes) says) (written_more bytes says) answer
 
@@ -92,16 +95,16 @@ module _ (core : List ℕ) (told : List ℕ → Told) (old new : Told) (counted 
   comes : (content : Option (List ℕ)) → told core ≡ Some content → (refused s : Status) (fact : Type 0)
       → (IsFaultStatus refused → ⊥) → (IsDoneStatus refused → ⊥)
       → ((r : Refusal) → IsAuditRefusal content r → status_of r ≡ refused → fact) → (fact → Declining content refused)
-      → IsLeft (Audit core) told s old new counted out after → ComesWhere refused s fact
+      → IsLeft (verb_of (Audit core)) told s old new counted out after → ComesWhere refused s fact
   comes content is refused s fact no_fault no_text says declining =
-      comes_where (Audit core) told old new counted out after (IsAuditRefusal content) (GivesOne content)
+      comes_where (verb_of (Audit core)) told old new counted out after (IsAuditRefusal content) (GivesOne content)
       (refusals core told content is) (did core told content is)
       refused s fact no_fault no_text says (λ holds. all_declining content refused (declining holds))
       (λ holds gives. not_refused content (declining holds).0 gives (declining holds).1)
 
   -- there is no file exactly where the status says so
   pub no_file : (s : Status) (content : Option (List ℕ)) → told core ≡ Some content
-      → IsLeft (Audit core) told s old new counted out after → ComesWhere status.NoFile s (content ≡ None)
+      → IsLeft (verb_of (Audit core)) told s old new counted out after → ComesWhere status.NoFile s (content ≡ None)
   no_file s content is =
       comes content is status.NoFile s (content ≡ None) (λ no. no) (λ no. no)
       (λ r refuses. says_missing content r (refused_by_show content r refuses))
@@ -109,14 +112,14 @@ module _ (core : List ℕ) (told : List ℕ → Told) (old new : Told) (counted 
 
   -- the file has a fault of its format exactly where the status says so
   pub core_refused : (s : Status) (bytes : List ℕ) → told core ≡ Some (Some bytes)
-      → IsLeft (Audit core) told s old new counted out after → ComesWhere status.Core s (HasFault bytes)
+      → IsLeft (verb_of (Audit core)) told s old new counted out after → ComesWhere status.Core s (HasFault bytes)
   core_refused s bytes is =
       comes (Some bytes) is status.Core s (HasFault bytes) (λ no. no) (λ no. no)
       (λ r refuses. says_core bytes r (refused_by_show (Some bytes) r refuses)) (faulty bytes)
 
   -- no layout table of this version is found exactly where the status says so
   pub incompatible : (s : Status) (bytes : List ℕ) → told core ≡ Some (Some bytes)
-      → IsLeft (Audit core) told s old new counted out after
+      → IsLeft (verb_of (Audit core)) told s old new counted out after
       → ComesWhere status.Incompatible s (Spells bytes IsIncompatible)
   incompatible s bytes is =
       comes (Some bytes) is status.Incompatible s (Spells bytes IsIncompatible) (λ no. no) (λ no. no)
@@ -124,7 +127,7 @@ module _ (core : List ℕ) (told : List ℕ → Told) (old new : Told) (counted 
 
   -- the layout table is wrong exactly where the status says so
   pub damaged : (s : Status) (bytes : List ℕ) → told core ≡ Some (Some bytes)
-      → IsLeft (Audit core) told s old new counted out after
+      → IsLeft (verb_of (Audit core)) told s old new counted out after
       → ComesWhere status.Damaged s (Spells bytes HasWrongTable)
   damaged s bytes is =
       comes (Some bytes) is status.Damaged s (Spells bytes HasWrongTable) (λ no. no) (λ no. no) (says_wrong bytes)
@@ -132,9 +135,9 @@ module _ (core : List ℕ) (told : List ℕ → Told) (old new : Told) (counted 
 
   -- a core that gives a layout is refused nothing
   pub audits : (s : Status) (bytes : List ℕ) → told core ≡ Some (Some bytes) → Spells bytes HasLayout
-      → IsLeft (Audit core) told s old new counted out after → IsDoneOrFailed s
+      → IsLeft (verb_of (Audit core)) told s old new counted out after → IsDoneOrFailed s
   audits s bytes is gives =
-      nothing_refused (Audit core) told old new counted out after
+      nothing_refused (verb_of (Audit core)) told old new counted out after
       (λ written r answer. layout_not_refused bytes r gives (refusals core told (Some bytes) is written r answer)) s
 
   -- what success puts
@@ -144,7 +147,7 @@ module _ (core : List ℕ) (told : List ℕ → Told) (old new : Told) (counted 
       × ShowsWhereYes image v
 
   put_by : (bytes : List ℕ) → told core ≡ Some (Some bytes)
-      → IsLeft (Audit core) told status.Success old new counted out after → Judged bytes
+      → IsLeft (verb_of (Audit core)) told status.Success old new counted out after → Judged bytes
   put_by bytes is (None, text, answer, held, put) =
       let (v, (image, spelled, audited), same) =
       audit_answer core told (Some bytes) is (Gives None (Ok text)) answer in
@@ -153,14 +156,14 @@ module _ (core : List ℕ) (told : List ℕ → Told) (old new : Told) (counted 
       absurd (audit_answer core told (Some bytes) is (Gives (Some written) (Ok text)) answer)
 
   pub judged : (s : Status) (bytes : List ℕ) → told core ≡ Some (Some bytes) → s ≡ status.Success
-      → IsLeft (Audit core) told s old new counted out after → Judged bytes
+      → IsLeft (verb_of (Audit core)) told s old new counted out after → Judged bytes
   judged s bytes is done left =
-      put_by bytes is (subst (λ (x : Status). IsLeft (Audit core) told x old new counted out after) done left)
+      put_by bytes is (subst (λ (x : Status). IsLeft (verb_of (Audit core)) told x old new counted out after) done left)
 
   -- of words that show a state which events reach the verdict is Yes
   module _ (bytes : List ℕ) (is : told core ≡ Some (Some bytes)) (image : CoreImage)
       (spelled : IsFileOf bytes image) (r : ShowsReached image) where
-    never_refused : {C : Type 0} (s : Status) → IsRefused (Audit core) told s old new counted out after → C
+    never_refused : {C : Type 0} (s : Status) → IsRefused (verb_of (Audit core)) told s old new counted out after → C
     never_refused s (why, same, written, answer, held, said) =
         absurd
         (layout_not_refused bytes why (image, spelled, (r.w, r.valid, r.shows.layout)) (refusals core told (Some bytes) is written why answer))
@@ -171,7 +174,7 @@ module _ (core : List ℕ) (told : List ℕ → Told) (old new : Told) (counted 
     approved_by (No addr field clause) audited put =
         absurd (reached_not_no image r addr field clause audited)
 
-    pub approved : (s : Status) → IsLeft (Audit core) told s old new counted out after → IsApproved s out after
+    pub approved : (s : Status) → IsLeft (verb_of (Audit core)) told s old new counted out after → IsApproved s out after
     approved status.Success left =
         let (other, v, also, audited, put, shows) = put_by bytes is left in
         approved_by v (subst (λ (c : CoreImage). IsAudited c v) (file_unique bytes other image also spelled) audited) put

@@ -11,13 +11,16 @@ use Rattle.omi_corefile.proofs.FileLaws.{core_not_refused}
 use Rattle.omi_frame.specs.declared.refusal.Refusal.{Refusal}
 use Rattle.omi_frame.specs.Refusal.{status_of}
 use Rattle.omi_frame.specs.Statuses.{IsFaultStatus, ComesWhere}
-use Rattle.omi_top.specs.Answer.{Answer, Gives, IsAnswer, IsCopyAnswer, IsDoneOrFailed, IsLeft, writing}
+use Rattle.omi_frame.specs.Verb.{Answer, Gives}
+use Rattle.omi_top.specs.Answer.{IsAnswer, IsCopyAnswer, writing, verb_of}
+use Rattle.omi_frame.specs.Statuses.{IsDoneOrFailed}
+use Rattle.omi_frame.specs.Left.{IsLeft}
 use Rattle.omi_top.specs.Command.{Command, Recode, Elf}
 use Rattle.omi_top.specs.Elf.{IsElfCopy, elf_line}
 use Rattle.omi_top.specs.Files.{HasFaultBy}
 use Rattle.omi_top.specs.Questions.{IsCoreRefusal}
 use Rattle.omi_top.specs.Recode.{IsRecoded, IsRecodedCopy, recoded_line}
-use Rattle.omi_top.proofs.Statuses.{DidMore, DoesMore, IsDoneStatus, one_content, comes_where, never_refused, written_more}
+use Rattle.omi_frame.proofs.Statuses.{DidMore, DoesMore, IsDoneStatus, one_content, comes_where, never_refused, written_more}
 
 -- the file holds a core
 abbrev HoldsCore : Option (List ℕ) → Type 0
@@ -62,7 +65,7 @@ module _ (command : Command) (core : List ℕ) (copies : List ℕ → List ℕ �
         go (Some bytes) (Gives (Some core) (Err r)) more said = absurd said
         go (Some bytes) (Gives (Some core) (Ok text)) more said = command_is.of_core bytes core text said
 
-    did : DidMore command told → HoldsCore content
+    did : DidMore (verb_of command) told → HoldsCore content
     did (inl (a, more, answer)) = holds a more answer
     did (inr (bytes, (says, answer))) =
         holds (Gives (Some bytes) says) (written_more bytes says)
@@ -73,14 +76,14 @@ module _ (command : Command) (core : List ℕ) (copies : List ℕ → List ℕ �
     comes : (content : Option (List ℕ)) → told core ≡ Some content → (refused s : Status) (fact : Type 0)
         → (IsFaultStatus refused → ⊥) → (IsDoneStatus refused → ⊥)
         → ((r : Refusal) → IsCoreRefusal content r → status_of r ≡ refused → fact) → (fact → (r : Refusal) → IsCoreRefusal content r → status_of r ≡ refused) → (fact → HoldsCore content → ⊥)
-        → IsLeft command told s old new counted out after → ComesWhere refused s fact
+        → IsLeft (verb_of command) told s old new counted out after → ComesWhere refused s fact
     comes content is =
-        comes_where command told old new counted out after (IsCoreRefusal content) (HoldsCore content)
+        comes_where (verb_of command) told old new counted out after (IsCoreRefusal content) (HoldsCore content)
         (refusals content is) (did content is)
 
     -- there is no file exactly where the status says so
     pub no_file : (s : Status) (content : Option (List ℕ)) → told core ≡ Some content
-        → IsLeft command told s old new counted out after → ComesWhere status.NoFile s (content ≡ None)
+        → IsLeft (verb_of command) told s old new counted out after → ComesWhere status.NoFile s (content ≡ None)
     no_file s content is =
         comes content is status.NoFile s (content ≡ None) (λ no. no) (λ no. no) (says content) (all content)
         (none content)
@@ -102,7 +105,7 @@ module _ (command : Command) (core : List ℕ) (copies : List ℕ → List ℕ �
 
     -- the grammar of core files refuses exactly where the status says so
     pub core_refused : (s : Status) (bytes : List ℕ) → told core ≡ Some (Some bytes)
-        → IsLeft command told s old new counted out after
+        → IsLeft (verb_of command) told s old new counted out after
         → ComesWhere status.Core s (HasFaultBy false bytes)
     core_refused s bytes is =
         comes (Some bytes) is status.Core s (HasFaultBy false bytes) (λ no. no) (λ no. no) says all
@@ -116,8 +119,8 @@ module _ (command : Command) (core : List ℕ) (copies : List ℕ → List ℕ �
 
     -- a core is refused nothing
     pub copied : (s : Status) (bytes : List ℕ) → told core ≡ Some (Some bytes) → IsCore bytes
-        → IsLeft command told s old new counted out after → IsDoneOrFailed s
-    copied s bytes is holds = never_refused command told old new counted out after none s
+        → IsLeft (verb_of command) told s old new counted out after → IsDoneOrFailed s
+    copied s bytes is holds = never_refused (verb_of command) told old new counted out after none s
       where
         none : (written : Option (List ℕ)) (r : Refusal)
             → IsAnswer command told (Gives written (Err r)) → ⊥
@@ -131,11 +134,11 @@ module _ (command : Command) (core : List ℕ) (copies : List ℕ → List ℕ �
         (written line : List ℕ) × copies bytes written line × (new ≡ holding old written) × (after ≡ put_on out line)
 
     pub success : (s : Status) (bytes : List ℕ) → told core ≡ Some (Some bytes) → s ≡ status.Success
-        → IsLeft command told s old new counted out after → Copied bytes
+        → IsLeft (verb_of command) told s old new counted out after → Copied bytes
     success s bytes is done left =
-        go (subst (λ (x : Status). IsLeft command told x old new counted out after) done left)
+        go (subst (λ (x : Status). IsLeft (verb_of command) told x old new counted out after) done left)
       where
-        go : IsLeft command told status.Success old new counted out after → Copied bytes
+        go : IsLeft (verb_of command) told status.Success old new counted out after → Copied bytes
         go (None, text, answer, held, put) = absurd (copy_answer (Some bytes) is (Gives None (Ok text)) answer)
         go (Some written, text, answer, held, put) =
             (written, text, copy_answer (Some bytes) is (Gives (Some written) (Ok text)) answer, held, put)
@@ -160,7 +163,7 @@ elf_copies core copy = record {
 module _ (core copy : List ℕ) (told : List ℕ → Told) (old new : Told) (counted : Type 0)
     (out after : Option (List ℕ)) where
   pub recode_success : (order : ℕ) (s : Status) (bytes : List ℕ) → told core ≡ Some (Some bytes) → s ≡ status.Success
-      → IsLeft (Recode order core copy) told s old new counted out after
+      → IsLeft (verb_of (Recode order core copy)) told s old new counted out after
       → (written : List ℕ) × IsRecoded order bytes written × (new ≡ holding old written) × (after ≡ put_on out (recoded_line order))
   recode_success order s bytes is done left =
       let (written, line, (recoded, says), held, put) =
@@ -168,7 +171,7 @@ module _ (core copy : List ℕ) (told : List ℕ → Told) (old new : Told) (cou
       (written, recoded, held, put ∙ ap (λ (t : List ℕ). put_on out t) says)
 
   pub elf_success : (s : Status) (bytes : List ℕ) → told core ≡ Some (Some bytes) → s ≡ status.Success
-      → IsLeft (Elf core copy) told s old new counted out after
+      → IsLeft (verb_of (Elf core copy)) told s old new counted out after
       → (image : CoreImage) × Core bytes image × (new ≡ holding old (elf_bytes image)) × (after ≡ put_on out (elf_line (length image.segments)))
   elf_success s bytes is done left =
       let (written, line, copied, held, put) =

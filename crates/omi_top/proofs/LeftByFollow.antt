@@ -8,7 +8,10 @@ use Rattle.omi_model.specs.Views.{IsViewOf}
 use Rattle.omi_model.specs.declared.view.View.{View}
 use Rattle.omi_script.specs.declared.program.Program.{Program}
 use Rattle.omi_walk.specs.Kept.{task_names}
-use Rattle.omi_top.specs.Answer.{Answer, Gives, IsAnswer, IsDoneOrFailed, IsFollowAnswer, IsFollowRefusal, IsLeft, IsStopped}
+use Rattle.omi_frame.specs.Verb.{Answer, Gives}
+use Rattle.omi_top.specs.Answer.{IsAnswer, IsFollowAnswer, IsFollowRefusal, IsStopped, verb_of}
+use Rattle.omi_frame.specs.Statuses.{IsDoneOrFailed}
+use Rattle.omi_frame.specs.Left.{IsLeft}
 use Rattle.omi_top.specs.Between.{AreOfOneRun, AreStops, IsFollowedFrom, events_between, fates_after}
 use Rattle.omi_top.specs.Command.{Follow}
 use Rattle.omi_top.specs.declared.plan.Plan.{Plan}
@@ -16,7 +19,7 @@ use Rattle.omi_top.proofs.Between.{followed_stops}
 use Rattle.omi_top.specs.Files.{IsFileOf}
 use Rattle.omi_top.proofs.Files.{core_is_file}
 use Rattle.omi_top.proofs.FollowVerdicts.{follow_not_refused, one_follow_answer, one_follow_refusal}
-use Rattle.omi_top.proofs.Statuses.{DidMore, DoesMore, IsDoneStatus, one_content, comes_where, never_refused, written_more}
+use Rattle.omi_frame.proofs.Statuses.{DidMore, DoesMore, IsDoneStatus, one_content, comes_where, never_refused, written_more}
 use Rattle.omi_top.proofs.TwoStops.{by_runs, stops_of}
 use Rattle.omi_verbs.specs.Cores.{thread_ids}
 use Rattle.omi_frame.specs.Refusal.{status_of}
@@ -60,7 +63,7 @@ module _ (core later : List ℕ) (told : List ℕ → Told) (content others : Op
       go (Some bytes) (Some other) (Gives (Some core) (Ok text)) more said = absurd said
       go (Some bytes) (Some other) (Gives (Some core) (Err r)) more said = absurd said
 
-  did : DidMore (Follow core later) told → IsAnswered content others
+  did : DidMore (verb_of (Follow core later)) told → IsAnswered content others
   did (inl (a, more, answer)) = answers a more answer
   did (inr (bytes, (says, answer))) = answers (Gives (Some bytes) says) (written_more bytes says) answer
 
@@ -80,10 +83,10 @@ module _ (core later : List ℕ) (told : List ℕ → Told) (old new : Told) (co
     (is : told core ≡ Some content) (also : told later ≡ Some others) where
   -- each other status comes exactly where there is a refusal with it
   pub refused : (s asked : Status) → (IsDoneOrFailed asked → ⊥)
-      → IsLeft (Follow core later) told s old new counted out after
+      → IsLeft (verb_of (Follow core later)) told s old new counted out after
       → ComesWhere asked s ((r : Refusal) × IsFollowRefusal content others r × (status_of r ≡ asked))
   refused s asked none left =
-      comes_where (Follow core later) told old new counted out after (IsFollowRefusal content others)
+      comes_where (verb_of (Follow core later)) told old new counted out after (IsFollowRefusal content others)
       (IsAnswered content others) (refusals core later told content others is also)
       (did core later told content others is also)
       asked s ((r : Refusal) × IsFollowRefusal content others r × (status_of r ≡ asked)) (no_fault asked none)
@@ -93,9 +96,9 @@ module _ (core later : List ℕ) (told : List ℕ → Told) (old new : Told) (co
 
   -- what is answered is refused nothing
   pub follows : (s : Status) (text : List ℕ) → IsFollowAnswer content others (Gives None (Ok text))
-      → IsLeft (Follow core later) told s old new counted out after → IsDoneOrFailed s
+      → IsLeft (verb_of (Follow core later)) told s old new counted out after → IsDoneOrFailed s
   follows s text answer =
-      never_refused (Follow core later) told old new counted out after
+      never_refused (verb_of (Follow core later)) told old new counted out after
       (λ written r said. follow_not_refused content others text r answer (refusals core later told content others is also written r said)) s
 
   -- what success puts
@@ -103,7 +106,7 @@ module _ (core later : List ℕ) (told : List ℕ → Told) (old new : Told) (co
   Followed =
       (text : List ℕ) × IsFollowAnswer content others (Gives None (Ok text)) × (after ≡ put_on out text)
 
-  put_by : IsLeft (Follow core later) told status.Success old new counted out after → Followed
+  put_by : IsLeft (verb_of (Follow core later)) told status.Success old new counted out after → Followed
   put_by (written, text, answer, held, put) = go content others written (follow_answer core later told content others is also (Gives written (Ok text)) answer)
     where
       go : (c o written : Option (List ℕ)) → IsFollowAnswer c o (Gives written (Ok text))
@@ -116,9 +119,9 @@ module _ (core later : List ℕ) (told : List ℕ → Told) (old new : Told) (co
       go (Some bytes) (Some other) (Some core) said = absurd said
 
   pub followed : (s : Status) → s ≡ status.Success
-      → IsLeft (Follow core later) told s old new counted out after → Followed
+      → IsLeft (verb_of (Follow core later)) told s old new counted out after → Followed
   followed s done left =
-      put_by (subst (λ (x : Status). IsLeft (Follow core later) told x old new counted out after) done left)
+      put_by (subst (λ (x : Status). IsLeft (verb_of (Follow core later)) told x old new counted out after) done left)
 
   -- ---- two stops of one run
 
@@ -137,10 +140,10 @@ module _ (core later : List ℕ) (told : List ℕ → Told) (old new : Told) (co
         )
 
     not_done : {C : Type 0} (s : Status) → (IsDoneOrFailed s → ⊥)
-        → IsLeft (Follow core later) told s old new counted out after → C
+        → IsLeft (verb_of (Follow core later)) told s old new counted out after → C
     not_done s none left = absurd (none (follows s (fates_after stops.between (task_names answer.0)) answer.2 left))
 
-    pub followed_from : (s : Status) → IsLeft (Follow core later) told s old new counted out after
+    pub followed_from : (s : Status) → IsLeft (verb_of (Follow core later)) told s old new counted out after
         → IsFollowedFrom stops.state stops.between image.contexts s out after
     followed_from status.Success left =
         let (text, said, put) = put_by left in
@@ -157,7 +160,7 @@ module _ (core later : List ℕ) (told : List ℕ → Told) (old new : Told) (co
 
   pub followed_run : (s : Status) (bytes spelt : List ℕ) → content ≡ Some bytes → others ≡ Some spelt
       → (p : Program) (plan next : Plan) (text more : List ℕ) (a : IsStopped p plan bytes text) (b : IsStopped p next spelt more)
-      → AreOfOneRun a b → IsLeft (Follow core later) told s old new counted out after
+      → AreOfOneRun a b → IsLeft (verb_of (Follow core later)) told s old new counted out after
       → IsFollowedFrom a.state (events_between a.entries b.entries) (thread_ids p.threads) s out after
   followed_run s bytes spelt content_is others_is p plan next text more a b one left =
       subst (λ (ids : List ℕ). IsFollowedFrom a.state (events_between a.entries b.entries) ids s out after)

@@ -5,7 +5,9 @@ use Rattle.omi_outside.specs.declared.status.Status.{Status}
 use Rattle.omi_outside.specs.declared.status.Status.TheVariants as status
 use Rattle.omi_script.specs.Grammar.{Grammar}
 use Rattle.omi_script.specs.declared.program.Program.{Program}
-use Rattle.omi_top.specs.Answer.{Gives, IsMakeAnswer, IsLeft, IsRefused, IsWritingStatus}
+use Rattle.omi_frame.specs.Verb.{Gives}
+use Rattle.omi_top.specs.Answer.{IsMakeAnswer, IsWritingStatus, verb_of}
+use Rattle.omi_frame.specs.Left.{IsLeft, IsRefused}
 use Rattle.omi_top.specs.Command.{Make}
 use Rattle.omi_top.specs.Make.{IsMade, make_text}
 use Rattle.omi_frame.specs.declared.refusal.Refusal.{Refusal}
@@ -17,10 +19,10 @@ never_refused n (Some bytes) r is = is
 
 module _ (n : ℕ) (script : List ℕ) (told : List ℕ → Told) (old new : Told) (counted : Type 0)
     (out after : Option (List ℕ)) where
-  no_refusal : {C : Type 0} (s : Status) → IsRefused (Make n script) told s old new counted out after → C
+  no_refusal : {C : Type 0} (s : Status) → IsRefused (verb_of (Make n script)) told s old new counted out after → C
   no_refusal s (r, same, written, is, held, said) = absurd (never_refused n written r is)
 
-  pub writing : (s : Status) → IsLeft (Make n script) told s old new counted out after → IsWritingStatus s
+  pub writing : (s : Status) → IsLeft (verb_of (Make n script)) told s old new counted out after → IsWritingStatus s
   writing status.Success left = tt
   writing status.WriteFault left = tt
   writing status.OutOfMemory left = tt
@@ -34,12 +36,12 @@ module _ (n : ℕ) (script : List ℕ) (told : List ℕ → Told) (old new : Tol
   writing status.Incompatible left = no_refusal status.Incompatible left
 
   -- what success leaves
-  pub success : (s : Status) → s ≡ status.Success → IsLeft (Make n script) told s old new counted out after
+  pub success : (s : Status) → s ≡ status.Success → IsLeft (verb_of (Make n script)) told s old new counted out after
       → (p : Program) × (line : List ℕ) × Grammar (make_text n) p × IsMade n p line × (new ≡ holding old (make_text n)) × (after ≡ put_on out line)
   success s done left =
-      go (subst (λ (x : Status). IsLeft (Make n script) told x old new counted out after) done left)
+      go (subst (λ (x : Status). IsLeft (verb_of (Make n script)) told x old new counted out after) done left)
     where
-      go : IsLeft (Make n script) told status.Success old new counted out after
+      go : IsLeft (verb_of (Make n script)) told status.Success old new counted out after
           → (p : Program) × (line : List ℕ) × Grammar (make_text n) p × IsMade n p line × (new ≡ holding old (make_text n)) × (after ≡ put_on out line)
       go (None, line, answer, held, put) = absurd answer
       go (Some text, line, (is, (p, grammar, made)), held, put) =

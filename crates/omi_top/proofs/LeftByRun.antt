@@ -10,7 +10,10 @@ use Rattle.omi_script.specs.Grammar.{Grammar, Refused}
 use Rattle.omi_script.specs.declared.fault.ScriptFault.{ScriptFault}
 use Rattle.omi_script.specs.declared.program.Program.{Program}
 use Rattle.omi_script.proofs.VerdictLemmas.{not_both}
-use Rattle.omi_top.specs.Answer.{Answer, Gives, ComesBehind, IsAnswer, IsDoneOrFailed, IsLeft, IsOutsideStatus, IsReadBackStatus, IsRefused, IsReportOf, IsRunAnswer, IsRunShown, IsShowAnswer, IsShowRefusal, IsStopAnswer, IsStopped}
+use Rattle.omi_frame.specs.Verb.{Answer, Gives}
+use Rattle.omi_top.specs.Answer.{ComesBehind, IsAnswer, IsReadBackStatus, IsReportOf, IsRunAnswer, IsRunShown, IsShowAnswer, IsShowRefusal, IsStopAnswer, IsStopped, verb_of}
+use Rattle.omi_frame.specs.Statuses.{IsDoneOrFailed, IsOutsideStatus}
+use Rattle.omi_frame.specs.Left.{IsLeft, IsRefused}
 use Rattle.omi_frame.specs.Statuses.{ComesWhere}
 use Rattle.omi_frame.specs.Scripts.{HoldsProgram, IsScriptRefusal}
 use Rattle.omi_top.specs.Command.{Run}
@@ -22,7 +25,7 @@ use Rattle.omi_top.proofs.LeftByShow.{HasReport, looked_shown, not_refused, run_
 use Rattle.omi_top.specs.Files.{HasFault}
 use Rattle.omi_top.proofs.Files.{core_is_file, file_unique}
 use Rattle.omi_top.proofs.ShowVerdicts.{Refusing, all_refusing, damaged as damaged_refused, faulty, incompatible as incompatible_refused, kinds, missing, report_not_refused, says_core, says_damaged, says_incompatible, says_missing}
-use Rattle.omi_top.proofs.Statuses.{DidMore, DoesMore, SaysWith, comes_where, never_refused as nothing_refused, one_content}
+use Rattle.omi_frame.proofs.Statuses.{DidMore, DoesMore, SaysWith, comes_where, never_refused as nothing_refused, one_content}
 
 -- the script has a fault
 abbrev HasScriptFault : List ℕ → Type 0
@@ -128,7 +131,7 @@ module _ (plan : Plan) (script core : List ℕ) (told : List ℕ → Told) (text
   programs (Gives (Some written) (Err r)) more answer =
       let ((lines, left), refuses) = refused_by (Some written) r answer in left_program plan text written lines left
 
-  did : DidMore (Run plan script core) told → HoldsProgram text
+  did : DidMore (verb_of (Run plan script core)) told → HoldsProgram text
   did (inl (a, more, answer)) = programs a more answer
   did (inr (bytes, (says, (t, here, answer)))) =
       go text says
@@ -174,7 +177,7 @@ script_status (Some bytes) r (fault, why, same) =
 module _ (plan : Plan) (script core : List ℕ) (told : List ℕ → Told) (old new : Told) (counted : Type 0)
     (out after : Option (List ℕ)) where
   -- a fault of the outside, a refusal, or success
-  ends : (s : Status) → IsLeft (Run plan script core) told s old new counted out after
+  ends : (s : Status) → IsLeft (verb_of (Run plan script core)) told s old new counted out after
       → IsOutsideStatus s ⊎ (SaysWith (IsAnswer (Run plan script core) told) s ⊎ (s ≡ status.Success))
   ends status.Success left = inr (inr refl)
   ends status.ReadFault left = inl tt
@@ -190,9 +193,9 @@ module _ (plan : Plan) (script core : List ℕ) (told : List ℕ → Told) (old 
   -- the script is refused exactly where the status says so
   pub script_refused : (s : Status) (bytes : List ℕ) (content : Option (List ℕ))
       → told script ≡ Some (Some bytes) → told core ≡ Some content
-      → IsLeft (Run plan script core) told s old new counted out after → ComesWhere status.Script s (HasScriptFault bytes)
+      → IsLeft (verb_of (Run plan script core)) told s old new counted out after → ComesWhere status.Script s (HasScriptFault bytes)
   script_refused s bytes content is back =
-      comes_where (Run plan script core) told old new counted out after (IsRunRefusal (Some bytes) content)
+      comes_where (verb_of (Run plan script core)) told old new counted out after (IsRunRefusal (Some bytes) content)
       (HoldsProgram (Some bytes))
       (refusals plan script core told (Some bytes) content is back)
       (did plan script core told (Some bytes) content is back)
@@ -213,9 +216,9 @@ module _ (plan : Plan) (script core : List ℕ) (told : List ℕ → Told) (old 
 
   -- where both contents are told
   module _ (text content : Option (List ℕ)) (is : told script ≡ Some text) (back : told core ≡ Some content)
-      (s : Status) (left : IsLeft (Run plan script core) told s old new counted out after) where
+      (s : Status) (left : IsLeft (verb_of (Run plan script core)) told s old new counted out after) where
     -- what success leaves
-    done_at : IsLeft (Run plan script core) told status.Success old new counted out after
+    done_at : IsLeft (verb_of (Run plan script core)) told status.Success old new counted out after
         → (bytes : List ℕ) × (lines : List ℕ) × Left plan text bytes lines × (shown : List ℕ) × IsShowAnswer content (Gives None (Ok shown)) × (new ≡ holding old bytes) × (after ≡ put_on out (lines ++ shown))
     done_at (None, put, answer, held, same) =
         let done = done_by plan script core told text content is back None put answer in let wrong : None ≡ Some done.bytes = done.is_written in absurd (cc wrong)
@@ -225,9 +228,9 @@ module _ (plan : Plan) (script core : List ℕ) (told : List ℕ → Told) (old 
         (done.bytes, done.lines, done.left, done.shown, done.said, held ∙ ap (holding old) bytes, same ∙ ap (put_on out) done.joined)
 
     left_success : s ≡ status.Success
-        → IsLeft (Run plan script core) told status.Success old new counted out after
+        → IsLeft (verb_of (Run plan script core)) told status.Success old new counted out after
     left_success done =
-        subst (λ (x : Status). IsLeft (Run plan script core) told x old new counted out after) done left
+        subst (λ (x : Status). IsLeft (verb_of (Run plan script core)) told x old new counted out after) done left
 
     report_at : s ≡ status.Success → HasReport content
     report_at done = let t = done_at (left_success done) in go content t.3 t.4
@@ -318,7 +321,7 @@ module _ (plan : Plan) (script core : List ℕ) (told : List ℕ → Told) (old 
   -- what is read back is refused exactly where a status says so
   module _ (text : Option (List ℕ)) (bytes : List ℕ) (is : told script ≡ Some text)
       (back : told core ≡ Some (Some bytes)) (s : Status)
-      (left : IsLeft (Run plan script core) told s old new counted out after) where
+      (left : IsLeft (verb_of (Run plan script core)) told s old new counted out after) where
     pub core_refused : ComesBehind status.Core s (HoldsProgram text × HasFault bytes)
     core_refused =
         comes_behind text (Some bytes) is back s left status.Core (HasFault bytes) (λ no. no) (λ no. no)
@@ -344,7 +347,7 @@ module _ (plan : Plan) (script core : List ℕ) (told : List ℕ → Told) (old 
         (p : Program) × (written : List ℕ) × (lines : List ℕ) × Grammar text p × IsStopped p plan written lines × (new ≡ holding old written)
 
     refused_wrote : (s : Status) → IsReadBackStatus s
-        → IsRefused (Run plan script core) told s old new counted out after → Wrote
+        → IsRefused (verb_of (Run plan script core)) told s old new counted out after → Wrote
     refused_wrote s read_back (r, same, None, answer, held, said) =
         let (fault, why, refuses) =
         refused_by plan script core told (Some text) content is back None r answer in
@@ -355,7 +358,7 @@ module _ (plan : Plan) (script core : List ℕ) (told : List ℕ → Told) (old 
         (p, written, lines, grammar, stopped, held)
 
     pub wrote : (s : Status) → IsReadBackStatus s
-        → IsLeft (Run plan script core) told s old new counted out after → Wrote
+        → IsLeft (verb_of (Run plan script core)) told s old new counted out after → Wrote
     wrote status.Success read_back left =
         let (written, lines, (p, grammar, stopped), shown, said, held, put) =
         done_at (Some text) content is back status.Success left left in
@@ -374,7 +377,7 @@ module _ (plan : Plan) (script core : List ℕ) (told : List ℕ → Told) (old 
       (back : told core ≡ Some (Some bytes)) where
     -- with success what is put is the lines of the run and the report of what is read back
     pub put_report : (s : Status) → s ≡ status.Success
-        → IsLeft (Run plan script core) told s old new counted out after
+        → IsLeft (verb_of (Run plan script core)) told s old new counted out after
         → (p : Program) × (written : List ℕ) × (lines : List ℕ) × (shown : List ℕ) × Grammar text p × IsStopped p plan written lines × (new ≡ holding old written) × IsReportOf bytes shown × (after ≡ put_on out (lines ++ shown))
     put_report s done left =
         let (written, lines, (p, grammar, stopped), shown, said, held, put) =
@@ -384,9 +387,9 @@ module _ (plan : Plan) (script core : List ℕ) (told : List ℕ → Told) (old 
 
     -- a program is refused nothing, where what is read back has a report
     pub runs : (shown : List ℕ) → (s : Status) → (p : Program) → Grammar text p → IsReportOf bytes shown
-        → IsLeft (Run plan script core) told s old new counted out after → IsDoneOrFailed s
+        → IsLeft (verb_of (Run plan script core)) told s old new counted out after → IsDoneOrFailed s
     runs shown s p grammar report_is =
-        nothing_refused (Run plan script core) told old new counted out after none s
+        nothing_refused (verb_of (Run plan script core)) told old new counted out after none s
       where
         never : (r : Refusal) → IsRunRefusal (Some text) (Some bytes) r → ⊥
         never r (inl (fault, why, same)) = not_both text p fault grammar why
@@ -406,7 +409,7 @@ module _ (plan : Plan) (script core : List ℕ) (told : List ℕ → Told) (old 
           (held_whole old written bytes (sym held ∙ same_core)) stopped
 
       never_refused : (s : Status) → IsReadBackStatus s
-          → IsRefused (Run plan script core) told s old new counted out after → ⊥
+          → IsRefused (verb_of (Run plan script core)) told s old new counted out after → ⊥
       never_refused s read_back (r, same, None, answer, held, said) =
           let (fault, why, refuses) =
           refused_by plan script core told (Some text) (Some bytes) is back None r answer in
@@ -419,7 +422,7 @@ module _ (plan : Plan) (script core : List ℕ) (told : List ℕ → Told) (old 
           shown_looked run.core_of.core run.state (run_shown p plan bytes lines run) in
           report_not_refused bytes v r (run.core_of.core, core_is_file bytes run.core_of.core run.core_of.spelled, looked) refuses
 
-      pub shown : (s : Status) → IsLeft (Run plan script core) told s old new counted out after
+      pub shown : (s : Status) → IsLeft (verb_of (Run plan script core)) told s old new counted out after
           → IsRunShown text plan bytes s out after
       shown status.Success left =
           let (p, written, lines, text_shown, grammar, stopped, held, (v, (image, spelled, looked), report_is), put) =

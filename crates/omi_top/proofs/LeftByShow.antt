@@ -16,7 +16,10 @@ use Rattle.omi_model.specs.Views.{IsViewOf}
 use Rattle.omi_model.specs.declared.view.View.{View}
 use Rattle.omi_frame.specs.declared.refusal.Refusal.{Refusal}
 use Rattle.omi_top.specs.declared.plan.Plan.{Plan}
-use Rattle.omi_top.specs.Answer.{Answer, Gives, IsAnswer, IsDoneOrFailed, IsReported, IsReportOf, IsShowAnswer, IsShowRefusal, IsShown, IsStopped, IsLeft, IsRefused}
+use Rattle.omi_frame.specs.Verb.{Answer, Gives}
+use Rattle.omi_top.specs.Answer.{IsAnswer, IsReported, IsReportOf, IsShowAnswer, IsShowRefusal, IsShown, IsStopped, verb_of}
+use Rattle.omi_frame.specs.Statuses.{IsDoneOrFailed}
+use Rattle.omi_frame.specs.Left.{IsLeft, IsRefused}
 use Rattle.omi_frame.specs.Statuses.{ComesWhere, IsFaultStatus}
 use Rattle.omi_top.specs.Command.{Show}
 use Rattle.omi_top.specs.Cores.{IsDamaged, IsIncompatible, IsLooked, ShowsState, Spells, words_of_core}
@@ -28,7 +31,7 @@ use Rattle.omi_top.specs.Files.{HasFault, IsFileOf}
 use Rattle.omi_top.proofs.Files.{core_is_file, file_unique}
 use Rattle.omi_top.proofs.ShowVerdicts.{Refusing, all_refusing, damaged as damaged_refused, faulty, incompatible as incompatible_refused, missing, one_looked, one_view, report_not_refused, says_core, says_damaged, says_incompatible, says_missing}
 use Rattle.omi_top.proofs.Recoded.{one_report}
-use Rattle.omi_top.proofs.Statuses.{DidMore, DoesMore, IsDoneStatus, one_content, comes_where, never_refused as nothing_refused, written_more}
+use Rattle.omi_frame.proofs.Statuses.{DidMore, DoesMore, IsDoneStatus, one_content, comes_where, never_refused as nothing_refused, written_more}
 
 -- the core's file has a report
 abbrev pub HasReport : Option (List ℕ) → Type 0
@@ -68,7 +71,7 @@ module _ (core : List ℕ) (told : List ℕ → Told) (content : Option (List �
       go (Some bytes) (Gives (Some core) (Ok text)) more said = absurd said
       go (Some bytes) (Gives (Some core) (Err r)) more said = absurd said
 
-  did : DidMore (Show core) told → HasReport content
+  did : DidMore (verb_of (Show core)) told → HasReport content
   did (inl (a, more, answer)) = reports a more answer
   did (inr (bytes, (says, answer))) = reports (Gives (Some bytes) says) (written_more bytes says) answer
 
@@ -124,30 +127,30 @@ module _ (core : List ℕ) (told : List ℕ → Told) (old new : Told) (counted 
   comes : (content : Option (List ℕ)) → told core ≡ Some content → (refused s : Status) (fact : Type 0)
       → (IsFaultStatus refused → ⊥) → (IsDoneStatus refused → ⊥)
       → ((r : Refusal) → IsShowRefusal content r → status_of r ≡ refused → fact) → (fact → Refusing content refused)
-      → IsLeft (Show core) told s old new counted out after → ComesWhere refused s fact
+      → IsLeft (verb_of (Show core)) told s old new counted out after → ComesWhere refused s fact
   comes content is refused s fact no_fault no_text says refusing =
-      comes_where (Show core) told old new counted out after (IsShowRefusal content) (HasReport content)
+      comes_where (verb_of (Show core)) told old new counted out after (IsShowRefusal content) (HasReport content)
       (refusals core told content is) (did core told content is)
       refused s fact no_fault no_text says (λ holds. all_refusing content refused (refusing holds))
       (λ holds reported. not_refused content (refusing holds).0 reported (refusing holds).1)
 
   -- there is no file exactly where the status says so
   pub no_file : (s : Status) (content : Option (List ℕ)) → told core ≡ Some content
-      → IsLeft (Show core) told s old new counted out after → ComesWhere status.NoFile s (content ≡ None)
+      → IsLeft (verb_of (Show core)) told s old new counted out after → ComesWhere status.NoFile s (content ≡ None)
   no_file s content is =
       comes content is status.NoFile s (content ≡ None) (λ no. no) (λ no. no) (says_missing content)
       (λ none. subst (λ (c : Option (List ℕ)). Refusing c status.NoFile) (sym none) missing)
 
   -- the file has a fault of its format exactly where the status says so
   pub core_refused : (s : Status) (bytes : List ℕ) → told core ≡ Some (Some bytes)
-      → IsLeft (Show core) told s old new counted out after → ComesWhere status.Core s (HasFault bytes)
+      → IsLeft (verb_of (Show core)) told s old new counted out after → ComesWhere status.Core s (HasFault bytes)
   core_refused s bytes is =
       comes (Some bytes) is status.Core s (HasFault bytes) (λ no. no) (λ no. no) (says_core bytes)
       (faulty bytes)
 
   -- no layout table of this version is found exactly where the status says so
   pub incompatible : (s : Status) (bytes : List ℕ) → told core ≡ Some (Some bytes)
-      → IsLeft (Show core) told s old new counted out after
+      → IsLeft (verb_of (Show core)) told s old new counted out after
       → ComesWhere status.Incompatible s (Spells bytes IsIncompatible)
   incompatible s bytes is =
       comes (Some bytes) is status.Incompatible s (Spells bytes IsIncompatible) (λ no. no) (λ no. no)
@@ -155,7 +158,7 @@ module _ (core : List ℕ) (told : List ℕ → Told) (old new : Told) (counted 
 
   -- the layout table is wrong or the look has a fault exactly where the status says so
   pub damaged : (s : Status) (bytes : List ℕ) → told core ≡ Some (Some bytes)
-      → IsLeft (Show core) told s old new counted out after
+      → IsLeft (verb_of (Show core)) told s old new counted out after
       → ComesWhere status.Damaged s (Spells bytes IsDamaged)
   damaged s bytes is =
       comes (Some bytes) is status.Damaged s (Spells bytes IsDamaged) (λ no. no) (λ no. no)
@@ -163,9 +166,9 @@ module _ (core : List ℕ) (told : List ℕ → Told) (old new : Told) (counted 
 
   -- a core that has a report is refused nothing
   pub shows : (s : Status) (bytes text : List ℕ) → told core ≡ Some (Some bytes) → IsReportOf bytes text
-      → IsLeft (Show core) told s old new counted out after → IsDoneOrFailed s
+      → IsLeft (verb_of (Show core)) told s old new counted out after → IsDoneOrFailed s
   shows s bytes text is report_is =
-      nothing_refused (Show core) told old new counted out after
+      nothing_refused (verb_of (Show core)) told old new counted out after
       (λ written r answer. not_refused (Some bytes) r (text, report_is) (refusals core told (Some bytes) is written r answer)) s
 
   -- what success puts
@@ -175,7 +178,7 @@ module _ (core : List ℕ) (told : List ℕ → Told) (old new : Told) (counted 
       × ((s : State) → ShowsState image s → IsViewOf s image.contexts v)
 
   put_by : (bytes : List ℕ) → told core ≡ Some (Some bytes)
-      → IsLeft (Show core) told status.Success old new counted out after → Reported bytes
+      → IsLeft (verb_of (Show core)) told status.Success old new counted out after → Reported bytes
   put_by bytes is (None, text, answer, held, put) =
       let (v, (image, spelled, looked), same) =
       show_answer core told (Some bytes) is (Gives None (Ok text)) answer in
@@ -184,20 +187,20 @@ module _ (core : List ℕ) (told : List ℕ → Told) (old new : Told) (counted 
       absurd (show_answer core told (Some bytes) is (Gives (Some written) (Ok text)) answer)
 
   pub report_put : (s : Status) (bytes : List ℕ) → told core ≡ Some (Some bytes) → s ≡ status.Success
-      → IsLeft (Show core) told s old new counted out after → Reported bytes
+      → IsLeft (verb_of (Show core)) told s old new counted out after → Reported bytes
   report_put s bytes is done left =
-      put_by bytes is (subst (λ (x : Status). IsLeft (Show core) told x old new counted out after) done left)
+      put_by bytes is (subst (λ (x : Status). IsLeft (verb_of (Show core)) told x old new counted out after) done left)
 
   -- what is put of a core whose words show a state
   module _ (bytes : List ℕ) (is : told core ≡ Some (Some bytes)) (image : CoreImage)
       (spelled : IsFileOf bytes image) (state : State) (shows : ShowsState image state) where
-    never_refused : {C : Type 0} (s : Status) → IsRefused (Show core) told s old new counted out after → C
+    never_refused : {C : Type 0} (s : Status) → IsRefused (verb_of (Show core)) told s old new counted out after → C
     never_refused s (r, same, written, answer, held, said) =
         let (v, looked, view) = shown_looked image state shows in
         absurd
         (report_not_refused bytes v r (image, spelled, looked) (refusals core told (Some bytes) is written r answer))
 
-    pub shown : (s : Status) → IsLeft (Show core) told s old new counted out after
+    pub shown : (s : Status) → IsLeft (verb_of (Show core)) told s old new counted out after
         → IsShown state image.contexts s out after
     shown status.Success left =
         let (other, v, also, looked, put, views) = put_by bytes is left in
@@ -215,11 +218,11 @@ module _ (core : List ℕ) (told : List ℕ → Told) (old new : Told) (counted 
   -- what is put of a core that has a report
   module _ (bytes : List ℕ) (is : told core ≡ Some (Some bytes)) (text : List ℕ)
       (reported : IsReportOf bytes text) where
-    no_refusal : {C : Type 0} (s : Status) → IsRefused (Show core) told s old new counted out after → C
+    no_refusal : {C : Type 0} (s : Status) → IsRefused (verb_of (Show core)) told s old new counted out after → C
     no_refusal s (r, same, written, answer, held, said) =
         absurd (not_refused (Some bytes) r (text, reported) (refusals core told (Some bytes) is written r answer))
 
-    pub put_report : (s : Status) → IsLeft (Show core) told s old new counted out after
+    pub put_report : (s : Status) → IsLeft (verb_of (Show core)) told s old new counted out after
         → IsReported text s out after
     put_report status.Success (None, other, answer, held, put) =
         put
@@ -240,13 +243,13 @@ module _ (core : List ℕ) (told : List ℕ → Told) (old new : Told) (counted 
   -- and of a core of words that show a state which events reach, as a run left it
   pub shown_reached : (s : Status) (bytes : List ℕ) → told core ≡ Some (Some bytes)
       → (p : Program) (ids : List ℕ) (state : State) (r : IsReachedCore p ids bytes state)
-      → IsLeft (Show core) told s old new counted out after → IsShown state ids s out after
+      → IsLeft (verb_of (Show core)) told s old new counted out after → IsShown state ids s out after
   shown_reached s bytes is p ids state r left =
       subst (λ (xs : List ℕ). IsShown state xs s out after) r.core_of.image.contexts_are
       (shown bytes is r.core_of.core (core_is_file bytes r.core_of.core r.core_of.spelled) state (reached_shown p ids bytes state r) s left)
 
   pub shown_again : (s : Status) (bytes : List ℕ) → told core ≡ Some (Some bytes)
       → (p : Program) (plan : Plan) (text : List ℕ) (run : IsStopped p plan bytes text)
-      → IsLeft (Show core) told s old new counted out after → IsShown run.state (thread_ids p.threads) s out after
+      → IsLeft (verb_of (Show core)) told s old new counted out after → IsShown run.state (thread_ids p.threads) s out after
   shown_again s bytes is p plan text run =
       shown_reached s bytes is p (thread_ids p.threads) run.state (stopped_reached p plan bytes text run)

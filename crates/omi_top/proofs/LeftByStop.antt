@@ -8,13 +8,16 @@ use Rattle.omi_script.proofs.VerdictLemmas.{not_both}
 use Rattle.omi_script.specs.declared.fault.ScriptFault.{ScriptFault}
 use Rattle.omi_script.specs.declared.program.Program.{Program}
 use Rattle.omi_frame.specs.declared.refusal.Refusal.{Refusal}
-use Rattle.omi_top.specs.Answer.{Answer, Gives, IsAnswer, IsDoneOrFailed, IsStopAnswer, IsLeft, IsStopped}
+use Rattle.omi_frame.specs.Verb.{Answer, Gives}
+use Rattle.omi_top.specs.Answer.{IsAnswer, IsStopAnswer, IsStopped, verb_of}
+use Rattle.omi_frame.specs.Statuses.{IsDoneOrFailed}
+use Rattle.omi_frame.specs.Left.{IsLeft}
 use Rattle.omi_frame.specs.Scripts.{IsScriptRefusal, HoldsProgram}
 use Rattle.omi_frame.specs.Statuses.{IsFaultStatus, ComesWhere}
 use Rattle.omi_top.specs.Command.{Stop}
 use Rattle.omi_top.specs.declared.plan.Plan.{Plan}
 use Rattle.omi_frame.specs.Refusal.{status_of}
-use Rattle.omi_top.proofs.Statuses.{DidMore, DoesMore, IsDoneStatus, one_content, comes_where, never_refused, written_more}
+use Rattle.omi_frame.proofs.Statuses.{DidMore, DoesMore, IsDoneStatus, one_content, comes_where, never_refused, written_more}
 
 -- the text has a fault
 abbrev HasFault : List ℕ → Type 0
@@ -50,7 +53,7 @@ module _ (plan : Plan) (script core : List ℕ) (told : List ℕ → Told) (cont
       go (Some bytes) (Gives (Some core) (Err r)) more said = absurd said
       go (Some bytes) (Gives (Some core) (Ok text)) more (p, grammar, stopped) = (p, grammar)
 
-  did : DidMore (Stop plan script core) told → HoldsProgram content
+  did : DidMore (verb_of (Stop plan script core)) told → HoldsProgram content
   did (inl (a, more, answer)) = runs a more answer
   did (inr (bytes, (says, answer))) = runs (Gives (Some bytes) says) (written_more bytes says) answer
 
@@ -60,15 +63,15 @@ module _ (plan : Plan) (script core : List ℕ) (told : List ℕ → Told) (old 
   comes : (content : Option (List ℕ)) → told script ≡ Some content → (refused s : Status) (fact : Type 0)
       → (IsFaultStatus refused → ⊥) → (IsDoneStatus refused → ⊥)
       → ((r : Refusal) → IsScriptRefusal content r → status_of r ≡ refused → fact) → (fact → (r : Refusal) → IsScriptRefusal content r → status_of r ≡ refused) → (fact → HoldsProgram content → ⊥)
-      → IsLeft (Stop plan script core) told s old new counted out after → ComesWhere refused s fact
+      → IsLeft (verb_of (Stop plan script core)) told s old new counted out after → ComesWhere refused s fact
   comes content is =
-      comes_where (Stop plan script core) told old new counted out after (IsScriptRefusal content)
+      comes_where (verb_of (Stop plan script core)) told old new counted out after (IsScriptRefusal content)
       (HoldsProgram content) (refusals plan script core told content is)
       (did plan script core told content is)
 
   -- there is no file exactly where the status says so
   pub no_file : (s : Status) (content : Option (List ℕ)) → told script ≡ Some content
-      → IsLeft (Stop plan script core) told s old new counted out after
+      → IsLeft (verb_of (Stop plan script core)) told s old new counted out after
       → ComesWhere status.NoFile s (content ≡ None)
   no_file s content is =
       comes content is status.NoFile s (content ≡ None) (λ no. no) (λ no. no) (says content) (all content)
@@ -91,7 +94,7 @@ module _ (plan : Plan) (script core : List ℕ) (told : List ℕ → Told) (old 
 
   -- the grammar refuses exactly where the status says so
   pub script_refused : (s : Status) (bytes : List ℕ) → told script ≡ Some (Some bytes)
-      → IsLeft (Stop plan script core) told s old new counted out after
+      → IsLeft (verb_of (Stop plan script core)) told s old new counted out after
       → ComesWhere status.Script s (HasFault bytes)
   script_refused s bytes is =
       comes (Some bytes) is status.Script s (HasFault bytes) (λ no. no) (λ no. no) says all none
@@ -107,8 +110,8 @@ module _ (plan : Plan) (script core : List ℕ) (told : List ℕ → Told) (old 
 
   -- a program is refused nothing
   pub stops : (s : Status) (bytes : List ℕ) → told script ≡ Some (Some bytes) → (p : Program)
-      → Grammar bytes p → IsLeft (Stop plan script core) told s old new counted out after → IsDoneOrFailed s
-  stops s bytes is p grammar = never_refused (Stop plan script core) told old new counted out after none s
+      → Grammar bytes p → IsLeft (verb_of (Stop plan script core)) told s old new counted out after → IsDoneOrFailed s
+  stops s bytes is p grammar = never_refused (verb_of (Stop plan script core)) told old new counted out after none s
     where
       none : (written : Option (List ℕ)) (r : Refusal)
           → IsAnswer (Stop plan script core) told (Gives written (Err r)) → ⊥
@@ -117,12 +120,12 @@ module _ (plan : Plan) (script core : List ℕ) (told : List ℕ → Told) (old 
 
   -- what success leaves
   pub success : (s : Status) (bytes : List ℕ) → told script ≡ Some (Some bytes) → s ≡ status.Success
-      → IsLeft (Stop plan script core) told s old new counted out after
+      → IsLeft (verb_of (Stop plan script core)) told s old new counted out after
       → (p : Program) × (written : List ℕ) × (text : List ℕ) × Grammar bytes p × IsStopped p plan written text × (new ≡ holding old written) × (after ≡ put_on out text)
   success s bytes is done left =
-      go (subst (λ (x : Status). IsLeft (Stop plan script core) told x old new counted out after) done left)
+      go (subst (λ (x : Status). IsLeft (verb_of (Stop plan script core)) told x old new counted out after) done left)
     where
-      go : IsLeft (Stop plan script core) told status.Success old new counted out after
+      go : IsLeft (verb_of (Stop plan script core)) told status.Success old new counted out after
           → (p : Program) × (written : List ℕ) × (text : List ℕ) × Grammar bytes p × IsStopped p plan written text × (new ≡ holding old written) × (after ≡ put_on out text)
       go (None, text, answer, held, put) =
           absurd (stop_answer plan script core told (Some bytes) is (Gives None (Ok text)) answer)

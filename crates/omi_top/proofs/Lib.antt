@@ -5,7 +5,6 @@ pub mod MadeTexts
 pub mod Making
 pub mod Files
 pub mod Copying
-pub mod Statuses
 pub mod Causes
 pub mod Left
 pub mod LeftByStop

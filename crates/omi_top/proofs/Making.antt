@@ -8,7 +8,9 @@ use Rattle.omi_script.specs.declared.program.Program.{Program}
 use Rattle.omi_model.specs.declared.event.Event.{Event}
 use Rattle.omi_core.specs.declared.stop.Break.TheVariants.{TaskBegin}
 use Rattle.omi_core.specs.Ends.{count_of}
-use Rattle.omi_top.specs.Answer.{Gives, IsAnswer, IsAnswered}
+use Rattle.omi_frame.specs.Verb.{Gives}
+use Rattle.omi_top.specs.Answer.{IsAnswer, verb_of}
+use Rattle.omi_frame.specs.Left.{IsAnswered}
 use Rattle.omi_top.specs.Command.{Make}
 use Rattle.omi_top.specs.Make.{IsMade, made_line, make_plan, make_text}
 use Rattle.omi_core.specs.declared.stop.End.{End}
@@ -38,7 +40,7 @@ made n p tells words steps why line by is =
 
 module _ (n : ℕ) (script : List ℕ) (told : List ℕ → Told) where
   -- memory ran out before anything was written
-  pub no_memory : (old : Told) → IsAnswered (Make n script) told (Err refusal.OutOfMemory) old old
+  pub no_memory : (old : Told) → IsAnswered (verb_of (Make n script)) told (Err refusal.OutOfMemory) old old
   no_memory old = inr (inl (tt, refl))
 
   module _ (text line : List ℕ) (is : text ≡ make_text n)
@@ -48,11 +50,11 @@ module _ (n : ℕ) (script : List ℕ) (told : List ℕ → Told) where
 
     -- the text is partly written
     pub partly_answered : (r : RefusedWrite) (old new : Told) → IsCut old new text
-        → IsAnswered (Make n script) told (Err (refusal_of_write r)) old new
+        → IsAnswered (verb_of (Make n script)) told (Err (refusal_of_write r)) old new
     partly_answered r old new cut = inr (inr (inl (late r, (text, (Ok line, answer), cut))))
 
     -- the text is written, and the line is handed up
     pub done_answered : (v : Vec ℕ) (old new : Told) → v.items ≡ line → new ≡ holding old text
-        → IsAnswered (Make n script) told (Ok v) old new
+        → IsAnswered (verb_of (Make n script)) told (Ok v) old new
     done_answered v old new same held =
         (Some text, subst (λ (x : List ℕ). IsAnswer (Make n script) told (Gives (Some text) (Ok x))) (sym same) answer, held)

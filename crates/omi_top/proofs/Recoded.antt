@@ -14,7 +14,8 @@ use Rattle.omi_rep.specs.Look.{Look}
 use Rattle.omi_rep.specs.LookView.{look_view}
 use Rattle.omi_text.specs.Report.{report}
 use Rattle.omi_word.specs.Words.{Words}
-use Rattle.omi_top.specs.Answer.{Answer, Gives, IsReportOf, IsShowAnswer, IsShowRefusal}
+use Rattle.omi_frame.specs.Verb.{Answer, Gives}
+use Rattle.omi_top.specs.Answer.{IsReportOf, IsShowAnswer, IsShowRefusal}
 use Rattle.omi_top.specs.Cores.{IsLooked, Spells, words_of_core}
 use Rattle.omi_top.specs.Elf.{IsElfCopy}
 use Rattle.omi_top.specs.Files.{IsFileOf}

@@ -8,7 +8,9 @@ use Rattle.omi_script.specs.declared.program.Program.{Program}
 use Rattle.omi_corefile.specs.Spelling.{core_bytes}
 use Rattle.omi_model.specs.declared.event.Event.{Event}
 use Rattle.omi_core.specs.Steps.{events_behind}
-use Rattle.omi_top.specs.Answer.{Gives, IsAnswer, IsAnswered, IsEarly, IsStopped, IsUnwritten}
+use Rattle.omi_frame.specs.Verb.{Gives}
+use Rattle.omi_top.specs.Answer.{IsAnswer, IsStopped, IsUnwritten, verb_of}
+use Rattle.omi_frame.specs.Left.{IsAnswered, IsEarly}
 use Rattle.omi_frame.specs.Scripts.{IsProgramIn, IsScriptRefusal}
 use Rattle.omi_top.specs.Command.{Command, Stop as StopCommand}
 use Rattle.omi_verbs.specs.Cores.{IsCoreOf, thread_ids}
@@ -26,12 +28,12 @@ module _ (plan : Plan) (script core : List ℕ) (told : List ℕ → Told) (cont
     (is : told script ≡ Some content) where
   -- there is no program: the script is refused, can't be read, or memory ran out
   pub refused_answered : (r : Refusal) (old : Told) → IsScriptRefusal content r ⊎ IsUnread input.Script r
-      → IsAnswered (StopCommand plan script core) told (Err r) old old
+      → IsAnswered (verb_of (StopCommand plan script core)) told (Err r) old old
   refused_answered r old (inl refuses) = inl (None, (content, is, refuses), refl)
   refused_answered r old (inr (inl failed)) =
-      inr (inl (subst (λ (x : Refusal). IsEarly (StopCommand plan script core) x) (sym failed) tt, refl))
+      inr (inl (subst (λ (x : Refusal). IsEarly (verb_of (StopCommand plan script core)) x) (sym failed) tt, refl))
   refused_answered r old (inr (inr memory)) =
-      inr (inl (subst (λ (x : Refusal). IsEarly (StopCommand plan script core) x) (sym memory) tt, refl))
+      inr (inl (subst (λ (x : Refusal). IsEarly (verb_of (StopCommand plan script core)) x) (sym memory) tt, refl))
 
   module _ (p : Program) (holds : IsProgramIn content p) where
     -- the answer of a program's run
@@ -47,14 +49,14 @@ module _ (plan : Plan) (script core : List ℕ) (told : List ℕ → Told) (cont
     -- the core is partly written
     pub partly_answered : (written text : List ℕ) (r : RefusedWrite) (old new : Told)
         → IsStopped p plan written text → IsCut old new written
-        → IsAnswered (StopCommand plan script core) told (Err (refusal_of_write r)) old new
+        → IsAnswered (verb_of (StopCommand plan script core)) told (Err (refusal_of_write r)) old new
     partly_answered written text r old new stopped cut =
         inr (inr (inl (late r, (written, (Ok text, run_answer written text stopped), cut))))
 
     -- the core is written, and the text is handed up
     pub done_answered : (written : List ℕ) (text : Vec ℕ) (old new : Told)
         → IsStopped p plan written text.items → new ≡ holding old written
-        → IsAnswered (StopCommand plan script core) told (Ok text) old new
+        → IsAnswered (verb_of (StopCommand plan script core)) told (Ok text) old new
     done_answered written text old new stopped held =
         (Some written, run_answer written text.items stopped, held)
 

@@ -1,7 +1,6 @@
 -- What a command is to answer, by what is told of the file that it reads, and what a call leaves.
 use Rattle.std.specs.Prelude.{◌≡◌, ◌⊎◌, ◌++◌, ℕ, List, length, Option, Some, None, Result, Ok, Err, ⊤}
-use Rattle.std.specs.Global.{Vec}
-use Rattle.omi_outside.specs.Outside.{Told, holding, IsCut, IsPutCut, put_on}
+use Rattle.omi_outside.specs.Outside.{Told, put_on}
 use Rattle.omi_outside.specs.declared.status.Status.{Status}
 use Rattle.omi_outside.specs.declared.status.Status.TheVariants as status
 use Rattle.omi_corefile.specs.Spelling.{core_bytes}
@@ -15,11 +14,9 @@ use Rattle.omi_model.specs.declared.view.View.{View}
 use Rattle.omi_core.specs.declared.entry.Entry.{Entry}
 use Rattle.omi_core.specs.declared.stop.End.{End}
 use Rattle.omi_core.specs.Steps.{events_behind}
-use Rattle.omi_frame.specs.declared.refusal.Input.{Input}
-use Rattle.omi_frame.specs.declared.refusal.Input.TheVariants as input
 use Rattle.omi_frame.specs.declared.refusal.Refusal.{Refusal}
 use Rattle.omi_frame.specs.declared.refusal.Refusal.TheVariants as refusal
-use Rattle.omi_top.specs.Command.{Command, Stop, Make, Show, Run, Recode, Elf, Audit, Follow, Faulty, ReadsBack, ReadsFirst, WritesLast, names_of}
+use Rattle.omi_top.specs.Command.{Command, Stop, Make, Show, Run, Recode, Elf, Audit, Follow, Faulty, ReadsBack, ReadsFirst, RefusesCore, WritesLast, names_of, written_file}
 use Rattle.omi_text.specs.Report.{report}
 use Rattle.omi_verbs.specs.Cores.{IsCoreOf, thread_ids}
 use Rattle.omi_audit.specs.declared.verdict.Verdict.{Verdict}
@@ -34,9 +31,9 @@ use Rattle.omi_top.specs.Make.{IsMade, make_text}
 use Rattle.omi_top.specs.Elf.{IsElfCopy}
 use Rattle.omi_top.specs.Files.{IsFileRefusal}
 use Rattle.omi_top.specs.Recode.{IsRecodedCopy}
-use Rattle.omi_frame.specs.Refusal.{IsLate, refusal_line, status_of}
-use Rattle.omi_frame.specs.Said.{IsSaid}
 use Rattle.omi_frame.specs.Scripts.{IsScriptRefusal}
+use Rattle.omi_frame.specs.Statuses.{IsOutsideStatus}
+use Rattle.omi_frame.specs.Verb.{Answer, Gives, Verb}
 use Rattle.omi_top.specs.Run.{IsRun}
 use Rattle.omi_top.specs.declared.plan.Plan.{Plan}
 
@@ -54,11 +51,6 @@ pub record IsStopped (p : Program) (plan : Plan) (core text : List ℕ) : Type 0
   pub core_is : core ≡ core_bytes (thread_ids p.threads) words
   pub core_of : IsCoreOf (thread_ids p.threads) core words
   pub text_is : text ≡ run_text (events_behind 0 entries) (length entries) end
-
--- The answer to a command: the bytes that it writes to its file, if it writes one, and what it says, a text or a refusal. So a command
--- can write a core and then refuse what it reads.
-pub data Answer : Type 0 where
-  Gives : (written : Option (List ℕ)) (says : Result (List ℕ) Refusal) → Answer
 
 -- an answer of `stop`, by the content of the script's file: a refusal alone, or the core and the text of a run of its program
 abbrev pub IsStopAnswer : Plan → Option (List ℕ) → Answer → Type 0
@@ -184,23 +176,6 @@ IsAnswer (Follow core later) told answer = (content : Option (List ℕ)) × (tol
     × (others : Option (List ℕ)) × (told later ≡ Some others) × IsFollowAnswer content others answer
 IsAnswer Faulty told answer = answer ≡ Gives None (Err refusal.Usage)
 
--- a fault before anything is written, of a file that the command reads or of memory; one while its file is written; and one after that,
--- of the file that the command reads back or of memory
-abbrev pub IsEarly : Command → Refusal → Type 0
-IsEarly command (refusal.ReadFault read) = ReadsFirst command read
-IsEarly command refusal.OutOfMemory = ⊤
-IsEarly command r = ⊥
-
-abbrev pub IsBehind : Command → Refusal → Type 0
-IsBehind command (refusal.ReadFault read) = ReadsBack command read
-IsBehind command refusal.OutOfMemory = ReadsBack command input.Core
-IsBehind command r = ⊥
-
--- the file holds what a command writes; a command that writes nothing leaves it
-abbrev pub Holds : Option (List ℕ) → Told → Told → Type 0
-Holds None old new = new ≡ old
-Holds (Some bytes) old new = new ≡ holding old bytes
-
 -- the part of a command that writes its file
 abbrev pub writing : Command → Command
 writing (Run plan script core) = Stop plan script core
@@ -210,72 +185,6 @@ writing command = command
 abbrev pub IsToWrite : Command → (List ℕ → Told) → List ℕ → Type 0
 IsToWrite command told bytes =
     (says : Result (List ℕ) Refusal) × IsAnswer (writing command) told (Gives (Some bytes) says)
-
--- a command's file is not written to its end: it is as before, or holds a front of the bytes that is not all. Or it is written whole
-abbrev pub IsHalfWritten : Command → (List ℕ → Told) → Told → Told → Type 0
-IsHalfWritten command told old new = (bytes : List ℕ) × IsToWrite command told bytes
-    × IsCut old new bytes
-
-abbrev pub IsWritten : Command → (List ℕ → Told) → Told → Told → Type 0
-IsWritten command told old new = (bytes : List ℕ) × IsToWrite command told bytes
-    × (new ≡ holding old bytes)
-
--- What a command gave, and what it left of the file that it writes: what an answer says and its bytes; or a fault, before the file, within
--- it or behind it.
-abbrev pub IsAnswered : Command → (List ℕ → Told) → Result (Vec ℕ) Refusal → Told → Told → Type 0
-IsAnswered command told (Ok text) old new = (core : Option (List ℕ))
-    × IsAnswer command told (Gives core (Ok text.items)) × Holds core old new
-IsAnswered command told (Err r) old new =
-    ((core : Option (List ℕ)) × IsAnswer command told (Gives core (Err r)) × Holds core old new)
-    ⊎ ((IsEarly command r × (new ≡ old))
-    ⊎ ((IsLate r × IsHalfWritten command told old new)
-    ⊎ (IsBehind command r × IsWritten command told old new)))
-
--- the file and the output after a fault: the file is not written to its end and nothing put, or it is whole and a front of the answer's text put, which is not all
-abbrev pub IsPartlyDone : Command → (List ℕ → Told) → Told → Told → Option (List ℕ)
-    → Option (List ℕ) → Type 0
-IsPartlyDone command told old new out after = (IsHalfWritten command told old new × (after ≡ out))
-    ⊎ ((core : Option (List ℕ)) × (text : List ℕ) × IsAnswer command told (Gives core (Ok text))
-    × Holds core old new × IsPutCut text out after)
-
--- an answer says a refusal with this status: its file is written, and the refusal's line is said
-abbrev pub IsRefused : Command → (List ℕ → Told) → Status → Told → Told → Type 0 → Option (List ℕ)
-    → Option (List ℕ) → Type 0
-IsRefused command told status old new counted out after =
-    (r : Refusal) × (status_of r ≡ status) × (core : Option (List ℕ))
-    × IsAnswer command told (Gives core (Err r)) × Holds core old new
-    × IsSaid (refusal_line (names_of command) r) counted out after
-
--- a file that the command reads can't be read, before anything is written or after all is, and the line with that file's name is said
-abbrev pub IsReadFailed : Command → (List ℕ → Told) → Told → Told → Type 0 → Option (List ℕ)
-    → Option (List ℕ) → Type 0
-IsReadFailed command told old new counted out after = (read : Input)
-    × ((ReadsFirst command read × (new ≡ old))
-    ⊎ (ReadsBack command read × IsWritten command told old new))
-    × IsSaid (refusal_line (names_of command) (refusal.ReadFault read)) counted out after
-
--- memory ran out before anything was written, or after all was and before anything was put
-abbrev pub IsUnsaid : Command → (List ℕ → Told) → Told → Told → Option (List ℕ) → Option (List ℕ)
-    → Type 0
-IsUnsaid command told old new out after =
-    ((new ≡ old) ⊎ (ReadsBack command input.Core × IsWritten command told old new))
-    × (after ≡ out)
-
--- What a call with this status leaves of the file that it writes and of the output, where a line that isn't put is counted by
--- the sink.
-abbrev pub IsLeft : Command → (List ℕ → Told) → Status → Told → Told → Type 0 → Option (List ℕ)
-    → Option (List ℕ) → Type 0
-IsLeft command told status.Success old new counted out after =
-    (core : Option (List ℕ)) × (text : List ℕ) × IsAnswer command told (Gives core (Ok text))
-    × Holds core old new × (after ≡ put_on out text)
-IsLeft command told status.ReadFault old new counted out after =
-    IsReadFailed command told old new counted out after
-IsLeft command told status.WriteFault old new counted out after =
-    IsPartlyDone command told old new out after
-IsLeft command told status.OutOfMemory old new counted out after =
-    IsUnsaid command told old new out after ⊎ IsPartlyDone command told old new out after
-IsLeft command told refused old new counted out after =
-    IsRefused command told refused old new counted out after
 
 -- a call of a command with this status wrote nothing
 abbrev pub IsUnwritten : Command → Status → Type 0
@@ -288,24 +197,27 @@ IsUnwritten command status.Damaged = WritesLast command
 IsUnwritten command status.Incompatible = WritesLast command
 IsUnwritten command other = ⊥
 
+-- the verb of a command
+abbrev pub verb_of : Command → Verb
+verb_of command = record {
+  names = names_of command;
+  writes = written_file command;
+  are_told = λ told. AreTold command told;
+  answers = λ told answer. IsAnswer command told answer;
+  is_to_write = λ told bytes. IsToWrite command told bytes;
+  reads_first = λ read. ReadsFirst command read;
+  reads_back = λ read. ReadsBack command read;
+  refuses_words = command ≡ Faulty;
+  refuses_core = λ s. RefusesCore command s;
+  wrote_nothing = λ s. IsUnwritten command s;
+}
+
 -- all is done, or a write failed or memory ran out
 abbrev pub IsWritingStatus : Status → Type 0
 IsWritingStatus status.Success = ⊤
 IsWritingStatus status.WriteFault = ⊤
 IsWritingStatus status.OutOfMemory = ⊤
 IsWritingStatus other = ⊥
-
--- a fault of the outside, or want of memory
-abbrev pub IsOutsideStatus : Status → Type 0
-IsOutsideStatus status.ReadFault = ⊤
-IsOutsideStatus status.WriteFault = ⊤
-IsOutsideStatus status.OutOfMemory = ⊤
-IsOutsideStatus other = ⊥
-
--- all is done, or a file or the output failed or memory ran out: nothing is refused
-abbrev pub IsDoneOrFailed : Status → Type 0
-IsDoneOrFailed status.Success = ⊤
-IsDoneOrFailed other = IsOutsideStatus other
 
 -- a status comes exactly where a fact holds of what is read back, but for a fault of reading or of writing and for want of memory
 abbrev pub ComesBehind : Status → Status → Type 0 → Type 0

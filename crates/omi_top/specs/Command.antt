@@ -170,26 +170,14 @@ names_of command = record {
   later = later_name command;
 }
 
--- the name of the file that a command writes
-abbrev pub written_name : Command → List ℕ
-written_name (Stop plan script core) = core
-written_name (Make n script) = script
-written_name (Show core) = []
-written_name (Run plan script core) = core
-written_name (Recode order core copy) = copy
-written_name (Elf core copy) = copy
-written_name (Audit core) = []
-written_name (Follow core later) = []
-written_name Faulty = []
-
--- a command writes the file of this name
-abbrev pub Writes : Command → List ℕ → Type 0
-Writes (Stop plan script core) name = name ≡ core
-Writes (Make n script) name = name ≡ script
-Writes (Show core) name = ⊥
-Writes (Run plan script core) name = name ≡ core
-Writes (Recode order core copy) name = name ≡ copy
-Writes (Elf core copy) name = name ≡ copy
-Writes (Audit core) name = ⊥
-Writes (Follow core later) name = ⊥
-Writes Faulty name = ⊥
+-- the name of the file that a command writes, if it writes one
+abbrev pub written_file : Command → Option (List ℕ)
+written_file (Stop plan script core) = Some core
+written_file (Make n script) = Some script
+written_file (Show core) = None
+written_file (Run plan script core) = Some core
+written_file (Recode order core copy) = Some copy
+written_file (Elf core copy) = Some copy
+written_file (Audit core) = None
+written_file (Follow core later) = None
+written_file Faulty = None

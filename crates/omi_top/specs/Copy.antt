@@ -1,8 +1,11 @@
 -- What a command that writes a copy of a core is to the code that all such commands share.
 use Rattle.std.specs.Prelude.{◌≡◌, ℕ, List, Option, Some, ⊤}
 use Rattle.omi_outside.specs.Outside.{Told}
-use Rattle.omi_top.specs.Answer.{Answer, AreTold, IsAnswer, IsCopyAnswer, writing}
-use Rattle.omi_top.specs.Command.{Command, ReadsFirst, Writes, written_name}
+use Rattle.omi_frame.specs.Verb.{Answer}
+use Rattle.omi_top.specs.Answer.{AreTold, IsAnswer, IsCopyAnswer, writing}
+use Rattle.omi_top.specs.Command.{Command, ReadsFirst, RefusesCore, written_file}
+use Rattle.omi_outside.specs.declared.status.Status.{Status}
+use Rattle.omi_outside.specs.declared.status.Status.TheVariants as status
 use Rattle.omi_frame.specs.declared.refusal.Input.TheVariants as input
 use Rattle.omi_frame.specs.declared.refusal.Refusal.{Refusal}
 use Rattle.omi_frame.specs.declared.refusal.Refusal.TheVariants as refusal
@@ -16,8 +19,8 @@ pub record IsCopying (command : Command) (core copy : List ℕ) (copies : List �
       → told core ≡ Some content → IsCopyAnswer copies content answer → IsAnswer command told answer
   pub reads : ReadsFirst command input.Core
   pub alone : writing command ≡ command
-  pub name : written_name command ≡ copy
-  pub writes : Writes command copy
+  pub writes : written_file command ≡ Some copy
+  pub refuses : {s : Status} → s ≡ status.Core → RefusesCore command s
 
 -- what the reading of a core can be refused for
 abbrev pub IsOfCoreFile : Refusal → Type 0

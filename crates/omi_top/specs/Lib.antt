@@ -19,9 +19,9 @@ pub mod Elf
 pub mod Between
 pub mod Determined
 pub mod Recoded
--- What private functions of the code stand on: a request as a command; what each layer of the top call says alike; what the
+-- What private functions of the code stand on: a request as a command; what stays of the files; what the
 -- commands share that write a copy; and a run that was made
 pub mod Asked
-pub mod Causes
+pub mod Apart
 pub mod Copy
 pub mod Ran

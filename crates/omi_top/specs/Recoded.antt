@@ -3,7 +3,8 @@ use Rattle.std.specs.Prelude.{◌≡◌, ◌↔◌, ℕ, List, Some}
 use Rattle.omi_corefile.specs.Spelling.{spelling}
 use Rattle.omi_corefile.specs.declared.core_image.CoreImage.{CoreImage}
 use Rattle.omi_elf.specs.ElfCore.{ElfCore}
-use Rattle.omi_top.specs.Answer.{Answer, IsShowAnswer}
+use Rattle.omi_frame.specs.Verb.{Answer}
+use Rattle.omi_top.specs.Answer.{IsShowAnswer}
 use Rattle.omi_top.specs.Cores.{words_of_core}
 use Rattle.omi_top.specs.Elf.{IsElfCopy}
 use Rattle.omi_top.specs.Files.{IsFileOf}

@@ -3,7 +3,8 @@
 ghost use Rattle.std.specs.Prelude.{◌≡◌, ◌≢◌, ◌≤◌, IfErr, IfOk, IsErrAnd, length, string_bytes};
 ghost use Rattle.omi_outside.specs.Outside.{HasCause, Told};
 ghost use Rattle.omi_outside.specs.declared.status.Status.TheVariants.{Script};
-ghost use Rattle.omi_top.specs.Answer.{AreTold, IsAnswered};
+ghost use Rattle.omi_top.specs.Answer.{AreTold, verb_of};
+ghost use Rattle.omi_frame.specs.Left.{IsAnswered};
 ghost use Rattle.omi_top.specs.Audit.{audit_line, judged, refusal_of_audit};
 ghost use Rattle.omi_top.specs.Command.{Audit};
 ghost use Rattle.omi_frame.specs.Refusal.{IsReadFault, status_of};
@@ -89,7 +90,7 @@ fn audit_line(alloc: Global, verdict: Verdict) -> Result<String, AllocError>
 pub fn audit<F: Files>(alloc: Global, core: &str, files: &mut F) -> Result<Vec<u8>, Refusal>
     ensures answer { (old : Told) → let command = Audit core.now in
         AreTold command (F.told files.old)
-        → IsAnswered command (F.told files.old) result old old }
+        → IsAnswered (verb_of command) (F.told files.old) result old old }
     ensures usage { result ≢ Err Refusal.Usage }
     ensures write { result ≢ Err Refusal.WriteFault }
     ensures script { IfErr result (λ r. status_of r ≢ Script) }

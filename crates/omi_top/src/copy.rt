@@ -3,15 +3,15 @@
 ghost use Rattle.std.specs.Prelude.{◌≡◌, ◌≢◌, ◌⊎◌, false, List, ℕ, Option, Some, IfOk, IfErr, IsErrAnd, string_bytes};
 ghost use Rattle.omi_corefile.specs.Spelling.{Core};
 ghost use Rattle.omi_outside.specs.Outside.{HasCause};
-ghost use Rattle.omi_outside.specs.declared.status.Status.TheVariants.{Core as CoreStatus};
-ghost use Rattle.omi_top.specs.Causes.{Performed};
+ghost use Rattle.omi_frame.specs.Concluded.{Performed};
+ghost use Rattle.omi_top.specs.Answer.{verb_of};
+ghost use Rattle.omi_top.specs.Apart.{KeptApart};
 ghost use Rattle.omi_top.specs.Command.{Command};
 ghost use Rattle.omi_top.specs.Copy.{IsCopying, IsOfCoreFile};
 ghost use Rattle.omi_top.specs.Files.{Holds};
 ghost use Rattle.omi_top.specs.Questions.{IsCoreRefusal};
-ghost use Rattle.omi_frame.specs.Refusal.{IsReadFault, IsUnread, status_of};
+ghost use Rattle.omi_frame.specs.Refusal.{IsReadFault, IsUnread};
 ghost use Rattle.omi_frame.specs.Seen.{files_seen};
-ghost use Rattle.omi_frame.specs.Statuses.{IsOfCore};
 
 use crate::limits::CORE_FRONT;
 use omi_corefile::{CoreImage, decode};
@@ -65,13 +65,16 @@ pub fn write_copy<F: Files, W: Files, C: Copying>(
 ) -> Result<Vec<u8>, Refusal>
     ensures performed { (command : Command)
         → IsCopying command core.now copy.now (C.copies copying)
-        → Performed command result
+        → Performed (verb_of command) result
         (files_seen (F.told files.old) (F.reads files.old) (F.writes files.old))
         (files_seen (F.told files.new) (F.reads files.new) (F.writes files.new))
         (files_seen (W.told dest.old) (W.reads dest.old) (W.writes dest.old))
         (files_seen (W.told dest.new) (W.reads dest.new) (W.writes dest.new)) }
-    ensures usage { result ≢ Err Refusal.Usage }
-    ensures of_core { IfErr result (λ r. IsOfCore (status_of r) → status_of r ≡ CoreStatus) }
+    ensures apart { KeptApart
+        (files_seen (F.told files.old) (F.reads files.old) (F.writes files.old))
+        (files_seen (F.told files.new) (F.reads files.new) (F.writes files.new))
+        (files_seen (W.told dest.old) (W.reads dest.old) (W.writes dest.old))
+        (files_seen (W.told dest.new) (W.reads dest.new) (W.writes dest.new)) }
 {
     let image = core_in(alloc, core, files)?;
     let made = copying.copied(alloc, image)?;

@@ -3,7 +3,8 @@
 ghost use Rattle.std.specs.Prelude.{◌≡◌, ◌≢◌, IfErr, IsErrAnd};
 ghost use Rattle.omi_outside.specs.Outside.{HasCause, Told};
 ghost use Rattle.omi_outside.specs.declared.status.Status.TheVariants.{Script};
-ghost use Rattle.omi_top.specs.Answer.{AreTold, IsAnswered};
+ghost use Rattle.omi_top.specs.Answer.{AreTold, verb_of};
+ghost use Rattle.omi_frame.specs.Left.{IsAnswered};
 ghost use Rattle.omi_top.specs.Command.{Follow};
 ghost use Rattle.omi_top.specs.Follow.{kept_in, of_later};
 ghost use Rattle.omi_frame.specs.Refusal.{IsReadFault, status_of};
@@ -111,7 +112,7 @@ pub fn follow<F: Files>(
 ) -> Result<Vec<u8>, Refusal>
     ensures answer { (old : Told) → let command = Follow core.now later.now in
         AreTold command (F.told files.old)
-        → IsAnswered command (F.told files.old) result old old }
+        → IsAnswered (verb_of command) (F.told files.old) result old old }
     ensures usage { result ≢ Err Refusal.Usage }
     ensures write { result ≢ Err Refusal.WriteFault }
     ensures script { IfErr result (λ r. status_of r ≢ Script) }

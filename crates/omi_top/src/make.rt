@@ -6,11 +6,12 @@ ghost use Rattle.omi_model.specs.declared.id.Tid.{Tid};
 ghost use Rattle.omi_run_lists.specs.Compact.{with_team};
 ghost use Rattle.omi_outside.specs.Outside.{HasCause, Told};
 ghost use Rattle.omi_script.specs.Grammar.{Grammar};
-ghost use Rattle.omi_top.specs.Answer.{IsAnswered};
+ghost use Rattle.omi_frame.specs.Left.{IsAnswered};
 ghost use Rattle.omi_frame.specs.Refusal.{IsLate};
 ghost use Rattle.omi_top.specs.Asked.{IsMadeText, IsNodes};
 ghost use Rattle.omi_top.specs.Command.{Make};
 ghost use Rattle.omi_top.specs.Make.{IsMade, made_line, make_text};
+ghost use Rattle.omi_top.specs.Answer.{verb_of};
 
 use crate::limits::MOST_STEPS;
 use crate::lines::word_of;
@@ -140,7 +141,7 @@ pub fn make<W: Files>(
 ) -> Result<Vec<u8>, Refusal>
     requires { IsNodes nodes }
     ensures answer { (told : List ℕ → Told)
-        → IsAnswered (Make nodes script.now) told result (W.told dest.old script.now)
+        → IsAnswered (verb_of (Make nodes script.now)) told result (W.told dest.old script.now)
         (W.told dest.new script.now) }
     ensures late { IfErr result IsLate }
     ensures write { HasCause (W.writes dest.old) (W.writes dest.new)

@@ -2,7 +2,9 @@
 
 ghost use Rattle.std.specs.Prelude.{◌≡◌, ◌≢◌, ◌≤◌, IfOk, IfErr, string_bytes};
 ghost use Rattle.omi_outside.specs.declared.status.Status.TheVariants.{Core};
-ghost use Rattle.omi_top.specs.Causes.{Performed};
+ghost use Rattle.omi_frame.specs.Concluded.{Performed};
+ghost use Rattle.omi_top.specs.Answer.{verb_of};
+ghost use Rattle.omi_top.specs.Apart.{KeptApart};
 ghost use Rattle.omi_top.specs.Command.{Recode};
 ghost use Rattle.omi_top.specs.Recode.{recoded_line};
 ghost use Rattle.omi_frame.specs.Refusal.{status_of};
@@ -52,13 +54,16 @@ pub fn recode<F: Files, W: Files>(
     dest: &mut W,
 ) -> Result<Vec<u8>, Refusal>
     requires { order ≤ 1 }
-    ensures performed { Performed (Recode order core.now copy.now) result
+    ensures performed { Performed (verb_of (Recode order core.now copy.now)) result
         (files_seen (F.told files.old) (F.reads files.old) (F.writes files.old))
         (files_seen (F.told files.new) (F.reads files.new) (F.writes files.new))
         (files_seen (W.told dest.old) (W.reads dest.old) (W.writes dest.old))
         (files_seen (W.told dest.new) (W.reads dest.new) (W.writes dest.new)) }
-    ensures usage { result ≢ Err Refusal.Usage }
-    ensures of_core { IfErr result (λ r. IsOfCore (status_of r) → status_of r ≡ Core) }
+    ensures apart { KeptApart
+        (files_seen (F.told files.old) (F.reads files.old) (F.writes files.old))
+        (files_seen (F.told files.new) (F.reads files.new) (F.writes files.new))
+        (files_seen (W.told dest.old) (W.reads dest.old) (W.writes dest.old))
+        (files_seen (W.told dest.new) (W.reads dest.new) (W.writes dest.new)) }
 {
     write_copy(alloc, Recoding { order }, core, copy, files, dest)
 }

@@ -1,11 +1,13 @@
 //! The command `run`.
 
-ghost use Rattle.std.specs.Prelude.{◌≡◌, ◌≢◌, IfErr, IsErrAnd, IsErrOf};
+ghost use Rattle.std.specs.Prelude.{◌≡◌, ◌≢◌, List, ℕ, IfErr, IsErrAnd, IsErrOf};
 ghost use Rattle.omi_outside.specs.Outside.{HasCause};
-ghost use Rattle.omi_top.specs.Answer.{AreTold, IsAnswered, IsUnwritten};
+ghost use Rattle.omi_top.specs.Answer.{AreTold, IsUnwritten, verb_of};
+ghost use Rattle.omi_frame.specs.Left.{IsAnswered};
+ghost use Rattle.omi_frame.specs.Verb.{Writes};
 ghost use Rattle.omi_top.specs.Asked.{IsPossible};
 ghost use Rattle.omi_top.specs.Command.{Run};
-ghost use Rattle.omi_top.specs.Causes.{Stays};
+ghost use Rattle.omi_top.specs.Apart.{KeptApart};
 ghost use Rattle.omi_frame.specs.Refusal.{IsReadFault, status_of};
 ghost use Rattle.omi_frame.specs.Seen.{files_seen};
 
@@ -29,7 +31,7 @@ pub fn run_and_show<F: Files, W: Files>(
     // The run's core and lines, and the report of what is read back.
     ensures answer { let command = Run plan script.now core.now in
         AreTold command (F.told files.old)
-        → IsAnswered command (F.told files.old) result (W.told dest.old core.now)
+        → IsAnswered (verb_of command) (F.told files.old) result (W.told dest.old core.now)
         (W.told dest.new core.now) }
     ensures usage { result ≢ Err Refusal.Usage }
 
@@ -40,7 +42,9 @@ pub fn run_and_show<F: Files, W: Files>(
         (IsErrOf result Refusal.WriteFault) }
     ensures unwritten { IfErr result (λ r. IsUnwritten (Run plan script.now core.now) (status_of r)
         → W.told dest.new ≡ W.told dest.old) }
-    ensures stays { Stays (Run plan script.now core.now)
+    ensures others { (other : List ℕ) → (Writes (verb_of (Run plan script.now core.now)) other → ⊥)
+        → W.told dest.new other ≡ W.told dest.old other }
+    ensures apart { KeptApart
         (files_seen (F.told files.old) (F.reads files.old) (F.writes files.old))
         (files_seen (F.told files.new) (F.reads files.new) (F.writes files.new))
         (files_seen (W.told dest.old) (W.reads dest.old) (W.writes dest.old))

@@ -3,7 +3,8 @@
 ghost use Rattle.std.specs.Prelude.{◌≡◌, ◌≢◌, ◌≤◌, IfErr, IsErrAnd, length};
 ghost use Rattle.omi_outside.specs.Outside.{HasCause, Told};
 ghost use Rattle.omi_outside.specs.declared.status.Status.TheVariants.{Script};
-ghost use Rattle.omi_top.specs.Answer.{AreTold, IsAnswered};
+ghost use Rattle.omi_top.specs.Answer.{AreTold, verb_of};
+ghost use Rattle.omi_frame.specs.Left.{IsAnswered};
 ghost use Rattle.omi_top.specs.Command.{Show};
 ghost use Rattle.omi_top.specs.Shown.{handed_on};
 ghost use Rattle.omi_frame.specs.Refusal.{IsReadFault, status_of};
@@ -64,7 +65,7 @@ impl Question for ReportWanted {
 pub fn show<F: Files>(alloc: Global, core: &str, files: &mut F) -> Result<Vec<u8>, Refusal>
     ensures answer { (old : Told) → let command = Show core.now in
         AreTold command (F.told files.old)
-        → IsAnswered command (F.told files.old) result old old }
+        → IsAnswered (verb_of command) (F.told files.old) result old old }
     ensures usage { result ≢ Err Refusal.Usage }
     ensures write { result ≢ Err Refusal.WriteFault }
     ensures script { IfErr result (λ r. status_of r ≢ Script) }

@@ -3,13 +3,12 @@
 ghost use Rattle.std.specs.Prelude.{◌≢◌, ◌<◌, ◌≤◌, length, IfOk, IfErr, string_bytes};
 ghost use Rattle.omi_corefile.specs.Spelling.{core_bytes};
 ghost use Rattle.omi_script.specs.declared.limits.TheConstants.{MAX_THREADS};
-ghost use Rattle.omi_top.specs.Answer.{IsStopped};
-ghost use Rattle.omi_frame.specs.Statuses.{IsOfCore};
+ghost use Rattle.omi_top.specs.Answer.{IsStopped, verb_of};
 ghost use Rattle.omi_top.specs.Command.{Stop as StopCommand};
 ghost use Rattle.omi_top.specs.Asked.{IsPossible};
-ghost use Rattle.omi_top.specs.Causes.{Performed};
+ghost use Rattle.omi_frame.specs.Concluded.{Performed};
+ghost use Rattle.omi_top.specs.Apart.{KeptApart};
 ghost use Rattle.omi_frame.specs.Seen.{files_seen};
-ghost use Rattle.omi_frame.specs.Refusal.{status_of};
 
 use crate::lines::text_of;
 use crate::plan::Plan;
@@ -54,13 +53,16 @@ pub fn stop<F: Files, W: Files>(
     dest: &mut W,
 ) -> Result<Vec<u8>, Refusal>
     requires { IsPossible plan }
-    ensures performed { Performed (StopCommand plan script.now core.now) result
+    ensures performed { Performed (verb_of (StopCommand plan script.now core.now)) result
         (files_seen (F.told files.old) (F.reads files.old) (F.writes files.old))
         (files_seen (F.told files.new) (F.reads files.new) (F.writes files.new))
         (files_seen (W.told dest.old) (W.reads dest.old) (W.writes dest.old))
         (files_seen (W.told dest.new) (W.reads dest.new) (W.writes dest.new)) }
-    ensures usage { result ≢ Err Refusal.Usage }
-    ensures of_core { IfErr result (λ r. IsOfCore (status_of r) → ⊥) }
+    ensures apart { KeptApart
+        (files_seen (F.told files.old) (F.reads files.old) (F.writes files.old))
+        (files_seen (F.told files.new) (F.reads files.new) (F.writes files.new))
+        (files_seen (W.told dest.old) (W.reads dest.old) (W.writes dest.old))
+        (files_seen (W.told dest.new) (W.reads dest.new) (W.writes dest.new)) }
 {
     let p = program_of(alloc, script, files)?;
     let (image, contexts, text) = stopped(alloc, p, plan)?;

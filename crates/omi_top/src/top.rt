@@ -1,24 +1,27 @@
 //! The one call that the program makes, with the clause for each of its promises.
 
-ghost use Rattle.std.specs.Prelude.{◌≡◌, ◌⊎◌, ◌≤◌, ◌∷◌, ◌++◌, [], codes, List, ℕ, Option, Some, None, IfErr, IsErrOf, length, string_bytes};
-ghost use Rattle.std.specs.String.{string_capacity};
-ghost use Rattle.omi_outside.specs.Outside.{Rose, holding, put_on};
+ghost use Rattle.std.specs.Prelude.{◌≡◌, ◌⊎◌, ◌++◌, List, ℕ, Option, Some, None, length, ⊤};
+ghost use Rattle.omi_outside.specs.Outside.{holding, put_on};
 ghost use Rattle.omi_corefile.specs.Refusals.{CoreRefused};
 ghost use Rattle.omi_corefile.specs.declared.fault.CoreFault.{CoreFault};
 ghost use Rattle.omi_script.specs.Grammar.{Grammar, Refused as RefusedScript};
 ghost use Rattle.omi_script.specs.declared.fault.ScriptFault.{ScriptFault};
 ghost use Rattle.omi_script.specs.declared.program.Program.{Program};
-ghost use Rattle.omi_top.specs.Command.{Stop, Make, Show, Run, Recode, Elf, Audit, Follow, Faulty, RefusesCore, command_in, names_of, written_name, Writes};
+ghost use Rattle.omi_top.specs.Command.{Stop, Make, Show, Run, Recode, Elf, Audit, Follow, Faulty, RefusesCore, command_in};
 ghost use Rattle.omi_top.specs.declared.plan.Plan.{Plan};
 ghost use Rattle.omi_top.specs.Asked.{asked, IsBounded};
-ghost use Rattle.omi_top.specs.Causes.{Concluded, Performed};
+ghost use Rattle.omi_top.specs.Apart.{KeptApart};
+ghost use Rattle.omi_frame.specs.Concluded.{Causes, Concluded, Leaves, Performed};
+ghost use Rattle.omi_frame.specs.Verb.{Writes};
+ghost use Rattle.omi_frame.specs.Refusal.{status_of};
 ghost use Rattle.omi_frame.specs.Seen.{files_seen, output_seen};
-ghost use Rattle.omi_frame.specs.Refusal.{HasRoom, status_of};
 ghost use Rattle.omi_frame.specs.declared.refusal.Refusal.{Refusal as Why};
 ghost use Rattle.omi_outside.specs.declared.status.Status.{Status as Ending};
-ghost use Rattle.omi_top.specs.Answer.{AreTold, Gives, IsFollowAnswer, IsFollowRefusal, IsApproved, IsStopped, IsLeft, IsUnwritten, ComesBehind, IsDoneOrFailed, IsReadBackStatus, IsReported, IsReportOf, IsRunShown, IsShown, IsWritingStatus};
+ghost use Rattle.omi_top.specs.Answer.{AreTold, IsFollowAnswer, IsFollowRefusal, IsApproved, IsStopped, IsUnwritten, ComesBehind, IsReadBackStatus, IsReported, IsReportOf, IsRunShown, IsShown, IsWritingStatus, verb_of};
+ghost use Rattle.omi_frame.specs.Verb.{Gives};
+ghost use Rattle.omi_frame.specs.Left.{IsLeft};
+ghost use Rattle.omi_frame.specs.Statuses.{IsDoneOrFailed};
 ghost use Rattle.omi_top.specs.Promise.{IsPromised};
-ghost use Rattle.omi_frame.specs.Said.{IsSaid, IsCounted};
 ghost use Rattle.omi_frame.specs.Statuses.{ComesWhere, IsOfCore};
 ghost use Rattle.omi_frame.specs.Scripts.{HoldsProgram};
 ghost use Rattle.omi_top.specs.Make.{IsMade, make_text};
@@ -48,7 +51,7 @@ use crate::recode::recode;
 use crate::run_and_show::run_and_show;
 use crate::show::show;
 use crate::stop::stop;
-use omi_frame::{Refusal, line_in, print, refuse, refuse_words, room_for};
+use omi_frame::{Refusal, end_with, line_in, refuse_words, room_for};
 use omi_outside::{Files, Sink, Status};
 use std::alloc::Global;
 
@@ -60,15 +63,16 @@ fn perform<F: Files, W: Files>(
     dest: &mut W,
 ) -> Result<Vec<u8>, Refusal>
     requires { IsBounded request }
-    ensures performed { Performed (asked request.entry) result
+    ensures performed { Performed (verb_of (asked request.entry)) result
         (files_seen (F.told files.old) (F.reads files.old) (F.writes files.old))
         (files_seen (F.told files.new) (F.reads files.new) (F.writes files.new))
         (files_seen (W.told dest.old) (W.reads dest.old) (W.writes dest.old))
         (files_seen (W.told dest.new) (W.reads dest.new) (W.writes dest.new)) }
-    ensures usage { IsErrOf result Refusal.Usage → asked request.entry ≡ Faulty }
-    ensures faulty { asked request.entry ≡ Faulty → IsErrOf result Refusal.Usage }
-    ensures of_core { IfErr result
-        (λ r. IsOfCore (status_of r) → RefusesCore (asked request.entry) (status_of r)) }
+    ensures apart { KeptApart
+        (files_seen (F.told files.old) (F.reads files.old) (F.writes files.old))
+        (files_seen (F.told files.new) (F.reads files.new) (F.writes files.new))
+        (files_seen (W.told dest.old) (W.reads dest.old) (W.writes dest.old))
+        (files_seen (W.told dest.new) (W.reads dest.new) (W.writes dest.new)) }
 {
     match request {
         Request::Stop { plan, script, core } => stop(alloc, plan, script, core, files, dest),
@@ -85,32 +89,6 @@ fn perform<F: Files, W: Files>(
     }
 }
 
-/// Does what a request asks for, and prints. The room is for the line of a refusal.
-fn carry_out_in<F: Files, W: Files, K: Sink>(
-    alloc: Global,
-    request: Request<'_>,
-    room: &mut String,
-    files: &mut F,
-    dest: &mut W,
-    out: &mut K,
-) -> Status
-    requires bounded { IsBounded request }
-    requires empty { string_bytes room.old ≡ [] }
-    requires enough { HasRoom (names_of (asked request)) (string_capacity room.old) }
-    ensures { Concluded (asked request.entry) result
-        (files_seen (F.told files.old) (F.reads files.old) (F.writes files.old))
-        (files_seen (F.told files.new) (F.reads files.new) (F.writes files.new))
-        (files_seen (W.told dest.old) (W.reads dest.old) (W.writes dest.old))
-        (files_seen (W.told dest.new) (W.reads dest.new) (W.writes dest.new))
-        (output_seen (K.told out.old) (K.faults out.old) (K.wants out.old))
-        (output_seen (K.told out.new) (K.faults out.new) (K.wants out.new)) }
-{
-    match perform(alloc, request, files, dest) {
-        Ok(text) => print(&text, out),
-        Err(refusal) => refuse(names_of(request), refusal, room, out),
-    }
-}
-
 /// Does what a request asks for, and prints. Room for the line of a refusal is taken first.
 fn carry_out<F: Files, W: Files, K: Sink>(
     alloc: Global,
@@ -120,26 +98,29 @@ fn carry_out<F: Files, W: Files, K: Sink>(
     out: &mut K,
 ) -> Status
     requires { IsBounded request }
-    ensures concluded { Concluded (asked request.entry) result
+    ensures concluded { Concluded (verb_of (asked request.entry)) result
         (files_seen (F.told files.old) (F.reads files.old) (F.writes files.old))
         (files_seen (F.told files.new) (F.reads files.new) (F.writes files.new))
         (files_seen (W.told dest.old) (W.reads dest.old) (W.writes dest.old))
         (files_seen (W.told dest.new) (W.reads dest.new) (W.writes dest.new))
         (output_seen (K.told out.old) (K.faults out.old) (K.wants out.old))
         (output_seen (K.told out.new) (K.faults out.new) (K.wants out.new)) }
+    ensures apart { KeptApart
+        (files_seen (F.told files.old) (F.reads files.old) (F.writes files.old))
+        (files_seen (F.told files.new) (F.reads files.new) (F.writes files.new))
+        (files_seen (W.told dest.old) (W.reads dest.old) (W.writes dest.old))
+        (files_seen (W.told dest.new) (W.reads dest.new) (W.writes dest.new)) }
     ensures faulty { asked request.entry ≡ Faulty → result ≡ Status.Usage }
-    ensures said { asked request.entry ≡ Faulty
-        → IsSaid (Some (codes "usage" ++ 10 ∷ []))
-        (IsCounted (K.faults out.old) (K.faults out.new) (K.wants out.old) (K.wants out.new))
-        (K.told out.old) (K.told out.new) }
 {
     if let Request::Faulty = request {
         return refuse_words(out);
     }
-    match room_for(alloc, names_of(request)) {
-        Ok(mut room) => carry_out_in(alloc, request, &mut room, files, dest, out),
-        Err(_) => Status::OutOfMemory,
-    }
+    let names = names_of(request);
+    let Ok(mut room) = room_for(alloc, names) else {
+        return Status::OutOfMemory;
+    };
+    let answer = perform(alloc, request, files, dest);
+    end_with(names, answer, &mut room, out)
 }
 
 /// All that the program does with the words behind its name: `stop STEPS SCRIPT CORE` runs the
@@ -161,23 +142,18 @@ pub fn run_top<F: Files, W: Files, K: Sink>(
     dest: &mut W,
     out: &mut K,
 ) -> Status
-    // The causes for which no bytes need be told. Where the words are refused, that line is put
-    // whole, or the sink counted why not. Memory ran out before anything was put, or the sink counted
-    // a put for which there was none.
+    // For what cause each fault comes, and where a core or the words may be refused.
+    ensures causes { Causes ⊤ result
+        (files_seen (F.told files.old) (F.reads files.old) (F.writes files.old))
+        (files_seen (F.told files.new) (F.reads files.new) (F.writes files.new))
+        (files_seen (W.told dest.old) (W.reads dest.old) (W.writes dest.old))
+        (files_seen (W.told dest.new) (W.reads dest.new) (W.writes dest.new))
+        (output_seen (K.told out.old) (K.faults out.old) (K.wants out.old))
+        (output_seen (K.told out.new) (K.faults out.new) (K.wants out.new)) }
     ensures of_core { IsOfCore result → RefusesCore (command_in words.now) result }
     ensures usage { result ≡ Status.Usage → command_in words.now ≡ Faulty }
     ensures faulty { command_in words.now ≡ Faulty
         → (result ≡ Status.Usage) ⊎ (result ≡ Status.OutOfMemory) }
-    ensures usage_line { result ≡ Status.Usage
-        → IsSaid (Some (codes "usage" ++ 10 ∷ []))
-        (IsCounted (K.faults out.old) (K.faults out.new) (K.wants out.old) (K.wants out.new))
-        (K.told out.old) (K.told out.new) }
-    ensures read_fault { result ≡ Status.ReadFault → Rose (F.reads files.old) (F.reads files.new) }
-    ensures write_fault { result ≡ Status.WriteFault
-        → Rose (W.writes dest.old) (W.writes dest.new)
-        ⊎ Rose (K.faults out.old) (K.faults out.new) }
-    ensures out_of_memory { result ≡ Status.OutOfMemory
-        → (K.told out.new ≡ K.told out.old) ⊎ Rose (K.wants out.old) (K.wants out.new) }
 
     // Where the script's file is told: there is none, or the grammar refuses it, exactly where the
     // status says so.
@@ -455,27 +431,24 @@ pub fn run_top<F: Files, W: Files, K: Sink>(
         → IsRunShown text plan bytes result (K.told out.old) (K.told out.new) }
 
     // What is left of the core and of the output with every status.
-    ensures left { let command = command_in words.now in
-        AreTold command (F.told files.old) → IsLeft command (F.told files.old) result
-        (W.told dest.old (written_name command)) (W.told dest.new (written_name command))
-        (IsCounted (K.faults out.old) (K.faults out.new) (K.wants out.old) (K.wants out.new))
-        (K.told out.old) (K.told out.new) }
+    ensures left { Leaves (verb_of (command_in words.now)) result
+        (files_seen (F.told files.old) (F.reads files.old) (F.writes files.old))
+        (files_seen (W.told dest.old) (W.reads dest.old) (W.writes dest.old))
+        (files_seen (W.told dest.new) (W.reads dest.new) (W.writes dest.new))
+        (output_seen (K.told out.old) (K.faults out.old) (K.wants out.old))
+        (output_seen (K.told out.new) (K.faults out.new) (K.wants out.new)) }
 
     // What stays, whatever is told: after a refusal all that may be written is as before, but for
-    // the core that `run` reads back.
+    // the core that `run` reads back; and `files` are read alone, and `dest` written alone.
     ensures unwritten { IsUnwritten (command_in words.now) result
         → W.told dest.new ≡ W.told dest.old }
-    ensures files_told { F.told files.new ≡ F.told files.old }
-    ensures others { (other : List ℕ) → (Writes (command_in words.now) other → ⊥)
+    ensures others { (other : List ℕ) → (Writes (verb_of (command_in words.now)) other → ⊥)
         → W.told dest.new other ≡ W.told dest.old other }
-
-    // No count falls, and those of writes to `files` and of reads from `dest` stay.
-    ensures reads { F.reads files.old ≤ F.reads files.new }
-    ensures writes { W.writes dest.old ≤ W.writes dest.new }
-    ensures faults { K.faults out.old ≤ K.faults out.new }
-    ensures wants { K.wants out.old ≤ K.wants out.new }
-    ensures files_writes { F.writes files.new ≡ F.writes files.old }
-    ensures dest_reads { W.reads dest.new ≡ W.reads dest.old }
+    ensures apart { KeptApart
+        (files_seen (F.told files.old) (F.reads files.old) (F.writes files.old))
+        (files_seen (F.told files.new) (F.reads files.new) (F.writes files.new))
+        (files_seen (W.told dest.old) (W.reads dest.old) (W.writes dest.old))
+        (files_seen (W.told dest.new) (W.reads dest.new) (W.writes dest.new)) }
 {
     match line_in(alloc, words) {
         Ok(line) => carry_out(alloc, request_of(&line), files, dest, out),

@@ -1,11 +1,22 @@
-use Rattle.std.proofs.Common.{◌++◌, ℕ, List, Ok, Err, arith, ap, subst, ◌∙◌}
+use Rattle.std.proofs.Common.{◌++◌, ℕ, List, Ok, Err, arith, ap, refl, subst, ◌∙◌}
+use Rattle.omi_frame.specs.Refusal.{status_of}
 use Rattle.std.proofs.lemmas.Result.{err_from_is_err_and}
 use Rattle.omi_outside.specs.Outside.{Told}
-use Rattle.omi_top.specs.Answer.{AreTold, IsAnswered}
+use Rattle.omi_top.specs.Answer.{AreTold, verb_of}
+use Rattle.omi_frame.specs.Left.{IsAnswered}
 use Rattle.omi_top.specs.Command.{Show}
-use Rattle.omi_top.proofs.RunAnswers.{no_memory, show_failed, shown_behind, shows_last}
+use Rattle.omi_top.proofs.RunAnswers.{no_memory, run_unwritten, show_failed, shown_behind, shows_last}
 use Rattle.omi_frame.proofs.Behind.{rose_later}
 use Rattle.omi_top.proofs.run_and_show.run_and_show.Goals as goal
+
+-- ---- the core is not written
+
+pub returns-in_err-text-clause-unwritten : goal.returns-in_err-text-clause-unwritten
+returns-in_err-text-clause-unwritten g c =
+    let p = err_from_is_err_and c.from_residual.result c.from_residual.ensures.1 in
+    rw (p.1, p.2) (λ is.
+    c.in_err-text.ensures.performed.unwritten (status_of c.in_err-text.field-0.0) refl
+    (run_unwritten c.args.plan c.args.script.now c.args.core.now (status_of c.in_err-text.field-0.0) is))
 
 -- ---- the core is written, and then its report is refused
 
@@ -16,9 +27,9 @@ returns-in_err-report-clause-answer g c =
     let stopped = c.in_ok-text.ensures.performed in
     rw (p.1, p.2)
     (λ ((text, told), (content, back)).
-    let shown : IsAnswered (Show c.args.core.now) (g.F.Files.told c.args.files.now) (Err c.in_err-report.field-0.0) before before =
+    let shown : IsAnswered (verb_of (Show c.args.core.now)) (g.F.Files.told c.args.files.now) (Err c.in_err-report.field-0.0) before before =
     subst
-    (λ (t : List ℕ → Told). AreTold (Show c.args.core.now) t → IsAnswered (Show c.args.core.now) t (Err c.in_err-report.field-0.0) before before) stopped.stays.files_told
+    (λ (t : List ℕ → Told). AreTold (Show c.args.core.now) t → IsAnswered (verb_of (Show c.args.core.now)) t (Err c.in_err-report.field-0.0) before before) c.in_ok-text.ensures.apart.files_told
     (c.in_err-report.ensures.answer before) (content, back) in
     show_failed c.args.plan c.args.script.now c.args.core.now
     (g.F.Files.told c.args.files.now) content back c.in_ok-text.text before
@@ -47,14 +58,13 @@ returns-in_err-report-clause-unwritten g c =
     rw (p.1, p.2)
     (λ is. absurd (shows_last c.args.plan c.args.script.now c.args.core.now c.in_err-report.field-0.0 c.in_err-report.ensures.usage c.in_err-report.ensures.script is))
 
-pub returns-in_err-report-clause-stays : goal.returns-in_err-report-clause-stays
-returns-in_err-report-clause-stays g c =
-    let stays = c.in_ok-text.ensures.performed.stays in
+pub returns-in_err-report-clause-apart : goal.returns-in_err-report-clause-apart
+returns-in_err-report-clause-apart g c =
+    let apart = c.in_ok-text.ensures.apart in
     record {
-      files_told = c.in_err-report.ensures.files_told ∙ stays.files_told;
-      files_writes = c.in_err-report.ensures.files_writes ∙ stays.files_writes;
-      dest_reads = stays.dest_reads;
-      others = stays.others;
+      files_told = c.in_err-report.ensures.files_told ∙ apart.files_told;
+      files_writes = c.in_err-report.ensures.files_writes ∙ apart.files_writes;
+      dest_reads = apart.dest_reads;
     }
 
 -- ---- or memory runs out
@@ -86,14 +96,13 @@ returns-in_err-extend_from_slice-clause-unwritten g c =
     let p = err_from_is_err_and c.from_residual-in_err-extend_from_slice.result c.from_residual-in_err-extend_from_slice.ensures.1 in
     rw (p.1, p.2) (λ is. absurd is)
 
-pub returns-in_err-extend_from_slice-clause-stays : goal.returns-in_err-extend_from_slice-clause-stays
-returns-in_err-extend_from_slice-clause-stays g c =
-    let stays = c.in_ok-text.ensures.performed.stays in
+pub returns-in_err-extend_from_slice-clause-apart : goal.returns-in_err-extend_from_slice-clause-apart
+returns-in_err-extend_from_slice-clause-apart g c =
+    let apart = c.in_ok-text.ensures.apart in
     record {
-      files_told = c.in_ok-report.ensures.files_told ∙ stays.files_told;
-      files_writes = c.in_ok-report.ensures.files_writes ∙ stays.files_writes;
-      dest_reads = stays.dest_reads;
-      others = stays.others;
+      files_told = c.in_ok-report.ensures.files_told ∙ apart.files_told;
+      files_writes = c.in_ok-report.ensures.files_writes ∙ apart.files_writes;
+      dest_reads = apart.dest_reads;
     }
 
 -- ---- or it stands behind the lines of the run
@@ -103,9 +112,9 @@ returns-clause-answer g c =
     let before : Told = g.W.Files.told c.args.dest.now c.args.core.now in
     let stopped = c.in_ok-text.ensures.performed in
     λ ((text, told), (content, back)).
-    let shown : IsAnswered (Show c.args.core.now) (g.F.Files.told c.args.files.now) (Ok c.in_ok-report.report) before before =
+    let shown : IsAnswered (verb_of (Show c.args.core.now)) (g.F.Files.told c.args.files.now) (Ok c.in_ok-report.report) before before =
     subst
-    (λ (t : List ℕ → Told). AreTold (Show c.args.core.now) t → IsAnswered (Show c.args.core.now) t (Ok c.in_ok-report.report) before before) stopped.stays.files_told
+    (λ (t : List ℕ → Told). AreTold (Show c.args.core.now) t → IsAnswered (verb_of (Show c.args.core.now)) t (Ok c.in_ok-report.report) before before) c.in_ok-text.ensures.apart.files_told
     (c.in_ok-report.ensures.answer before) (content, back) in
     shown_behind c.args.plan c.args.script.now c.args.core.now
     (g.F.Files.told c.args.files.now) content back c.in_ok-text.text before
@@ -120,12 +129,11 @@ returns-clause-read g c = record { later = omega (arith, c.in_ok-text.ensures.pe
 pub returns-clause-write : goal.returns-clause-write
 returns-clause-write g c = record { later = c.in_ok-text.ensures.performed.write.later; failed = λ is. absurd (cc) }
 
-pub returns-clause-stays : goal.returns-clause-stays
-returns-clause-stays g c =
-    let stays = c.in_ok-text.ensures.performed.stays in
+pub returns-clause-apart : goal.returns-clause-apart
+returns-clause-apart g c =
+    let apart = c.in_ok-text.ensures.apart in
     record {
-      files_told = c.in_ok-report.ensures.files_told ∙ stays.files_told;
-      files_writes = c.in_ok-report.ensures.files_writes ∙ stays.files_writes;
-      dest_reads = stays.dest_reads;
-      others = stays.others;
+      files_told = c.in_ok-report.ensures.files_told ∙ apart.files_told;
+      files_writes = c.in_ok-report.ensures.files_writes ∙ apart.files_writes;
+      dest_reads = apart.dest_reads;
     }

@@ -4,10 +4,13 @@ use Rattle.omi_top.specs.declared.plan.Plan.{Plan}
 use Rattle.omi_outside.specs.declared.status.Status.TheVariants as status
 use Rattle.omi_frame.specs.Statuses.{IsOfCore}
 use Rattle.omi_top.specs.Asked.{asked}
-use Rattle.omi_top.specs.Answer.{AreTold, IsLeft, IsUnwritten}
-use Rattle.omi_frame.specs.Said.{IsCounted}
-use Rattle.omi_top.specs.Command.{Command, Stop, Make, Show, Run, Recode, Elf, Audit, Follow, Faulty, RefusesCore, Writes, command_by, command_in, written_name}
-use Rattle.omi_top.proofs.Left.{left_by}
+use Rattle.omi_top.specs.Answer.{IsUnwritten, verb_of}
+use Rattle.omi_frame.specs.Left.{IsLeft}
+use Rattle.omi_top.specs.Command.{Command, Stop, Make, Show, Run, Recode, Elf, Audit, Follow, Faulty, RefusesCore, command_by, command_in}
+use Rattle.omi_frame.specs.Concluded.{HasCounted, Leaves}
+use Rattle.omi_frame.specs.Seen.{SeenFiles, SeenOutput, files_seen, output_seen}
+use Rattle.omi_frame.specs.Verb.{Writes, written_name}
+use Rattle.omi_frame.proofs.Commands.{leaves_as}
 use Rattle.omi_top.proofs.LeftByShow.{no_file as no_core, core_refused, incompatible, damaged, put_report as put_shown, report_put, shown, shows, shown_again, shown_reached}
 use Rattle.omi_top.proofs.LeftByRun.{core_refused as run_core_refused, damaged as run_damaged, incompatible as run_incompatible, no_file as run_no_file, put_report, runs, script_refused as run_script_refused, shown as run_shown, wrote}
 use Rattle.omi_top.proofs.LeftByMake.{success as made, writing}
@@ -23,28 +26,32 @@ use Rattle.omi_top.proofs.top.run_top.Given as given
 use Rattle.omi_top.proofs.top.run_top.Goals as goal
 use Rattle.omi_top.proofs.top.run_top.Goals.{Joined-line}
 
--- the sink counted why a line isn't put
-abbrev counted : (g : given.Over) (c : Joined-line g) → Type 0
-counted g c =
-    IsCounted (g.K.Sink.faults c.args.out.now) (g.K.Sink.faults c.carry_out.new.out)
-    (g.K.Sink.wants c.args.out.now) (g.K.Sink.wants c.carry_out.new.out)
-
 -- the request is the words' command
 asked_is : (g : given.Over) (c : Joined-line g) → asked c.request_of.result ≡ command_in c.args.words.now
 asked_is g c = c.request_of.ensures.asked ∙ ap command_by c.in-Ok.ensures.line
 
+-- what is seen before the call and behind it
+abbrev seen_files : (g : given.Over) → Joined-line g → SeenFiles
+seen_files g c = files_seen (g.F.Files.told c.args.files.now) (g.F.Files.reads c.args.files.now) (g.F.Files.writes c.args.files.now)
+
+abbrev dest : (g : given.Over) → Joined-line g → SeenFiles
+dest g c = files_seen (g.W.Files.told c.args.dest.now) (g.W.Files.reads c.args.dest.now) (g.W.Files.writes c.args.dest.now)
+
+abbrev dest_now : (g : given.Over) → Joined-line g → SeenFiles
+dest_now g c = files_seen (g.W.Files.told c.carry_out.new.dest) (g.W.Files.reads c.carry_out.new.dest) (g.W.Files.writes c.carry_out.new.dest)
+
+abbrev out : (g : given.Over) → Joined-line g → SeenOutput
+out g c = output_seen (g.K.Sink.told c.args.out.now) (g.K.Sink.faults c.args.out.now) (g.K.Sink.wants c.args.out.now)
+
+abbrev out_now : (g : given.Over) → Joined-line g → SeenOutput
+out_now g c = output_seen (g.K.Sink.told c.carry_out.new.out) (g.K.Sink.faults c.carry_out.new.out) (g.K.Sink.wants c.carry_out.new.out)
+
 -- what the call leaves, by its command
 left_of : (g : given.Over) (c : Joined-line g) (command : Command) → asked c.request_of.result ≡ command
-    → AreTold command (g.F.Files.told c.args.files.now)
-    → IsLeft command (g.F.Files.told c.args.files.now) c.carry_out.result
-    (g.W.Files.told c.args.dest.now (written_name command))
-    (g.W.Files.told c.carry_out.new.dest (written_name command)) (counted g c) (g.K.Sink.told c.args.out.now)
-    (g.K.Sink.told c.carry_out.new.out)
+    → Leaves (verb_of command) c.carry_out.result (seen_files g c) (dest g c) (dest_now g c) (out g c) (out_now g c)
 left_of g c command is =
-    left_by (asked c.request_of.result) command c.carry_out.result (g.F.Files.told c.args.files.now)
-    (g.W.Files.told c.args.dest.now) (g.W.Files.told c.carry_out.new.dest) (counted g c)
-    (g.K.Sink.told c.args.out.now) (g.K.Sink.told c.carry_out.new.out)
-    is c.carry_out.ensures.concluded.left
+    leaves_as verb_of c.carry_out.result (seen_files g c) (dest g c) (dest_now g c) (out g c) (out_now g c)
+    (asked c.request_of.result) command is c.carry_out.ensures.concluded.left
 
 -- ---- of each command, where the contents of its files are told
 
@@ -52,50 +59,49 @@ abbrev files : (g : given.Over) → Joined-line g → List ℕ → Told
 files g c = g.F.Files.told c.args.files.now
 
 -- the command leaves this of the file that it writes, and this is put
-abbrev Leaves : (g : given.Over) → Joined-line g → Command → Type 0
-Leaves g c command =
-    IsLeft command (files g c) c.carry_out.result (g.W.Files.told c.args.dest.now (written_name command))
-    (g.W.Files.told c.carry_out.new.dest (written_name command)) (counted g c) (g.K.Sink.told c.args.out.now)
-    (g.K.Sink.told c.carry_out.new.out)
+abbrev IsLeftBy : (g : given.Over) → Joined-line g → Command → Type 0
+IsLeftBy g c command =
+    IsLeft (verb_of command) (files g c) c.carry_out.result ((dest g c).told (written_name (verb_of command)))
+    ((dest_now g c).told (written_name (verb_of command))) (HasCounted (out g c) (out_now g c)) (out g c).told (out_now g c).told
 
 of_stop : (g : given.Over) (c : Joined-line g) (plan : Plan) (script core : List ℕ) (content : Option (List ℕ))
     → command_in c.args.words.now ≡ Stop plan script core → files g c script ≡ Some content
-    → Leaves g c (Stop plan script core)
+    → IsLeftBy g c (Stop plan script core)
 of_stop g c plan script core content command told =
     left_of g c (Stop plan script core) (asked_is g c ∙ command) (content, told)
 
 of_make : (g : given.Over) (c : Joined-line g) (n : ℕ) (name : List ℕ)
-    → command_in c.args.words.now ≡ Make n name → Leaves g c (Make n name)
+    → command_in c.args.words.now ≡ Make n name → IsLeftBy g c (Make n name)
 of_make g c n name command = left_of g c (Make n name) (asked_is g c ∙ command) tt
 
 of_show : (g : given.Over) (c : Joined-line g) (core : List ℕ) (content : Option (List ℕ))
-    → command_in c.args.words.now ≡ Show core → files g c core ≡ Some content → Leaves g c (Show core)
+    → command_in c.args.words.now ≡ Show core → files g c core ≡ Some content → IsLeftBy g c (Show core)
 of_show g c core content command told = left_of g c (Show core) (asked_is g c ∙ command) (content, told)
 
 of_run : (g : given.Over) (c : Joined-line g) (plan : Plan) (script core : List ℕ)
     (text content : Option (List ℕ)) → command_in c.args.words.now ≡ Run plan script core
-    → files g c script ≡ Some text → files g c core ≡ Some content → Leaves g c (Run plan script core)
+    → files g c script ≡ Some text → files g c core ≡ Some content → IsLeftBy g c (Run plan script core)
 of_run g c plan script core text content command told back =
     left_of g c (Run plan script core) (asked_is g c ∙ command) ((text, told), (content, back))
 
 of_recode : (g : given.Over) (c : Joined-line g) (order : ℕ) (core copy : List ℕ) (content : Option (List ℕ))
     → command_in c.args.words.now ≡ Recode order core copy → files g c core ≡ Some content
-    → Leaves g c (Recode order core copy)
+    → IsLeftBy g c (Recode order core copy)
 of_recode g c order core copy content command told =
     left_of g c (Recode order core copy) (asked_is g c ∙ command) (content, told)
 
 of_elf : (g : given.Over) (c : Joined-line g) (core copy : List ℕ) (content : Option (List ℕ))
-    → command_in c.args.words.now ≡ Elf core copy → files g c core ≡ Some content → Leaves g c (Elf core copy)
+    → command_in c.args.words.now ≡ Elf core copy → files g c core ≡ Some content → IsLeftBy g c (Elf core copy)
 of_elf g c core copy content command told =
     left_of g c (Elf core copy) (asked_is g c ∙ command) (content, told)
 
 of_audit : (g : given.Over) (c : Joined-line g) (core : List ℕ) (content : Option (List ℕ))
-    → command_in c.args.words.now ≡ Audit core → files g c core ≡ Some content → Leaves g c (Audit core)
+    → command_in c.args.words.now ≡ Audit core → files g c core ≡ Some content → IsLeftBy g c (Audit core)
 of_audit g c core content command told = left_of g c (Audit core) (asked_is g c ∙ command) (content, told)
 
 of_follow : (g : given.Over) (c : Joined-line g) (core later : List ℕ) (content others : Option (List ℕ))
     → command_in c.args.words.now ≡ Follow core later → files g c core ≡ Some content
-    → files g c later ≡ Some others → Leaves g c (Follow core later)
+    → files g c later ≡ Some others → IsLeftBy g c (Follow core later)
 of_follow g c core later content others command told also =
     left_of g c (Follow core later) (asked_is g c ∙ command) ((content, told), (others, also))
 
@@ -366,4 +372,4 @@ returns-in-Ok-clause-unwritten g c =
 pub returns-in-Ok-clause-others : goal.returns-in-Ok-clause-others
 returns-in-Ok-clause-others g c =
     of_words g c
-    (λ k. (other : List ℕ) → (Writes k other → ⊥) → g.W.Files.told c.carry_out.new.dest other ≡ g.W.Files.told c.args.dest.now other) c.carry_out.ensures.concluded.stays.others
+    (λ k. (other : List ℕ) → (Writes (verb_of k) other → ⊥) → g.W.Files.told c.carry_out.new.dest other ≡ g.W.Files.told c.args.dest.now other) c.carry_out.ensures.concluded.others
