@@ -25,8 +25,14 @@ union data_word {
   } ticket;
   struct {
     uint64_t holds : 2, state : 16;
+    uint64_t thread : 8; /* the index plus 1 of the one that runs it, or 0 where that has no record */
   } passed;
 };
+
+static inline union data_word word_of(const ompt_data_t *data)
+{
+  return (union data_word){.value = data ? data->value : 0};
+}
 
 /* threads.c */
 void on_thread_begin(ompt_thread_t type, ompt_data_t *data);
@@ -49,6 +55,30 @@ void begin_initial_task(struct thread *me);
 void on_task_create(ompt_data_t *maker_data, const ompt_frame_t *frame, ompt_data_t *data, int flags,
                     int has_dependences, const void *code);
 void on_task_schedule(ompt_data_t *prior_data, ompt_task_status_t status, ompt_data_t *next_data);
+
+/* libomp tells the end of an untied task by the last thread that comes back from one of its parts. Where the thread that
+ * ran the last part comes back earlier, it leaves the task without a callback, and goes on with others. So the task is
+ * taken off that thread by whichever comes first: the thread at its next callback, or the one that tells the end. Both
+ * do it by one exchange of the thread's current task and state, and the record is given back behind both.
+ *
+ * This is the thread's half: `before` and `after` are the tasks that it ran when it made a callback, and runs behind it. */
+void take_off_left(struct thread *me, union data_word before, union data_word after);
+
+/* The calling thread where it is shown, or NULL: in a callback that tells the task which runs there, and in one that
+ * doesn't. */
+static inline struct thread *thread_of(const ompt_data_t *running)
+{
+  struct thread *me = shown_thread();
+  if (me && me->resumes)
+    take_off_left(me, word_of(running), word_of(running));
+  return me;
+}
+
+static inline struct thread *thread_of_call(void)
+{
+  struct thread *me = shown_thread();
+  return me && me->resumes ? thread_of(data_of_running()) : me;
+}
 
 /* waits.c */
 void on_sync_region(ompt_sync_region_t kind, ompt_scope_endpoint_t endpoint, ompt_data_t *region_data,

@@ -64,6 +64,19 @@ bool checked_swap(word_t *at, uint64_t expected, uint64_t value)
   return stored;
 }
 
+bool checked_swap_pair(word_t *at, const uint64_t expected[2], const uint64_t value[2])
+{
+  pthread_mutex_lock(&alone);
+  bool stored = atomic_load(at) == expected[0] && atomic_load(at + 1) == expected[1];
+  if (stored) {
+    atomic_store(at, value[0]);
+    atomic_store(at + 1, value[1]);
+    judge(__builtin_return_address(0));
+  }
+  pthread_mutex_unlock(&alone);
+  return stored;
+}
+
 static void take_lock(void)
 {
   pthread_mutex_lock(&alone);

@@ -181,16 +181,33 @@ void store_active_levels(void)
     store(arenas.runtime + RT_MAXACT, levels);
 }
 
+/* What the runtime tells of the task that runs. */
+struct running {
+  ompt_data_t *data;
+  ompt_frame_t *frame;
+};
+
+static struct running ask_task_info(void)
+{
+  int flags, number;
+  ompt_data_t *region_data;
+  struct running told = {NULL, NULL};
+  bool answers =
+    runtime.task_info && runtime.task_info(0, &flags, &told.data, &told.frame, &region_data, &number) == 2;
+  return answers ? told : (struct running){NULL, NULL};
+}
+
+const ompt_data_t *data_of_running(void)
+{
+  return ask_task_info().data;
+}
+
 /* The frames of the task that runs, or NULL where the runtime doesn't tell. */
 static const ompt_frame_t *frame_of(word_t *task)
 {
   struct task_notes *notes = notes_of_task(task);
-  int flags, number;
-  ompt_data_t *task_data, *region_data;
-  ompt_frame_t *frame = NULL;
-  if (!notes->frame && runtime.task_info
-      && runtime.task_info(0, &flags, &task_data, &frame, &region_data, &number) == 2)
-    notes->frame = frame;
+  if (!notes->frame)
+    notes->frame = ask_task_info().frame;
   return notes->frame;
 }
 

@@ -48,6 +48,9 @@ void change_variables(word_t *task, int threads);
 /* max-active-levels-var is one of the address space in the words, and one of each task in libomp. */
 void store_active_levels(void);
 
+/* OMPT's word of the task that runs, or NULL where the runtime doesn't tell. */
+const ompt_data_t *data_of_running(void);
+
 /* Whether OMI_FRAMES is set, and the runtime is asked for the exit frame of each task as it starts. Else that is 0
  * until the task comes into the runtime. */
 extern bool frames_wanted;

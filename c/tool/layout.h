@@ -23,7 +23,9 @@ enum { MOST_SIZES = 4, MOST_GROUPS = 4 };
 
 enum { RT_VERSION, RT_THREADS, RT_PROCS, RT_DEBUG, RT_MAXACT, RT_LOCKS, RUNTIME_WORDS = 16 };
 
+/* The current task and the state are one pair of words. */
 enum { TH_LIFE, TH_NATIVE, TH_CUR, TH_STATE, TH_CLAIM, TH_ASSIGN, THREAD_WORDS = LINE_WORDS };
+_Static_assert(TH_CUR % 2 == 0 && TH_STATE == TH_CUR + 1 && THREAD_WORDS % 2 == 0 && RUNTIME_WORDS % 2 == 0, "a pair");
 
 enum {
   RG_LIFE, RG_FUNC, RG_ENCLOSING, RG_ENCOUNTER, RG_SIZE, RG_LEVELS, RG_ACTIVE,

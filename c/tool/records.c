@@ -29,6 +29,7 @@ bool take_thread(void)
     thread->index = index;
     thread->forked = NULL;
     thread->passed_regions = thread->passed_tasks = 0;
+    thread->resumes = false;
     self = thread;
     return true;
   }

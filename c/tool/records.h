@@ -20,8 +20,10 @@ struct task_notes {
   _Atomic unsigned changes; /* calls that set a control variable of it, seen by setters.c */
   bool suspended; /* it waits to be resumed */
   bool detached; /* its code has ended, and its event was not fulfilled */
+  _Atomic bool resumed; /* it was suspended before: see `take_off_left` */
+  _Atomic unsigned users; /* of a resumed one: the runtime, which is to tell its end, and the thread that it lies on */
   const ompt_frame_t *frame; /* where the runtime keeps the task's frames, once it has told that */
-  uint64_t state_below; /* that of its thread, where it was started or resumed */
+  _Atomic uint64_t below, state_below; /* the task that its thread had, and its state, where it was started or resumed */
   uint64_t state_of_work; /* that of its thread while the task's own code runs */
 };
 
@@ -48,6 +50,7 @@ struct thread {
   struct pool tasks, regions;
   word_t *forked; /* the last region that it forked and which has not ended */
   unsigned passed_regions, passed_tasks; /* those in front of the first that has a record */
+  bool resumes; /* it has resumed a task */
   _Atomic bool taken;
 };
 
@@ -67,6 +70,12 @@ void give_back_thread(void);
 static inline word_t *current_task(const struct thread *me)
 {
   return record_at(load(me->record + TH_CUR));
+}
+
+/* A thread's current task and its state. */
+static inline union pair shown_by(word_t *thread)
+{
+  return (union pair){{load(thread + TH_CUR), load(thread + TH_STATE)}};
 }
 
 enum { MOST_TASKS = CORE_WORDS / TASK_WORDS };

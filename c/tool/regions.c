@@ -70,9 +70,8 @@ static word_t *fork_region(struct thread *me, word_t *maker, unsigned requested,
 void on_parallel_begin(ompt_data_t *task_data, const ompt_frame_t *frame, ompt_data_t *region_data,
                        unsigned requested, int flags, const void *code)
 {
-  (void)task_data;
   union data_word passed = {.passed = {.holds = A_STATE}};
-  struct thread *me = shown_thread();
+  struct thread *me = thread_of(task_data);
   region_data->value = passed.value;
   if (!me)
     return;
@@ -92,6 +91,12 @@ void on_parallel_begin(ompt_data_t *task_data, const ompt_frame_t *frame, ompt_d
     ++*regions_passed(me);
 }
 
+static bool waits_for_the_end(uint64_t state)
+{
+  return state == state_code(ompt_state_wait_barrier_implicit_parallel, 0)
+    || state == state_code(ompt_state_wait_barrier_teams, 0);
+}
+
 /* Ends the tasks of the workers, who wait for their next region: libomp calls back for the end of a worker's
  * task only when it wakes the worker, and until then the worker would be shown in a region that is over. Each
  * worker has arrived at the barrier; where it ends its task itself at this moment, one of the two does it. */
@@ -100,12 +105,11 @@ static void end_workers(word_t *region)
   for (uint64_t member = 1; member < load(region + RG_SIZE); member++) {
     word_t *task = record_at(load(region + RG_TEAM + member));
     word_t *thread = record_at(load(task + TK_THREAD));
-    uint64_t state = load(thread + TH_STATE);
-    if (load(thread + TH_CUR) != address_of(task) || !swap(thread + TH_CUR, address_of(task), 0))
-      continue;
-    if (state == state_code(ompt_state_wait_barrier_implicit_parallel, 0)
-        || state == state_code(ompt_state_wait_barrier_teams, 0))
-      swap(thread + TH_STATE, state, state_code(ompt_state_idle, 0));
+    union pair shown, left;
+    do {
+      shown = shown_by(thread);
+      left = (union pair){{0, waits_for_the_end(shown.words[1]) ? state_code(ompt_state_idle, 0) : shown.words[1]}};
+    } while (shown.words[0] == address_of(task) && !swap_pair(thread + TH_CUR, shown, left));
   }
 }
 
@@ -213,8 +217,7 @@ static void end_implicit_task(struct thread *me)
 void on_implicit_task(ompt_scope_endpoint_t endpoint, ompt_data_t *region_data, ompt_data_t *task_data,
                       unsigned size, unsigned number, int flags)
 {
-  (void)task_data;
-  struct thread *me = shown_thread();
+  struct thread *me = endpoint == ompt_scope_end ? thread_of(task_data) : shown_thread();
   if (!me)
     return;
   bool is_initial = flags & ompt_task_initial && number >= size;

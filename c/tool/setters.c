@@ -3,8 +3,8 @@
 #define _GNU_SOURCE
 #include <dlfcn.h>
 
+#include "callbacks.h"
 #include "debugger.h"
-#include "inquiries.h"
 #include "setters.h"
 
 /* The call of this name that the caller would have come to without this library. */
@@ -25,7 +25,7 @@ static void *next_call(const char *name, const void *caller)
 /* The words of the task that has set a variable. */
 static void show_variables(int threads)
 {
-  struct thread *me = shown_thread();
+  struct thread *me = thread_of_call();
   word_t *task = me ? running_task(me) : NULL;
   if (task)
     change_variables(task, threads);

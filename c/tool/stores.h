@@ -30,6 +30,12 @@ static inline void store(word_t *at, uint64_t value)
 #endif
 }
 
+/* Two words side by side, of which the first stands at an even place. */
+union pair {
+  uint64_t words[2];
+  unsigned __int128 both;
+};
+
 /* Stores `value` where `expected` stands. Whether it did. */
 static inline bool swap(word_t *at, uint64_t expected, uint64_t value)
 {
@@ -38,6 +44,17 @@ static inline bool swap(word_t *at, uint64_t expected, uint64_t value)
 #else
   return atomic_compare_exchange_strong_explicit(
     at, &expected, value, memory_order_acq_rel, memory_order_acquire);
+#endif
+}
+
+/* The same of two words, by one store of 128 bits. */
+static inline bool swap_pair(word_t *at, union pair expected, union pair value)
+{
+#ifdef OMI_CHECK
+  return checked_swap_pair(at, expected.words, value.words);
+#else
+  typedef unsigned __int128 words_t __attribute__((may_alias));
+  return __sync_bool_compare_and_swap((words_t *)at, expected.both, value.both);
 #endif
 }
 

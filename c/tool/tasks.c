@@ -2,11 +2,6 @@
 #include "callbacks.h"
 #include "debugger.h"
 
-static union data_word word_of(const ompt_data_t *data)
-{
-  return (union data_word){.value = data ? data->value : 0};
-}
-
 static enum holds holds(union data_word word)
 {
   return (enum holds)word.ticket.holds;
@@ -26,8 +21,8 @@ static void hold_nothing(ompt_data_t *data)
 void on_task_create(ompt_data_t *maker_data, const ompt_frame_t *frame, ompt_data_t *data, int flags,
                     int has_dependences, const void *code)
 {
-  (void)maker_data, (void)has_dependences;
-  struct thread *me = shown_thread();
+  (void)has_dependences;
+  struct thread *me = thread_of(maker_data);
   if (flags & ompt_task_taskwait) {
     if (me)
       begin_wait(me, ompt_state_wait_taskwait); /* a taskwait with dependences */
@@ -61,18 +56,39 @@ static void put_on(struct thread *me, word_t *task)
   store(task + TK_NUMBER, below ? load(below + TK_NUMBER) : 0);
   store(task + TK_THREAD, address_of(me->record));
   store(task + TK_SCHEDULING, address_of(below));
-  notes->state_below = load(me->record + TH_STATE);
-  notes->suspended = false;
+  atomic_store_explicit(&notes->below, address_of(below), memory_order_relaxed);
+  atomic_store_explicit(&notes->state_below, load(me->record + TH_STATE), memory_order_relaxed);
   store(me->record + TH_CUR, address_of(task));
   enter_state(me, notes->state_of_work, 0);
   ompd_bp_task_begin();
+}
+
+/* A task is resumed by a thread, which has a record or not. */
+static void resume(struct thread *me, word_t *task)
+{
+  struct task_notes *notes = notes_of_task(task);
+  notes->suspended = false;
+  atomic_store_explicit(&notes->resumed, true, memory_order_relaxed);
+  atomic_store_explicit(&notes->users, me ? 2 : 1, memory_order_relaxed);
+  if (me)
+    put_on(me, task);
+}
+
+/* One of the two is done with it. */
+static void drop_task(struct thread *me, word_t *task)
+{
+  struct task_notes *notes = notes_of_task(task);
+  if (!atomic_load_explicit(&notes->resumed, memory_order_relaxed)
+      || atomic_fetch_sub_explicit(&notes->users, 1, memory_order_acq_rel) == 1)
+    release_task(me, task);
 }
 
 /* A task without a record stands on the thread's current one, which is shown instead; but the state is true. */
 static void pass_over(struct thread *me, ompt_data_t *data)
 {
   uint64_t state = load(me->record + TH_STATE);
-  data->value = (union data_word){.passed = {.holds = A_STATE, .state = (uint16_t)state}}.value;
+  data->value = (union data_word){.passed = {.holds = A_STATE, .state = (uint16_t)state,
+                                             .thread = (uint8_t)(me->index + 1)}}.value;
   ++*tasks_passed(me);
   enter_work(me);
 }
@@ -119,34 +135,96 @@ static void start_unshown(ompt_data_t *data, union data_word word)
   if (holds(word) == A_TICKET)
     release_maker(NULL, task_at(word.ticket.maker));
   if (record_of(word))
-    notes_of_task(record_of(word))->suspended = false;
+    resume(NULL, record_of(word));
   else
     data->value = (union data_word){.passed = {.holds = A_STATE}}.value;
 }
 
 static void start_or_resume(struct thread *me, ompt_data_t *data, union data_word word)
 {
-  if (!me)
+  if (!me) {
     start_unshown(data, word);
-  else if (holds(word) == A_TICKET)
+    return;
+  }
+  if (holds(word) == A_TICKET) {
     start_task(me, data, word);
-  else if (record_of(word))
-    put_on(me, record_of(word));
+    return;
+  }
+  me->resumes = true;
+  if (record_of(word))
+    resume(me, record_of(word));
   else
     pass_over(me, data);
 }
 
-/* The thread goes back to the task below. The word `scheduling` of the one that was left is cleared at once: the
- * task below may end before it. */
+/* The thread goes back to the task below. */
 static void take_off(struct thread *me, word_t *task)
 {
   struct task_notes *notes = notes_of_task(task);
-  word_t *below = record_at(load(task + TK_SCHEDULING));
+  word_t *below = record_at(atomic_load_explicit(&notes->below, memory_order_relaxed));
+  uint64_t state = atomic_load_explicit(&notes->state_below, memory_order_relaxed);
   store(me->record + TH_CUR, address_of(below));
-  store(me->record + TH_STATE, notes->state_below);
-  store(task + TK_SCHEDULING, 0);
-  if (below && notes->state_below == state_code(notes_of_task(below)->state_of_work, 0))
+  store(me->record + TH_STATE, state);
+  store(task + TK_SCHEDULING, 0); /* at once: the task below may end before this one */
+  if (below && state == state_code(notes_of_task(below)->state_of_work, 0))
     leave_runtime(below);
+  if (atomic_load_explicit(&notes->resumed, memory_order_relaxed))
+    atomic_fetch_sub_explicit(&notes->users, 1, memory_order_relaxed);
+}
+
+/* Shows a thread on the task below this one, where it is shown on this one. Of two threads that do this one succeeds. */
+static bool swap_off(word_t *thread, word_t *task)
+{
+  struct task_notes *notes = notes_of_task(task);
+  union pair left = {{atomic_load_explicit(&notes->below, memory_order_relaxed),
+                      atomic_load_explicit(&notes->state_below, memory_order_relaxed)}};
+  union pair shown = shown_by(thread);
+  while (shown.words[0] == address_of(task)) {
+    if (swap_pair(thread + TH_CUR, shown, left))
+      return true;
+    shown = shown_by(thread);
+  }
+  return false;
+}
+
+/* The task has left the thread that ran it last. Once that is shown, the task below may end: so its address is cleared
+ * before. */
+static void take_off_another(struct thread *me, word_t *task)
+{
+  store(task + TK_SCHEDULING, 0);
+  if (swap_off(record_at(load(task + TK_THREAD)), task))
+    drop_task(me, task);
+}
+
+/* Whether the word is that of the task that lies on this thread above all others: its current one, or one without a
+ * record on that. */
+static bool lies_on_top(struct thread *me, union data_word word)
+{
+  if (holds(word) == A_STATE)
+    return word.passed.thread == me->index + 1;
+  return !word.value || record_of(word) == current_task(me);
+}
+
+/* Whether the current task is the one that runs, so that none without a record stands on it. */
+static bool is_the_current(struct thread *me, word_t *task, union data_word running)
+{
+  return load(task + TK_IMPLICIT) ? !running.value && !*regions_passed(me) : record_of(running) == task;
+}
+
+void take_off_left(struct thread *me, union data_word before, union data_word after)
+{
+  word_t *task = running_task(me);
+  while (task && atomic_load_explicit(&notes_of_task(task)->resumed, memory_order_relaxed)
+         && task != record_of(before) && task != record_of(after)) {
+    if (swap_off(me->record, task)) {
+      store(task + TK_SCHEDULING, 0);
+      drop_task(me, task);
+    }
+    task = running_task(me);
+  }
+  task = current_task(me);
+  if (task && is_the_current(me, task, lies_on_top(me, before) ? before : after))
+    notes_of_task(task)->passed = 0;
 }
 
 /* The task without a record that stands on the current one is left. */
@@ -167,11 +245,24 @@ static word_t *running_explicit(struct thread *me, union data_word word)
   return task && !load(task + TK_IMPLICIT) ? task : NULL;
 }
 
+/* Whether another thread than this one ran the last part of the task. */
+static bool ran_elsewhere(struct thread *me, union data_word word)
+{
+  word_t *task = record_of(word);
+  if (holds(word) == A_STATE)
+    return word.passed.thread != (me ? me->index + 1 : 0);
+  return task && atomic_load_explicit(&notes_of_task(task)->resumed, memory_order_relaxed)
+    && !(me && running_task(me) == task);
+}
+
 /* The task that runs is suspended, or its code has ended but not the task (ompt_task_detach). */
 static void leave_task(struct thread *me, ompt_data_t *data, union data_word word, ompt_task_status_t status)
 {
   word_t *task = running_explicit(me, word);
-  if (task) {
+  if (status == ompt_task_detach && record_of(word) && ran_elsewhere(me, word)) {
+    take_off_another(me, record_of(word));
+    notes_of_task(record_of(word))->detached = true;
+  } else if (task) {
     if (me)
       take_off(me, task);
     notes_of_task(task)->detached = status == ompt_task_detach;
@@ -196,7 +287,18 @@ static void end_running_task(struct thread *me, ompt_data_t *data, union data_wo
   if (record_of(word) == task || holds(word) == A_STATE)
     hold_nothing(data);
   if (task)
-    release_task(me, task);
+    drop_task(me, task);
+}
+
+/* The task has ended, of which another thread ran the last part. */
+static void end_elsewhere(struct thread *me, ompt_data_t *data, word_t *task)
+{
+  if (task) {
+    ompd_bp_task_end();
+    take_off_another(me, task);
+    drop_task(me, task);
+  }
+  hold_nothing(data);
 }
 
 /* A task has ended: the one that runs, or one that was cancelled before it started or while it was suspended. */
@@ -209,7 +311,9 @@ static void end_task(struct thread *me, ompt_data_t *data, union data_word word)
   } else if (task && notes_of_task(task)->suspended) {
     release_task(me, task);
     hold_nothing(data);
-  } else if (holds(word) != NOTHING)
+  } else if (ran_elsewhere(me, word))
+    end_elsewhere(me, data, task);
+  else if (holds(word) != NOTHING)
     end_running_task(me, data, word);
 }
 
@@ -218,7 +322,7 @@ static void end_detached(struct thread *me, ompt_data_t *data, word_t *task)
 {
   if (!task || !notes_of_task(task)->detached)
     return;
-  release_task(me, task);
+  drop_task(me, task);
   hold_nothing(data);
 }
 
@@ -237,9 +341,14 @@ void on_task_schedule(ompt_data_t *prior_data, ompt_task_status_t status, ompt_d
   struct thread *me = self;
   union data_word prior = word_of(prior_data), next = word_of(next_data);
   if (status == ompt_taskwait_complete) {
+    me = thread_of_call();
     if (me)
       end_wait(me);
-  } else if (!next_data)
+    return;
+  }
+  if (me && me->resumes && next_data)
+    take_off_left(me, prior, next);
+  if (!next_data)
     end_detached(me, prior_data, record_of(prior));
   else if (status == ompt_task_complete || status == ompt_task_cancel)
     end_task(me, prior_data, prior);

@@ -69,8 +69,8 @@ static void wait_for_the_end(struct thread *me, ompt_sync_region_t kind, ompt_sc
 void on_sync_region_wait(ompt_sync_region_t kind, ompt_scope_endpoint_t endpoint, ompt_data_t *region_data,
                          ompt_data_t *task_data, const void *code)
 {
-  (void)region_data, (void)task_data, (void)code;
-  struct thread *me = shown_thread();
+  (void)region_data, (void)code;
+  struct thread *me = thread_of(task_data);
   if (!me || kind == ompt_sync_region_reduction)
     return;
   if (ends_region(kind))
@@ -85,8 +85,8 @@ void on_sync_region_wait(ompt_sync_region_t kind, ompt_scope_endpoint_t endpoint
 void on_sync_region(ompt_sync_region_t kind, ompt_scope_endpoint_t endpoint, ompt_data_t *region_data,
                     ompt_data_t *task_data, const void *code)
 {
-  (void)region_data, (void)task_data, (void)code;
-  struct thread *me = kind == ompt_sync_region_taskgroup ? shown_thread() : NULL;
+  (void)region_data, (void)code;
+  struct thread *me = kind == ompt_sync_region_taskgroup ? thread_of(task_data) : NULL;
   word_t *task = me ? running_task(me) : NULL;
   if (!task)
     return;
@@ -112,7 +112,7 @@ void on_mutex_acquire(ompt_mutex_t kind, unsigned hint, unsigned implementation,
                       const void *code)
 {
   (void)hint, (void)implementation, (void)code;
-  struct thread *me = shown_thread();
+  struct thread *me = thread_of_call();
   if (!me || !waits(kind))
     return;
   enter_state(me,
@@ -126,7 +126,7 @@ void on_mutex_acquire(ompt_mutex_t kind, unsigned hint, unsigned implementation,
 void on_mutex_acquired(ompt_mutex_t kind, ompt_wait_id_t wait_id, const void *code)
 {
   (void)wait_id, (void)code;
-  struct thread *me = shown_thread();
+  struct thread *me = thread_of_call();
   if (me && waits(kind))
     enter_work(me);
 }
@@ -135,7 +135,7 @@ void on_mutex_acquired(ompt_mutex_t kind, ompt_wait_id_t wait_id, const void *co
 void on_nest_lock(ompt_scope_endpoint_t endpoint, ompt_wait_id_t wait_id, const void *code)
 {
   (void)wait_id, (void)code;
-  struct thread *me = shown_thread();
+  struct thread *me = thread_of_call();
   if (me && endpoint == ompt_scope_begin)
     enter_work(me);
 }
