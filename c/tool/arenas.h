@@ -12,7 +12,7 @@ struct arenas {
   unsigned thread_count, tasks_each;
   size_t words; /* from `runtime` on */
 };
-extern struct arenas arenas;
+extern HIDDEN struct arenas arenas;
 
 /* Maps the arenas for so many threads and tasks of each, of which 0 is as many as a core has room for. They are
  * zero, and a child that is forked finds zeros there. Whether there was memory for them. */

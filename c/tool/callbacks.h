@@ -34,6 +34,17 @@ static inline union data_word word_of(const ompt_data_t *data)
   return (union data_word){.value = data ? data->value : 0};
 }
 
+static inline enum holds holds(union data_word word)
+{
+  return (enum holds)word.ticket.holds;
+}
+
+/* The record that a data word has the address of, else NULL. */
+static inline word_t *record_of(union data_word word)
+{
+  return holds(word) == A_RECORD ? record_at(word.value) : NULL;
+}
+
 /* threads.c */
 void on_thread_begin(ompt_thread_t type, ompt_data_t *data);
 void on_thread_end(ompt_data_t *data);
@@ -56,13 +67,16 @@ void on_task_create(ompt_data_t *maker_data, const ompt_frame_t *frame, ompt_dat
                     int has_dependences, const void *code);
 void on_task_schedule(ompt_data_t *prior_data, ompt_task_status_t status, ompt_data_t *next_data);
 
-/* libomp tells the end of an untied task by the last thread that comes back from one of its parts. Where the thread that
- * ran the last part comes back earlier, it leaves the task without a callback, and goes on with others. So the task is
- * taken off that thread by whichever comes first: the thread at its next callback, or the one that tells the end. Both
- * do it by one exchange of the thread's current task and state, and the record is given back behind both.
- *
- * This is the thread's half: `before` and `after` are the tasks that it ran when it made a callback, and runs behind it. */
+/* untied.c: takes off the thread what it has left without a callback. `before` and `after` are the tasks that it ran
+ * when it made this callback, and runs behind it. */
 void take_off_left(struct thread *me, union data_word before, union data_word after);
+
+/* Whether the last part of a task, of which this thread tells the end, ran on another thread. */
+bool ran_elsewhere(struct thread *me, union data_word word);
+
+/* The end of such a task's code; and that of the task, which is NULL for one without a record. */
+void take_off_another(struct thread *me, word_t *task);
+void end_elsewhere(struct thread *me, word_t *task);
 
 /* The calling thread where it is shown, or NULL: in a callback that tells the task which runs there, and in one that
  * doesn't. */
@@ -99,7 +113,11 @@ static inline void enter_state(struct thread *me, uint64_t state, uint64_t wait_
   store(me->record + TH_STATE, state_code(state, wait_id));
 }
 
-/* The state in which the current task's own code runs. */
+/* The state in which the current task's own code runs, and whether a state is one of these. */
 void enter_work(struct thread *me);
+static inline bool is_work(uint64_t state)
+{
+  return state == state_code(ompt_state_work_parallel, 0) || state == state_code(ompt_state_work_serial, 0);
+}
 
 #endif

@@ -115,6 +115,7 @@ void store_variables(word_t *task)
 {
   if (!may_ask())
     return;
+  notes_of_task(task)->asked = true;
   if (runtime.dynamic)
     store(task + TK_DYN, runtime.dynamic() != 0);
   store_schedule(task);
@@ -130,6 +131,12 @@ void renew_variables(word_t *task)
     store_variables(task);
 }
 
+void learn_variables(word_t *task)
+{
+  if (!all_seen || !notes_of_task(task)->asked)
+    store_variables(task);
+}
+
 void store_initial_variables(word_t *task)
 {
   store(task + TK_DYN, 0);
@@ -140,8 +147,13 @@ void store_initial_variables(word_t *task)
 
 void copy_variables(word_t *task, word_t *maker)
 {
-  for (unsigned field = TK_DYN; field < TK_NTH + MOST_SIZES; field++)
-    store(task + field, load(maker + field));
+  uint64_t sizes_shown = load(maker + TK_NTHN);
+  store(task + TK_DYN, load(maker + TK_DYN));
+  store(task + TK_NTHN, sizes_shown);
+  store(task + TK_SCHED, load(maker + TK_SCHED));
+  store(task + TK_DEVICE, load(maker + TK_DEVICE));
+  for (unsigned place = 0; place < sizes_shown; place++)
+    store(task + TK_NTH + place, load(maker + TK_NTH + place));
 }
 
 /* Of each level libomp may have a size of its own, and a league has another one for its teams. */
@@ -202,32 +214,14 @@ const ompt_data_t *data_of_running(void)
   return ask_task_info().data;
 }
 
-/* The frames of the task that runs, or NULL where the runtime doesn't tell. */
-static const ompt_frame_t *frame_of(word_t *task)
+const ompt_frame_t *find_frame(struct task_notes *notes)
 {
-  struct task_notes *notes = notes_of_task(task);
-  if (!notes->frame)
-    notes->frame = ask_task_info().frame;
+  notes->frame = ask_task_info().frame;
   return notes->frame;
-}
-
-void store_frames(word_t *task)
-{
-  const ompt_frame_t *frame = frame_of(task);
-  if (frame) {
-    store(task + TK_EXIT, (uint64_t)(uintptr_t)frame->exit_frame.ptr);
-    store(task + TK_ENTER, (uint64_t)(uintptr_t)frame->enter_frame.ptr);
-  }
 }
 
 void clear_frames(word_t *task)
 {
   store(task + TK_EXIT, 0);
   store(task + TK_ENTER, 0);
-}
-
-void leave_runtime(word_t *task)
-{
-  if (load(task + TK_ENTER))
-    store(task + TK_ENTER, 0);
 }

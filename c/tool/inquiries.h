@@ -23,9 +23,10 @@ void allow_inquiries(void);
 void forbid_inquiries(void);
 
 /* Stores the control variables of the task that runs, as the runtime tells them; the second only where the
- * calls that set them are not all seen. */
+ * calls that set them are not all seen, the third there or where the runtime wasn't asked for this task. */
 void store_variables(word_t *task);
 void renew_variables(word_t *task);
+void learn_variables(word_t *task);
 
 /* Those with which an initial task starts. */
 void store_initial_variables(word_t *task);
@@ -53,24 +54,41 @@ const ompt_data_t *data_of_running(void);
 
 /* Whether OMI_FRAMES is set, and the runtime is asked for the exit frame of each task as it starts. Else that is 0
  * until the task comes into the runtime. */
-extern bool frames_wanted;
+extern HIDDEN bool frames_wanted;
 
-/* The runtime tells where it keeps the frames of the task that runs, and doesn't move them while the task runs. The exit
- * frame is stored. */
-static inline void learn_frame(word_t *task, const ompt_frame_t *frame)
+/* Stores the frames of the task that runs: where it comes out of the runtime, and where it comes into it. */
+static inline void store_exit(word_t *task, const ompt_frame_t *frame)
 {
-  notes_of_task(task)->frame = frame;
-  if (frame)
-    store(task + TK_EXIT, (uint64_t)(uintptr_t)frame->exit_frame.ptr);
+  store(task + TK_EXIT, (uint64_t)(uintptr_t)frame->exit_frame.ptr);
 }
 
-/* Stores both frames of the task that runs. */
-void store_frames(word_t *task);
+static inline void store_enter(word_t *task, const ompt_frame_t *frame)
+{
+  store(task + TK_ENTER, (uint64_t)(uintptr_t)frame->enter_frame.ptr);
+}
+
+/* Where the runtime keeps the frames of the task that runs, or NULL where it doesn't tell. */
+const ompt_frame_t *find_frame(struct task_notes *notes);
+
+/* Stores both. The runtime doesn't move them while the task runs. */
+static inline void store_frames(word_t *task)
+{
+  struct task_notes *notes = notes_of_task(task);
+  const ompt_frame_t *frame = notes->frame ? notes->frame : find_frame(notes);
+  if (frame) {
+    store_exit(task, frame);
+    store_enter(task, frame);
+  }
+}
 
 /* The code of the task that runs has ended. */
 void clear_frames(word_t *task);
 
 /* The task that runs is back in its own code. */
-void leave_runtime(word_t *task);
+static inline void leave_runtime(word_t *task)
+{
+  if (load(task + TK_ENTER))
+    store(task + TK_ENTER, 0);
+}
 
 #endif

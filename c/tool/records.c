@@ -6,7 +6,7 @@
 #include "codes.h"
 #include "say.h"
 
-/* A link is the place in the thread's own part of the arena plus 1. */
+/* A link is the place in the arena plus 1. */
 enum { NONE = 0 };
 
 /* A life word is odd while its record is live, and below this. */
@@ -61,30 +61,36 @@ static bool lower(word_t *record)
 word_t *take_task(struct thread *me)
 {
   struct pool *pool = &me->tasks;
-  struct task_notes *notes = task_notes + (size_t)me->index * arenas.tasks_each;
   if (pool->own == NONE && atomic_load_explicit(&pool->returned, memory_order_relaxed) != NONE)
     pool->own = atomic_exchange_explicit(&pool->returned, NONE, memory_order_acquire);
   unsigned link = pool->own;
   if (link != NONE)
-    pool->own = notes[link - 1].next_free;
+    pool->own = task_notes[link - 1].next_free;
   else if (pool->unused < arenas.tasks_each)
-    link = ++pool->unused;
+    link = me->index * arenas.tasks_each + ++pool->unused;
   else {
     count_unshown(TASKS);
     return NULL;
   }
-  return raise(task_at(me->index * arenas.tasks_each + link - 1));
+  return raise(task_at(link - 1));
+}
+
+/* The thread that the record at this place belongs to. */
+static struct thread *owner_of(struct thread *me, unsigned place)
+{
+  bool mine = me && place - me->index * arenas.tasks_each < arenas.tasks_each;
+  return mine ? me : &threads[place / arenas.tasks_each];
 }
 
 void give_back_task(struct thread *me, word_t *task)
 {
-  unsigned place = place_of_task(task), owner = place / arenas.tasks_each;
-  unsigned link = place - owner * arenas.tasks_each + 1;
-  struct task_notes *notes = &task_notes[place];
   if (!lower(task))
     return;
-  struct pool *pool = &threads[owner].tasks;
-  if (me == &threads[owner]) {
+  unsigned place = (unsigned)place_of_task(task), link = place + 1;
+  struct task_notes *notes = &task_notes[place];
+  struct thread *owner = owner_of(me, place);
+  struct pool *pool = &owner->tasks;
+  if (me == owner) {
     notes->next_free = pool->own;
     pool->own = link;
     return;
@@ -100,15 +106,14 @@ void give_back_task(struct thread *me, word_t *task)
 word_t *take_region(struct thread *me)
 {
   struct pool *pool = &me->regions;
-  struct region_notes *notes = region_notes + (size_t)me->index * REGIONS_EACH;
   unsigned link = pool->own;
   if (link != NONE)
-    pool->own = notes[link - 1].next_free;
+    pool->own = region_notes[link - 1].next_free;
   else if (pool->unused < REGIONS_EACH)
-    link = ++pool->unused;
+    link = me->index * REGIONS_EACH + ++pool->unused;
   else
     return NULL;
-  return raise(arenas.regions + ((size_t)me->index * REGIONS_EACH + link - 1) * REGION_WORDS);
+  return raise(arenas.regions + (size_t)(link - 1) * REGION_WORDS);
 }
 
 void give_back_region(struct thread *me, word_t *region)
@@ -119,7 +124,7 @@ void give_back_region(struct thread *me, word_t *region)
   if (!lower(region))
     return;
   notes->next_free = me->regions.own;
-  me->regions.own = place_of_region(region) - me->index * REGIONS_EACH + 1;
+  me->regions.own = place_of_region(region) + 1;
 }
 
 void release_maker(struct thread *me, word_t *maker)

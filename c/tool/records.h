@@ -11,21 +11,25 @@
 
 #include "arenas.h"
 
+/* Of a task. They have a line of the cache. */
 struct task_notes {
-  long made; /* tasks that it made */
+  _Alignas(64) long made; /* tasks that it made */
   _Atomic long owed; /* minus those of them that have ended; and once it has ended itself, plus all of them */
-  unsigned next_free;
+  const ompt_frame_t *frame; /* where the runtime keeps the task's frames, once it has told that */
+  _Atomic uint64_t below; /* the task that its thread ran, where it was started or resumed */
+  _Atomic uint16_t state_below; /* the thread's state there, which is none with a wait id */
+  uint16_t state_of_work; /* that of its thread while the task's own code runs */
   unsigned passed; /* tasks without a record that stand on this one */
-  unsigned deeper_groups; /* open ones behind the fourth */
   _Atomic unsigned changes; /* calls that set a control variable of it, seen by setters.c */
+  unsigned deeper_groups; /* open ones behind the fourth */
+  bool asked; /* its control variables are those of the runtime */
   bool suspended; /* it waits to be resumed */
   bool detached; /* its code has ended, and its event was not fulfilled */
   _Atomic bool resumed; /* it was suspended before: see `take_off_left` */
-  _Atomic unsigned users; /* of a resumed one: the runtime, which is to tell its end, and the thread that it lies on */
-  const ompt_frame_t *frame; /* where the runtime keeps the task's frames, once it has told that */
-  _Atomic uint64_t below, state_below; /* the task that its thread had, and its state, where it was started or resumed */
-  uint64_t state_of_work; /* that of its thread while the task's own code runs */
+  _Atomic uint8_t users; /* of a resumed one: the runtime, which is to tell its end, and the thread it lies on */
+  unsigned next_free; /* of a record that was given back */
 };
+_Static_assert(sizeof(struct task_notes) == 64, "a line of the cache");
 
 struct region_notes {
   unsigned next_free;
@@ -55,7 +59,7 @@ struct thread {
 };
 
 /* The calling thread's, or NULL where it has no record. */
-extern _Thread_local struct thread *self __attribute__((tls_model("initial-exec")));
+extern HIDDEN _Thread_local struct thread *self __attribute__((tls_model("initial-exec")));
 
 /* The calling thread's, or NULL where nothing of it is shown. */
 static inline struct thread *shown_thread(void)
@@ -79,18 +83,18 @@ static inline union pair shown_by(word_t *thread)
 }
 
 enum { MOST_TASKS = CORE_WORDS / TASK_WORDS };
-extern struct task_notes task_notes[MOST_TASKS];
-extern struct region_notes region_notes[MOST_THREADS * REGIONS_EACH];
+extern HIDDEN struct task_notes task_notes[MOST_TASKS];
+extern HIDDEN struct region_notes region_notes[MOST_THREADS * REGIONS_EACH];
 
 /* A task by the place of its record among all of them. */
-static inline unsigned place_of_task(const word_t *task)
+static inline size_t place_of_task(const word_t *task)
 {
-  return (unsigned)((size_t)(task - arenas.tasks) / TASK_WORDS);
+  return (size_t)(task - arenas.tasks) / TASK_WORDS;
 }
 
-static inline word_t *task_at(unsigned place)
+static inline word_t *task_at(size_t place)
 {
-  return arenas.tasks + (size_t)place * TASK_WORDS;
+  return arenas.tasks + place * TASK_WORDS;
 }
 
 static inline struct task_notes *notes_of_task(const word_t *task)
@@ -142,9 +146,9 @@ void give_back_region(struct thread *me, word_t *region);
  * it, and a task whose tasks have all ended before it is given back without a change that others see. */
 
 /* The task that runs here makes another one. */
-static inline void hold_task(word_t *maker)
+static inline void hold_task(struct task_notes *maker)
 {
-  notes_of_task(maker)->made++;
+  maker->made++;
 }
 
 /* A task that this one made has ended, or will never start. */

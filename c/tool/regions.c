@@ -79,8 +79,8 @@ void on_parallel_begin(ompt_data_t *task_data, const ompt_frame_t *frame, ompt_d
   store_active_levels();
   word_t *maker = current_task(me);
   if (running_task(me)) {
-    store_variables(maker);
-    learn_frame(maker, frame);
+    learn_variables(maker);
+    notes_of_task(maker)->frame = frame;
     store_frames(maker);
   }
   enter_state(me, ompt_state_overhead, 0);

@@ -2,17 +2,6 @@
 #include "callbacks.h"
 #include "debugger.h"
 
-static enum holds holds(union data_word word)
-{
-  return (enum holds)word.ticket.holds;
-}
-
-/* The record that a data word has the address of, else NULL. */
-static word_t *record_of(union data_word word)
-{
-  return holds(word) == A_RECORD ? record_at(word.value) : NULL;
-}
-
 static void hold_nothing(ompt_data_t *data)
 {
   data->value = (union data_word){.ticket = {.holds = NOTHING}}.value;
@@ -35,17 +24,19 @@ void on_task_create(ompt_data_t *maker_data, const ompt_frame_t *frame, ompt_dat
     hold_nothing(data);
     return;
   }
-  bool asks = maker != running_task(me);
-  if (!asks) {
-    learn_frame(maker, frame);
+  struct task_notes *notes = notes_of_task(maker);
+  bool asks = notes->passed; /* a task without a record makes it */
+  if (!asks && frame) {
+    notes->frame = frame;
+    store_exit(maker, frame);
     if (flags & ompt_task_undeferred)
-      store_frames(maker);
+      store_enter(maker, frame);
   }
-  hold_task(maker);
+  hold_task(notes);
   data->value = (union data_word){.ticket = {
     .holds = A_TICKET, .is_final = (flags & ompt_task_final) != 0, .group = (unsigned)load(maker + TK_OPEN),
     .function = function_number(code), .maker = place_of_task(maker), .asks = asks,
-    .changes = notes_of_task(maker)->changes}}.value;
+    .changes = atomic_load_explicit(&notes->changes, memory_order_relaxed)}}.value;
 }
 
 /* Puts a task on the thread's current one. */
@@ -57,7 +48,7 @@ static void put_on(struct thread *me, word_t *task)
   store(task + TK_THREAD, address_of(me->record));
   store(task + TK_SCHEDULING, address_of(below));
   atomic_store_explicit(&notes->below, address_of(below), memory_order_relaxed);
-  atomic_store_explicit(&notes->state_below, load(me->record + TH_STATE), memory_order_relaxed);
+  atomic_store_explicit(&notes->state_below, (uint16_t)load(me->record + TH_STATE), memory_order_relaxed);
   store(me->record + TH_CUR, address_of(task));
   enter_state(me, notes->state_of_work, 0);
   ompd_bp_task_begin();
@@ -72,15 +63,6 @@ static void resume(struct thread *me, word_t *task)
   atomic_store_explicit(&notes->users, me ? 2 : 1, memory_order_relaxed);
   if (me)
     put_on(me, task);
-}
-
-/* One of the two is done with it. */
-static void drop_task(struct thread *me, word_t *task)
-{
-  struct task_notes *notes = notes_of_task(task);
-  if (!atomic_load_explicit(&notes->resumed, memory_order_relaxed)
-      || atomic_fetch_sub_explicit(&notes->users, 1, memory_order_acq_rel) == 1)
-    release_task(me, task);
 }
 
 /* A task without a record stands on the thread's current one, which is shown instead; but the state is true. */
@@ -166,65 +148,8 @@ static void take_off(struct thread *me, word_t *task)
   store(me->record + TH_CUR, address_of(below));
   store(me->record + TH_STATE, state);
   store(task + TK_SCHEDULING, 0); /* at once: the task below may end before this one */
-  if (below && state == state_code(notes_of_task(below)->state_of_work, 0))
+  if (below && is_work(state))
     leave_runtime(below);
-  if (atomic_load_explicit(&notes->resumed, memory_order_relaxed))
-    atomic_fetch_sub_explicit(&notes->users, 1, memory_order_relaxed);
-}
-
-/* Shows a thread on the task below this one, where it is shown on this one. Of two threads that do this one succeeds. */
-static bool swap_off(word_t *thread, word_t *task)
-{
-  struct task_notes *notes = notes_of_task(task);
-  union pair left = {{atomic_load_explicit(&notes->below, memory_order_relaxed),
-                      atomic_load_explicit(&notes->state_below, memory_order_relaxed)}};
-  union pair shown = shown_by(thread);
-  while (shown.words[0] == address_of(task)) {
-    if (swap_pair(thread + TH_CUR, shown, left))
-      return true;
-    shown = shown_by(thread);
-  }
-  return false;
-}
-
-/* The task has left the thread that ran it last. Once that is shown, the task below may end: so its address is cleared
- * before. */
-static void take_off_another(struct thread *me, word_t *task)
-{
-  store(task + TK_SCHEDULING, 0);
-  if (swap_off(record_at(load(task + TK_THREAD)), task))
-    drop_task(me, task);
-}
-
-/* Whether the word is that of the task that lies on this thread above all others: its current one, or one without a
- * record on that. */
-static bool lies_on_top(struct thread *me, union data_word word)
-{
-  if (holds(word) == A_STATE)
-    return word.passed.thread == me->index + 1;
-  return !word.value || record_of(word) == current_task(me);
-}
-
-/* Whether the current task is the one that runs, so that none without a record stands on it. */
-static bool is_the_current(struct thread *me, word_t *task, union data_word running)
-{
-  return load(task + TK_IMPLICIT) ? !running.value && !*regions_passed(me) : record_of(running) == task;
-}
-
-void take_off_left(struct thread *me, union data_word before, union data_word after)
-{
-  word_t *task = running_task(me);
-  while (task && atomic_load_explicit(&notes_of_task(task)->resumed, memory_order_relaxed)
-         && task != record_of(before) && task != record_of(after)) {
-    if (swap_off(me->record, task)) {
-      store(task + TK_SCHEDULING, 0);
-      drop_task(me, task);
-    }
-    task = running_task(me);
-  }
-  task = current_task(me);
-  if (task && is_the_current(me, task, lies_on_top(me, before) ? before : after))
-    notes_of_task(task)->passed = 0;
 }
 
 /* The task without a record that stands on the current one is left. */
@@ -245,16 +170,6 @@ static word_t *running_explicit(struct thread *me, union data_word word)
   return task && !load(task + TK_IMPLICIT) ? task : NULL;
 }
 
-/* Whether another thread than this one ran the last part of the task. */
-static bool ran_elsewhere(struct thread *me, union data_word word)
-{
-  word_t *task = record_of(word);
-  if (holds(word) == A_STATE)
-    return word.passed.thread != (me ? me->index + 1 : 0);
-  return task && atomic_load_explicit(&notes_of_task(task)->resumed, memory_order_relaxed)
-    && !(me && running_task(me) == task);
-}
-
 /* The task that runs is suspended, or its code has ended but not the task (ompt_task_detach). */
 static void leave_task(struct thread *me, ompt_data_t *data, union data_word word, ompt_task_status_t status)
 {
@@ -263,10 +178,12 @@ static void leave_task(struct thread *me, ompt_data_t *data, union data_word wor
     take_off_another(me, record_of(word));
     notes_of_task(record_of(word))->detached = true;
   } else if (task) {
+    struct task_notes *notes = notes_of_task(task);
     if (me)
       take_off(me, task);
-    notes_of_task(task)->detached = status == ompt_task_detach;
-    notes_of_task(task)->suspended = status != ompt_task_detach;
+    atomic_store_explicit(&notes->users, 1, memory_order_relaxed);
+    notes->detached = status == ompt_task_detach;
+    notes->suspended = status != ompt_task_detach;
     data->ptr = task;
   } else if (holds(word) == A_STATE) {
     if (me)
@@ -275,46 +192,46 @@ static void leave_task(struct thread *me, ompt_data_t *data, union data_word wor
   }
 }
 
-/* The task that runs has ended. */
-static void end_running_task(struct thread *me, ompt_data_t *data, union data_word word)
+/* An explicit task that runs has ended, on this thread or on one without a record. */
+static void end_running_task(struct thread *me, word_t *task)
 {
-  word_t *task = running_explicit(me, word);
-  if (task && me) {
+  if (me) {
     ompd_bp_task_end();
     take_off(me, task);
-  } else if (me && *tasks_passed(me))
+  }
+  release_task(me, task);
+}
+
+/* The task that runs has ended, where the word is not that of a record that runs here. */
+static void end_unknown_task(struct thread *me, ompt_data_t *data, union data_word word)
+{
+  word_t *task = running_explicit(me, word);
+  if (!task && me && *tasks_passed(me))
     go_back(me, word);
   if (record_of(word) == task || holds(word) == A_STATE)
     hold_nothing(data);
   if (task)
-    drop_task(me, task);
+    end_running_task(me, task);
 }
 
-/* The task has ended, of which another thread ran the last part. */
-static void end_elsewhere(struct thread *me, ompt_data_t *data, word_t *task)
-{
-  if (task) {
-    ompd_bp_task_end();
-    take_off_another(me, task);
-    drop_task(me, task);
-  }
-  hold_nothing(data);
-}
-
-/* A task has ended: the one that runs, or one that was cancelled before it started or while it was suspended. */
+/* A task has ended: the one that runs, one that was cancelled before it started or while it was suspended, or one of
+ * which another thread ran the last part. */
 static void end_task(struct thread *me, ompt_data_t *data, union data_word word)
 {
   word_t *task = record_of(word);
-  if (holds(word) == A_TICKET) {
+  if (me && task && task == running_task(me))
+    end_running_task(me, task);
+  else if (holds(word) == A_TICKET)
     release_maker(me, task_at(word.ticket.maker));
-    hold_nothing(data);
-  } else if (task && notes_of_task(task)->suspended) {
+  else if (task && notes_of_task(task)->suspended)
     release_task(me, task);
-    hold_nothing(data);
-  } else if (ran_elsewhere(me, word))
-    end_elsewhere(me, data, task);
-  else if (holds(word) != NOTHING)
-    end_running_task(me, data, word);
+  else if (ran_elsewhere(me, word))
+    end_elsewhere(me, task);
+  else if (holds(word) != NOTHING) {
+    end_unknown_task(me, data, word);
+    return;
+  }
+  hold_nothing(data);
 }
 
 /* An event was fulfilled, which ends the task where its code has ended before. */
@@ -322,7 +239,7 @@ static void end_detached(struct thread *me, ompt_data_t *data, word_t *task)
 {
   if (!task || !notes_of_task(task)->detached)
     return;
-  drop_task(me, task);
+  end_elsewhere(me, task);
   hold_nothing(data);
 }
 
