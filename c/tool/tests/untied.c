@@ -1,5 +1,7 @@
 /* untied [few]: untied tasks, which may go on as those of another thread. They wait for nothing: programs of clang in
  * which they do hang on libomp 19, with a tool or without. With `few` there are not records for all of them. */
+#define _GNU_SOURCE
+#include "held_up.h"
 #include "words.h"
 
 #include <omp.h>

@@ -8,7 +8,7 @@
 #include <sys/syscall.h>
 #include <unistd.h>
 
-enum { STATE_BITS = 16, PATIENCE = 20000 };
+enum { STATE_BITS = 16, PATIENCE = 200000 }; /* 20 seconds and more */
 static atomic_uint waiter;
 static omp_lock_t lock;
 static omp_nest_lock_t nested;
