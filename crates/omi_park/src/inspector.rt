@@ -1,4 +1,4 @@
-//! The inspector: it waits for the workers to make a share of their steps, calls them to stop, waits until each is still, copies the words, and
+//! The inspector: it waits until a stop is due, calls the workers to stop, waits until each is still, copies the words, and
 //! lets the workers go.
 
 ghost use Rattle.std.specs.Prelude.{◌≡◌, ◌<◌, ◌≤◌, ◌+◌, ◌++◌, [], ◌∷◌, length, vec_capacity, vec_len, IfOk};
@@ -16,7 +16,7 @@ ghost use Rattle.omi_park.specs.Work.{IsTableFor, IsTableOf};
 
 use crate::known::Part;
 use crate::limits::{HALF, INSPECTOR, LEFT};
-use crate::progress::await_share;
+use crate::progress::{Shares, await_due};
 use crate::rule::{Calls, Copies, LetsGo, Sees};
 use crate::stopped::{StopList, Stopped};
 use crate::table::{Words, acknowledgement_place};
@@ -242,15 +242,14 @@ impl Inspector {
         (seat, StopList::from_vec(stops))
     }
 
-    /// Makes all its stops, one after another: each where the workers have made an equal share of the steps that are still to come, or make none.
-    /// Takes no memory.
+    /// Makes all its stops, one after another: each where it is due, or the workers make no further step. Takes no memory.
     pub(crate) fn inspect<R: Wait, G: Gate>(
         &mut self,
         rt: &R,
         p: &Program,
         l: &Layout,
         words: &Words,
-        budget: u64,
+        shares: &Shares,
         gate: &G,
     )
         requires table { IsTableFor p.now l.now words.now.key words.now.table_id }
@@ -262,7 +261,7 @@ impl Inspector {
         let mut epoch = 2 * self.stops.len() as u64 + 1;
         while let Some(room) = self.rooms.pop() {
             gate.pass(INSPECTOR, epoch);
-            await_share(p, l, words, budget, self.rooms.len() as u64 + 2);
+            await_due(p, l, words, shares, epoch / 2 + 1);
             let stopped = stop(rt, p, l, words, &mut self.seat, epoch, room, gate);
             self.stops.push_reserved(stopped);
             epoch += 2;

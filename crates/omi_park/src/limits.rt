@@ -21,5 +21,8 @@ pub const RUNS: u64 = 4_611_686_018_427_387_904;
 /// Before its first step, and behind each so many, a worker says that it runs.
 pub const STEPS_UNTOLD: u64 = 100;
 
-/// So often the inspector looks at most for one more step, before it calls the workers to stop.
-pub const MOST_LOOKS: u64 = 10_000;
+/// So often the inspector looks at most for one more step, before it calls a stop.
+pub const MOST_LOOKS: u64 = 1_000_000;
+
+/// So often a worker for which a stop is due looks at most for its call. The other workers have to come there first.
+pub const MOST_LOOKS_FOR_CALL: u64 = 10_000_000;

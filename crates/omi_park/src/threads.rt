@@ -17,6 +17,7 @@ ghost use Rattle.omi_park.specs.Work.{IsTableFor};
 
 use crate::inspector::Inspector;
 use crate::known::Part;
+use crate::progress::Shares;
 use crate::rule::{Given, Running};
 use crate::stopped::StopList;
 use crate::table::Words;
@@ -168,6 +169,7 @@ fn all_worked<R: Threads + Wait + Sync, G: Gate>(
     l: &Layout,
     words: &Words,
     budget: u64,
+    shares: &Shares,
     gate: &G,
     threads: u8,
     workers: &mut Vec<Runner>,
@@ -190,7 +192,7 @@ fn all_worked<R: Threads + Wait + Sync, G: Gate>(
         ensures { HasEnded p.entry.now l.entry.now words.entry.now.table_id budget
             runner.entry.now.worker.log.thread runner.exit.now }
     {
-        runner.until = runner.worker.work(rt, p, l, words, budget, gate);
+        runner.until = runner.worker.work(rt, p, l, words, budget, shares, gate);
     };
     thread::for_each_mut(rt, workers, usize::from(threads), &work);
 }
@@ -202,6 +204,7 @@ fn worked<R: Threads + Wait + Sync, G: Gate>(
     l: &Layout,
     words: &Words,
     budget: u64,
+    shares: &Shares,
     gate: &G,
     threads: u8,
     mut workers: Vec<Runner>,
@@ -216,7 +219,7 @@ fn worked<R: Threads + Wait + Sync, G: Gate>(
     ensures ended { HaveEnded p.now l.now words.now.table_id budget (vec_len workers)
         result.items }
 {
-    all_worked(rt, p, l, words, budget, gate, threads, &mut workers);
+    all_worked(rt, p, l, words, budget, shares, gate, threads, &mut workers);
     workers
 }
 
@@ -226,7 +229,7 @@ fn inspected<R: Threads + Wait + Sync, G: Gate>(
     p: &Program,
     l: &Layout,
     words: &Words,
-    budget: u64,
+    shares: &Shares,
     gate: &G,
     mut inspector: Inspector,
 ) -> Inspector
@@ -234,7 +237,7 @@ fn inspected<R: Threads + Wait + Sync, G: Gate>(
     requires between { IsBetween p.now l.now words.now.table_id first_inspector inspector }
     ensures { HasInspected words.now.table_id (vec_len inspector.rooms) result }
 {
-    inspector.inspect(rt, p, l, words, budget, gate);
+    inspector.inspect(rt, p, l, words, shares, gate);
     inspector
 }
 
@@ -246,6 +249,7 @@ fn beside<R: Threads + Wait + Sync, G: Gate>(
     l: &Layout,
     words: &Words,
     budget: u64,
+    shares: &Shares,
     gate: &G,
     threads: u8,
     workers: Vec<Runner>,
@@ -263,8 +267,8 @@ fn beside<R: Threads + Wait + Sync, G: Gate>(
         result.1.items }
 {
     if threads == 0 {
-        let workers = worked(rt, p, l, words, budget, gate, 1, workers);
-        return (inspected(rt, p, l, words, budget, gate, inspector), workers);
+        let workers = worked(rt, p, l, words, budget, shares, gate, 1, workers);
+        return (inspected(rt, p, l, words, shares, gate, inspector), workers);
     }
     thread::join(
         rt,
@@ -273,7 +277,7 @@ fn beside<R: Threads + Wait + Sync, G: Gate>(
                 × IsTableFor p.now l.now words.now.key words.now.table_id
                 × IsBetween p.now l.now words.now.table_id first_inspector inspector }
             ensures { HasInspected words.entry.now.table_id (vec_len inspector.rooms) result }
-        { inspected(rt, p, l, words, budget, gate, inspector) },
+        { inspected(rt, p, l, words, shares, gate, inspector) },
         move || -> Vec<Runner>
             requires { IsSync R.row × IsSync G.row × (0 < threads) × Suits p.now l.now.table
                 × IsTableFor p.now l.now words.now.key words.now.table_id
@@ -283,7 +287,7 @@ fn beside<R: Threads + Wait + Sync, G: Gate>(
             ensures { (vec_len result ≡ vec_len workers)
                 × HaveEnded p.entry.now l.entry.now words.entry.now.table_id budget
                 (vec_len workers) result.items }
-        { worked(rt, p, l, words, budget, gate, threads, workers) },
+        { worked(rt, p, l, words, budget, shares, gate, threads, workers) },
     )
 }
 
@@ -325,6 +329,7 @@ pub fn park_within<R: Threads + Wait + Sync, G: Gate>(
         l,
         &table.shared,
         budget,
+        &Shares::of(budget, stops),
         gate,
         threads,
         workers,

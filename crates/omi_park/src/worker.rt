@@ -13,6 +13,7 @@ ghost use Rattle.omi_park.specs.Work.{HasBegun, HasGoneOn, HasLoaded, HasStepped
 
 use crate::known::Part;
 use crate::limits::{HALF, LEFT, RUNS, STEPS_UNTOLD};
+use crate::progress::{Shares, await_call};
 use crate::rule::{Given, Loads, Running, Says, Steps};
 use crate::table::{Words, acknowledgement_place};
 use atomic_table::Seat;
@@ -163,7 +164,7 @@ impl Worker {
         self.say(l, words, LEFT + steps);
     }
 
-    /// Makes at most so many steps, and leaves. Takes no memory.
+    /// Makes at most so many steps, waits for each stop where it comes due, and leaves. Takes no memory.
     pub(crate) fn work<R: Wait, G: Gate>(
         &mut self,
         rt: &R,
@@ -171,6 +172,7 @@ impl Worker {
         l: &Layout,
         words: &Words,
         budget: u64,
+        shares: &Shares,
         gate: &G,
     ) -> Until
         requires suits { Suits p.now l.now.table }
@@ -187,6 +189,7 @@ impl Worker {
         for step in 0..budget {
             gate.pass(self.log.thread, step + 1);
             self.tell(l, words);
+            await_call(l, words, shares, step);
             self.go_on(rt, l, words);
             let came = self.step(p, l, words);
             if ends_at(came) {

@@ -264,26 +264,32 @@ fn fewer_threads(rt: HostRuntime) -> Result<(), Fail> {
     Ok(())
 }
 
-/// Whether a thread stands at another step at each stop, and at none behind its budget.
-fn are_apart(end: &ParkEnd, budget: u64) -> bool {
-    let mut last = None;
-    for stop in end.stops.as_slice() {
-        let made = steps_of(stop, 0);
-        if made.is_none() || made == last {
+/// Whether a thread stands at each stop behind its shares of the budget, one more of nine than at the stop before, and by fewer than a hundred steps.
+fn are_behind_shares(end: &ParkEnd, budget: u64) -> bool {
+    for stop in 0..end.stops.len() {
+        let Some(made) = end.stops.find(stop).and_then(|it| steps_of(it, 0)) else {
+            return false;
+        };
+        let share = budget
+            .wrapping_mul(stop as u64)
+            .wrapping_add(budget)
+            .div_ceil(9);
+        if made < share || share.wrapping_add(100) <= made {
             return false;
         }
-        last = made;
     }
-    last < Some(budget)
+    true
 }
 
-/// Where a thread spends its budget, the stops lie apart. Beside other programs two of them may be the same moment: so in one of twenty runs.
+/// Where a thread spends its budget, the stops lie apart, each where it is due. Beside other programs the wait for one may be in vain: so in one of twenty runs.
 #[test]
 fn stops_are_apart(rt: HostRuntime) -> Result<(), Fail> {
     for _run in 0..20 {
         let end = run(&rt, rt.alloc(), A_LONG_RUN, 50_000, MOST_STOPS, &FreeGate);
         assert!(rt; end.is_some());
-        if are_apart(&end.unwrap(), 50_000) {
+        let end = end.unwrap();
+        assert_eq!(rt; end.stops.len(), 8);
+        if are_behind_shares(&end, 50_000) {
             return Ok(());
         }
     }
