@@ -3,6 +3,7 @@
 
 docs/promise.py          compares what it reaches with the tables of docs/PROMISE.md, and fails where they differ
 docs/promise.py list     prints a row for each file that it reaches: its lines that are reached, and the names
+docs/promise.py text     prints all definitions that it reaches, in the order of the page
 """
 
 import os
@@ -180,9 +181,14 @@ def reached():
     return files
 
 
+def declared(path):
+    """What a file declares, by name."""
+    return (source(path) if path.endswith(".rt") else spec(path)).definitions
+
+
 def row(path, names):
     """A file's lines that are reached, and the names in its order."""
-    definitions = (source(path) if path.endswith(".rt") else spec(path)).definitions
+    definitions = declared(path)
     return str(sum(len(definitions[it]) for it in names)), [it for it in definitions if it in names]
 
 
@@ -204,6 +210,12 @@ def main():
         for path in sorted(wanted):
             lines, names = wanted[path]
             print(f"| `{path}` | {lines} | {', '.join(f'`{it}`' for it in names)} |")
+        return 0
+    if sys.argv[1:] == ["text"]:
+        for path, (_, names) in listed().items():
+            print(f"---- crates/{path}\n")
+            for it in names:
+                print(*declared(path)[it], "", sep="\n")
         return 0
     rows, status = listed(), 0
     for path in sorted({*rows, *wanted}):

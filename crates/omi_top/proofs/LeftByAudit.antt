@@ -10,8 +10,8 @@ use Rattle.omi_corefile.specs.declared.core_image.CoreImage.{CoreImage}
 use Rattle.omi_layout.proofs.OneAnswer.{one_layout}
 use Rattle.omi_rep.specs.Shows.{Shows}
 use Rattle.omi_frame.specs.Verb.{Answer, Gives}
-use Rattle.omi_top.specs.Answer.{IsAnswer, IsApproved, IsAuditAnswer, IsAuditRefusal, verb_of}
-use Rattle.omi_frame.specs.Statuses.{IsDoneOrFailed}
+use Rattle.omi_top.specs.Answer.{AreTold, IsAnswer, IsAuditAnswer, IsAuditRefusal, verb_of}
+use Rattle.omi_frame.specs.Statuses.{IsDoneOrFailed, ComesWhere, IsFaultStatus}
 use Rattle.omi_frame.specs.Left.{IsLeft, IsRefused}
 use Rattle.omi_top.specs.Audit.{IsAudited, ShowsWhereYes, audit_line}
 use Rattle.omi_top.specs.Command.{Audit}
@@ -22,8 +22,8 @@ use Rattle.omi_top.proofs.Files.{file_unique}
 use Rattle.omi_top.proofs.ShowVerdicts.{says_core, says_incompatible, says_missing}
 use Rattle.omi_frame.proofs.Statuses.{DidMore, DoesMore, IsDoneStatus, one_content, comes_where, never_refused as nothing_refused, written_more}
 use Rattle.omi_frame.specs.Refusal.{status_of}
-use Rattle.omi_frame.specs.Statuses.{ComesWhere, IsFaultStatus}
 use Rattle.omi_frame.specs.declared.refusal.Refusal.{Refusal}
+use Rattle.omi_top.specs.promises.Audit.{AuditPromise, IsApproved}
 
 -- the core in the file gives a layout
 abbrev GivesOne : Option (List ℕ) → Type 0
@@ -187,3 +187,16 @@ module _ (core : List ℕ) (told : List ℕ → Told) (old new : Told) (counted 
     approved status.Core left = never_refused status.Core left
     approved status.Damaged left = never_refused status.Damaged left
     approved status.Incompatible left = never_refused status.Incompatible left
+
+  -- what is left keeps the promise
+  pub kept : (s : Status) → (AreTold (Audit core) told → IsLeft (verb_of (Audit core)) told s old new counted out after)
+      → AuditPromise core s told out after
+  kept s left = record {
+    no_file = λ content is. no_file s content is (left (content, is));
+    core_fault = λ bytes is. core_refused s bytes is (left (Some bytes, is));
+    incompatible = λ bytes is. incompatible s bytes is (left (Some bytes, is));
+    damaged = λ bytes is. damaged s bytes is (left (Some bytes, is));
+    accepts = λ bytes is gives. audits s bytes is gives (left (Some bytes, is));
+    success = λ bytes is done. judged s bytes is done (left (Some bytes, is));
+    reached = λ bytes is image spelled reached. approved bytes is image spelled reached s (left (Some bytes, is));
+  }

@@ -10,10 +10,9 @@ use Rattle.omi_elf.specs.Spelling.{elf_bytes}
 use Rattle.omi_corefile.proofs.FileLaws.{core_not_refused}
 use Rattle.omi_frame.specs.declared.refusal.Refusal.{Refusal}
 use Rattle.omi_frame.specs.Refusal.{status_of}
-use Rattle.omi_frame.specs.Statuses.{IsFaultStatus, ComesWhere}
+use Rattle.omi_frame.specs.Statuses.{IsFaultStatus, ComesWhere, IsDoneOrFailed}
 use Rattle.omi_frame.specs.Verb.{Answer, Gives}
-use Rattle.omi_top.specs.Answer.{IsAnswer, IsCopyAnswer, writing, verb_of}
-use Rattle.omi_frame.specs.Statuses.{IsDoneOrFailed}
+use Rattle.omi_top.specs.Answer.{AreTold, IsAnswer, IsCopyAnswer, writing, verb_of}
 use Rattle.omi_frame.specs.Left.{IsLeft}
 use Rattle.omi_top.specs.Command.{Command, Recode, Elf}
 use Rattle.omi_top.specs.Elf.{IsElfCopy, elf_line}
@@ -21,6 +20,8 @@ use Rattle.omi_top.specs.Files.{HasFaultBy}
 use Rattle.omi_top.specs.Questions.{IsCoreRefusal}
 use Rattle.omi_top.specs.Recode.{IsRecoded, IsRecodedCopy, recoded_line}
 use Rattle.omi_frame.proofs.Statuses.{DidMore, DoesMore, IsDoneStatus, one_content, comes_where, never_refused, written_more}
+use Rattle.omi_top.specs.promises.Elf.{ElfPromise}
+use Rattle.omi_top.specs.promises.Recode.{RecodePromise}
 
 -- the file holds a core
 abbrev HoldsCore : Option (List ℕ) → Type 0
@@ -177,3 +178,32 @@ module _ (core copy : List ℕ) (told : List ℕ → Told) (old new : Told) (cou
       let (written, line, copied, held, put) =
       success (Elf core copy) core IsElfCopy (elf_copies core copy) told old new counted out after s bytes is done left in
       (copied.core, copied.spelled, held ∙ ap (λ (t : List ℕ). holding old t) copied.copied, put ∙ ap (λ (t : List ℕ). put_on out t) copied.says)
+
+  -- what is left keeps the promises
+  pub recode_kept : (order : ℕ) (s : Status) → (AreTold (Recode order core copy) told → IsLeft (verb_of (Recode order core copy)) told s old new counted out after)
+      → RecodePromise order core copy s told old new out after
+  recode_kept order s left = record {
+    no_file = λ content is.
+        no_file (Recode order core copy) core (IsRecodedCopy order) (recode_copies order core copy) told old new counted out after s content is
+        (left (content, is));
+    core_fault = λ bytes is.
+        core_refused (Recode order core copy) core (IsRecodedCopy order) (recode_copies order core copy) told old new counted out after s bytes is
+        (left (Some bytes, is));
+    accepts = λ bytes is image spelled.
+        copied (Recode order core copy) core (IsRecodedCopy order) (recode_copies order core copy) told old new counted out after s bytes is
+        (image, spelled) (left (Some bytes, is));
+    success = λ bytes is done. recode_success order s bytes is done (left (Some bytes, is));
+  }
+
+  pub elf_kept : (s : Status) → (AreTold (Elf core copy) told → IsLeft (verb_of (Elf core copy)) told s old new counted out after)
+      → ElfPromise core copy s told old new out after
+  elf_kept s left = record {
+    no_file = λ content is.
+        no_file (Elf core copy) core IsElfCopy (elf_copies core copy) told old new counted out after s content is (left (content, is));
+    core_fault = λ bytes is.
+        core_refused (Elf core copy) core IsElfCopy (elf_copies core copy) told old new counted out after s bytes is (left (Some bytes, is));
+    accepts = λ bytes is image spelled.
+        copied (Elf core copy) core IsElfCopy (elf_copies core copy) told old new counted out after s bytes is (image, spelled)
+        (left (Some bytes, is));
+    success = λ bytes is done. elf_success s bytes is done (left (Some bytes, is));
+  }

@@ -1,5 +1,5 @@
 -- What the clauses of the top call say of `follow`, from what it leaves.
-use Rattle.std.proofs.Common.{◌≡◌, inl, inr, ℕ, List, Option, Some, None, Ok, Err, sym, ◌∙◌, ap, subst}
+use Rattle.std.proofs.Common.{◌≡◌, inl, inr, ℕ, List, Option, Some, None, Ok, Err, refl, sym, ◌∙◌, ap, subst}
 use Rattle.omi_outside.specs.Outside.{Told, put_on}
 use Rattle.omi_outside.specs.declared.status.Status.{Status}
 use Rattle.omi_outside.specs.declared.status.Status.TheVariants as status
@@ -9,8 +9,8 @@ use Rattle.omi_model.specs.declared.view.View.{View}
 use Rattle.omi_script.specs.declared.program.Program.{Program}
 use Rattle.omi_walk.specs.Kept.{task_names}
 use Rattle.omi_frame.specs.Verb.{Answer, Gives}
-use Rattle.omi_top.specs.Answer.{IsAnswer, IsFollowAnswer, IsFollowRefusal, IsStopped, verb_of}
-use Rattle.omi_frame.specs.Statuses.{IsDoneOrFailed}
+use Rattle.omi_top.specs.Answer.{AreTold, IsAnswer, IsFollowAnswer, IsFollowRefusal, IsStopped, verb_of}
+use Rattle.omi_frame.specs.Statuses.{IsDoneOrFailed, ComesWhere, IsFaultStatus}
 use Rattle.omi_frame.specs.Left.{IsLeft}
 use Rattle.omi_top.specs.Between.{AreOfOneRun, AreStops, IsFollowedFrom, events_between, fates_after}
 use Rattle.omi_top.specs.Command.{Follow}
@@ -23,8 +23,8 @@ use Rattle.omi_frame.proofs.Statuses.{DidMore, DoesMore, IsDoneStatus, one_conte
 use Rattle.omi_top.proofs.TwoStops.{by_runs, stops_of}
 use Rattle.omi_verbs.specs.Cores.{thread_ids}
 use Rattle.omi_frame.specs.Refusal.{status_of}
-use Rattle.omi_frame.specs.Statuses.{ComesWhere, IsFaultStatus}
 use Rattle.omi_frame.specs.declared.refusal.Refusal.{Refusal}
+use Rattle.omi_top.specs.promises.Follow.{FollowPromise}
 
 -- both files have an answer
 abbrev IsAnswered : Option (List ℕ) → Option (List ℕ) → Type 0
@@ -169,3 +169,22 @@ module _ (core later : List ℕ) (told : List ℕ → Told) (old new : Told) (co
       (followed_from bytes spelt content_is others_is a.core_of.core b.core_of.core
       (core_is_file bytes a.core_of.core a.core_of.spelled) (core_is_file spelt b.core_of.core b.core_of.spelled)
       (stops_of p plan next bytes text spelt more a b one) s left))
+
+-- what is left keeps the promise
+module _ (core later : List ℕ) (told : List ℕ → Told) (old new : Told) (counted : Type 0) (out after : Option (List ℕ)) where
+  pub kept : (s : Status) → (AreTold (Follow core later) told → IsLeft (verb_of (Follow core later)) told s old new counted out after)
+      → FollowPromise core later s told out after
+  kept s left = record {
+    refused = λ content others asked is also none.
+        refused core later told old new counted out after content others is also s asked none (left ((content, is), (others, also)));
+    accepts = λ content others text is also answer.
+        follows core later told old new counted out after content others is also s text answer (left ((content, is), (others, also)));
+    success = λ bytes others is also done.
+        followed core later told old new counted out after (Some bytes) (Some others) is also s done (left ((Some bytes, is), (Some others, also)));
+    stops = λ bytes others is also image next spelled also_spelled stops.
+        followed_from core later told old new counted out after (Some bytes) (Some others) is also bytes others refl refl image next spelled also_spelled
+        stops s (left ((Some bytes, is), (Some others, also)));
+    runs = λ bytes others is also p plan next text more a b one.
+        followed_run core later told old new counted out after (Some bytes) (Some others) is also s bytes others refl refl p plan next text more a b one
+        (left ((Some bytes, is), (Some others, also)));
+  }

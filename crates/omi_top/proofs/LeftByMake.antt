@@ -6,11 +6,12 @@ use Rattle.omi_outside.specs.declared.status.Status.TheVariants as status
 use Rattle.omi_script.specs.Grammar.{Grammar}
 use Rattle.omi_script.specs.declared.program.Program.{Program}
 use Rattle.omi_frame.specs.Verb.{Gives}
-use Rattle.omi_top.specs.Answer.{IsMakeAnswer, IsWritingStatus, verb_of}
+use Rattle.omi_top.specs.Answer.{AreTold, IsMakeAnswer, verb_of}
 use Rattle.omi_frame.specs.Left.{IsLeft, IsRefused}
 use Rattle.omi_top.specs.Command.{Make}
 use Rattle.omi_top.specs.Make.{IsMade, make_text}
 use Rattle.omi_frame.specs.declared.refusal.Refusal.{Refusal}
+use Rattle.omi_top.specs.promises.Make.{IsWritingStatus, MakePromise}
 
 -- it is refused nothing
 never_refused : (n : ℕ) (written : Option (List ℕ)) (r : Refusal) → IsMakeAnswer n (Gives written (Err r)) → ⊥
@@ -46,3 +47,11 @@ module _ (n : ℕ) (script : List ℕ) (told : List ℕ → Told) (old new : Tol
       go (None, line, answer, held, put) = absurd answer
       go (Some text, line, (is, (p, grammar, made)), held, put) =
           (p, line, subst (λ (x : List ℕ). Grammar x p) is grammar, made, subst (λ (x : List ℕ). new ≡ holding old x) is held, put)
+
+  -- what is left keeps the promise
+  pub kept : (s : Status) → (AreTold (Make n script) told → IsLeft (verb_of (Make n script)) told s old new counted out after)
+      → MakePromise n script s old new out after
+  kept s left = record {
+    accepts = writing s (left tt);
+    success = λ done. success s done (left tt);
+  }

@@ -11,10 +11,9 @@ use Rattle.omi_script.specs.declared.fault.ScriptFault.{ScriptFault}
 use Rattle.omi_script.specs.declared.program.Program.{Program}
 use Rattle.omi_script.proofs.VerdictLemmas.{not_both}
 use Rattle.omi_frame.specs.Verb.{Answer, Gives}
-use Rattle.omi_top.specs.Answer.{ComesBehind, IsAnswer, IsReadBackStatus, IsReportOf, IsRunAnswer, IsRunShown, IsShowAnswer, IsShowRefusal, IsStopAnswer, IsStopped, verb_of}
-use Rattle.omi_frame.specs.Statuses.{IsDoneOrFailed, IsOutsideStatus}
+use Rattle.omi_top.specs.Answer.{AreTold, IsAnswer, IsReportOf, IsRunAnswer, IsShowAnswer, IsShowRefusal, IsStopAnswer, IsStopped, verb_of}
+use Rattle.omi_frame.specs.Statuses.{IsDoneOrFailed, IsOutsideStatus, ComesWhere}
 use Rattle.omi_frame.specs.Left.{IsLeft, IsRefused}
-use Rattle.omi_frame.specs.Statuses.{ComesWhere}
 use Rattle.omi_frame.specs.Scripts.{HoldsProgram, IsScriptRefusal}
 use Rattle.omi_top.specs.Command.{Run}
 use Rattle.omi_top.specs.Cores.{IsDamaged, IsIncompatible, IsLooked, Spells}
@@ -26,6 +25,7 @@ use Rattle.omi_top.specs.Files.{HasFault}
 use Rattle.omi_top.proofs.Files.{core_is_file, file_unique}
 use Rattle.omi_top.proofs.ShowVerdicts.{Refusing, all_refusing, damaged as damaged_refused, faulty, incompatible as incompatible_refused, kinds, missing, report_not_refused, says_core, says_damaged, says_incompatible, says_missing}
 use Rattle.omi_frame.proofs.Statuses.{DidMore, DoesMore, SaysWith, comes_where, never_refused as nothing_refused, one_content}
+use Rattle.omi_top.specs.promises.Run.{ComesBehind, IsReadBackStatus, IsRunShown, RunPromise}
 
 -- the script has a fault
 abbrev HasScriptFault : List ℕ → Type 0
@@ -443,3 +443,19 @@ module _ (plan : Plan) (script core : List ℕ) (told : List ℕ → Told) (old 
       shown status.ReadFault left = tt
       shown status.WriteFault left = tt
       shown status.OutOfMemory left = tt
+
+  -- what is left keeps the promise
+  pub kept : (s : Status) → (AreTold (Run plan script core) told → IsLeft (verb_of (Run plan script core)) told s old new counted out after)
+      → RunPromise plan script core s told old new out after
+  kept s left = record {
+    script_fault = λ bytes content is back. script_refused s bytes content is back (left ((Some bytes, is), (content, back)));
+    no_file = λ text content is back. no_file text content is back s (left ((text, is), (content, back)));
+    core_fault = λ text bytes is back. core_refused text bytes is back s (left ((text, is), (Some bytes, back)));
+    incompatible = λ text bytes is back. incompatible text bytes is back s (left ((text, is), (Some bytes, back)));
+    damaged = λ text bytes is back. damaged text bytes is back s (left ((text, is), (Some bytes, back)));
+    accepts = λ text bytes report_text is back p grammar report_is.
+        runs text bytes is back report_text s p grammar report_is (left ((Some text, is), (Some bytes, back)));
+    written = λ bytes content is back read_back. wrote bytes content is back s read_back (left ((Some bytes, is), (content, back)));
+    success = λ text bytes is back done. put_report text bytes is back s done (left ((Some text, is), (Some bytes, back)));
+    shown = λ text bytes is back same. shown text bytes is back same s (left ((Some text, is), (Some bytes, back)));
+  }

@@ -17,10 +17,9 @@ use Rattle.omi_model.specs.declared.view.View.{View}
 use Rattle.omi_frame.specs.declared.refusal.Refusal.{Refusal}
 use Rattle.omi_top.specs.declared.plan.Plan.{Plan}
 use Rattle.omi_frame.specs.Verb.{Answer, Gives}
-use Rattle.omi_top.specs.Answer.{IsAnswer, IsReported, IsReportOf, IsShowAnswer, IsShowRefusal, IsShown, IsStopped, verb_of}
-use Rattle.omi_frame.specs.Statuses.{IsDoneOrFailed}
+use Rattle.omi_top.specs.Answer.{AreTold, IsAnswer, IsReportOf, IsShowAnswer, IsShowRefusal, IsStopped, verb_of}
 use Rattle.omi_frame.specs.Left.{IsLeft, IsRefused}
-use Rattle.omi_frame.specs.Statuses.{ComesWhere, IsFaultStatus}
+use Rattle.omi_frame.specs.Statuses.{ComesWhere, IsDoneOrFailed, IsFaultStatus}
 use Rattle.omi_top.specs.Command.{Show}
 use Rattle.omi_top.specs.Cores.{IsDamaged, IsIncompatible, IsLooked, ShowsState, Spells, words_of_core}
 use Rattle.omi_frame.specs.Refusal.{status_of}
@@ -28,9 +27,10 @@ use Rattle.omi_verbs.specs.Cores.{IsReachedCore, thread_ids}
 use Rattle.omi_verbs.proofs.ImageWords.{image_words}
 use Rattle.omi_rep.proofs.shown.ShownViews.{shown_looked as shown_look}
 use Rattle.omi_top.specs.Files.{HasFault, IsFileOf}
+use Rattle.omi_top.specs.promises.Show.{IsReported, IsShown, ShowPromise}
 use Rattle.omi_top.proofs.Files.{core_is_file, file_unique}
 use Rattle.omi_top.proofs.ShowVerdicts.{Refusing, all_refusing, damaged as damaged_refused, faulty, incompatible as incompatible_refused, missing, one_looked, one_view, report_not_refused, says_core, says_damaged, says_incompatible, says_missing}
-use Rattle.omi_top.proofs.Recoded.{one_report}
+use Rattle.omi_top.proofs.Recoded.{one_report, recoded_alike, report_alike}
 use Rattle.omi_frame.proofs.Statuses.{DidMore, DoesMore, IsDoneStatus, one_content, comes_where, never_refused as nothing_refused, written_more}
 
 -- the core's file has a report
@@ -253,3 +253,22 @@ module _ (core : List ℕ) (told : List ℕ → Told) (old new : Told) (counted 
       → IsLeft (verb_of (Show core)) told s old new counted out after → IsShown run.state (thread_ids p.threads) s out after
   shown_again s bytes is p plan text run =
       shown_reached s bytes is p (thread_ids p.threads) run.state (stopped_reached p plan bytes text run)
+
+  -- what is left keeps the promise
+  pub kept : (s : Status) → (AreTold (Show core) told → IsLeft (verb_of (Show core)) told s old new counted out after)
+      → ShowPromise core s told out after
+  kept s left = record {
+    no_file = λ content is. no_file s content is (left (content, is));
+    core_fault = λ bytes is. core_refused s bytes is (left (Some bytes, is));
+    incompatible = λ bytes is. incompatible s bytes is (left (Some bytes, is));
+    damaged = λ bytes is. damaged s bytes is (left (Some bytes, is));
+    accepts = λ bytes text is report_is. shows s bytes text is report_is (left (Some bytes, is));
+    success = λ bytes is done. report_put s bytes is done (left (Some bytes, is));
+    shown = λ bytes is image spelled state shows. shown bytes is image spelled state shows s (left (Some bytes, is));
+    shown_again = λ bytes is p plan text run. shown_again s bytes is p plan text run (left (Some bytes, is));
+    shown_reached = λ bytes is p ids state reached. shown_reached s bytes is p ids state reached (left (Some bytes, is));
+    alike = λ bytes is other text alike reported.
+        put_report bytes is text (report_alike other bytes alike text reported) s (left (Some bytes, is));
+    recoded = λ bytes is order other text recoded_from reported.
+        put_report bytes is text (report_alike other bytes (recoded_alike order other bytes recoded_from) text reported) s (left (Some bytes, is));
+  }

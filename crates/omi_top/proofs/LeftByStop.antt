@@ -9,15 +9,15 @@ use Rattle.omi_script.specs.declared.fault.ScriptFault.{ScriptFault}
 use Rattle.omi_script.specs.declared.program.Program.{Program}
 use Rattle.omi_frame.specs.declared.refusal.Refusal.{Refusal}
 use Rattle.omi_frame.specs.Verb.{Answer, Gives}
-use Rattle.omi_top.specs.Answer.{IsAnswer, IsStopAnswer, IsStopped, verb_of}
-use Rattle.omi_frame.specs.Statuses.{IsDoneOrFailed}
+use Rattle.omi_top.specs.Answer.{AreTold, IsAnswer, IsStopAnswer, IsStopped, verb_of}
+use Rattle.omi_frame.specs.Statuses.{IsDoneOrFailed, IsFaultStatus, ComesWhere}
 use Rattle.omi_frame.specs.Left.{IsLeft}
 use Rattle.omi_frame.specs.Scripts.{IsScriptRefusal, HoldsProgram}
-use Rattle.omi_frame.specs.Statuses.{IsFaultStatus, ComesWhere}
 use Rattle.omi_top.specs.Command.{Stop}
 use Rattle.omi_top.specs.declared.plan.Plan.{Plan}
 use Rattle.omi_frame.specs.Refusal.{status_of}
 use Rattle.omi_frame.proofs.Statuses.{DidMore, DoesMore, IsDoneStatus, one_content, comes_where, never_refused, written_more}
+use Rattle.omi_top.specs.promises.Stop.{StopPromise}
 
 -- the text has a fault
 abbrev HasFault : List ℕ → Type 0
@@ -131,3 +131,13 @@ module _ (plan : Plan) (script core : List ℕ) (told : List ℕ → Told) (old 
           absurd (stop_answer plan script core told (Some bytes) is (Gives None (Ok text)) answer)
       go (Some written, text, answer, held, put) =
           let (p, grammar, stopped) = stop_answer plan script core told (Some bytes) is (Gives (Some written) (Ok text)) answer in (p, written, text, grammar, stopped, held, put)
+
+  -- what is left keeps the promise
+  pub kept : (s : Status) → (AreTold (Stop plan script core) told → IsLeft (verb_of (Stop plan script core)) told s old new counted out after)
+      → StopPromise plan script core s told old new out after
+  kept s left = record {
+    no_file = λ content is. no_file s content is (left (content, is));
+    script_fault = λ bytes is. script_refused s bytes is (left (Some bytes, is));
+    accepts = λ bytes is p grammar. stops s bytes is p grammar (left (Some bytes, is));
+    success = λ bytes is done. success s bytes is done (left (Some bytes, is));
+  }

@@ -1,6 +1,6 @@
 -- What a command is to answer, by what is told of the file that it reads, and what a call leaves.
 use Rattle.std.specs.Prelude.{◌≡◌, ◌⊎◌, ◌++◌, ℕ, List, length, Option, Some, None, Result, Ok, Err, ⊤}
-use Rattle.omi_outside.specs.Outside.{Told, put_on}
+use Rattle.omi_outside.specs.Outside.{Told}
 use Rattle.omi_outside.specs.declared.status.Status.{Status}
 use Rattle.omi_outside.specs.declared.status.Status.TheVariants as status
 use Rattle.omi_corefile.specs.Spelling.{core_bytes}
@@ -9,7 +9,6 @@ use Rattle.omi_layout.specs.Valid.{IsValid}
 use Rattle.omi_script.specs.Grammar.{Grammar}
 use Rattle.omi_script.specs.declared.program.Program.{Program}
 use Rattle.omi_model.specs.State.{State}
-use Rattle.omi_model.specs.Views.{IsViewOf}
 use Rattle.omi_model.specs.declared.view.View.{View}
 use Rattle.omi_core.specs.declared.entry.Entry.{Entry}
 use Rattle.omi_core.specs.declared.stop.End.{End}
@@ -20,7 +19,6 @@ use Rattle.omi_top.specs.Command.{Command, Stop, Make, Show, Run, Recode, Elf, A
 use Rattle.omi_text.specs.Report.{report}
 use Rattle.omi_verbs.specs.Cores.{IsCoreOf, thread_ids}
 use Rattle.omi_audit.specs.declared.verdict.Verdict.{Verdict}
-use Rattle.omi_audit.specs.declared.verdict.Verdict.TheVariants.{Yes}
 use Rattle.omi_top.specs.Cores.{IsLooked, Spells}
 use Rattle.omi_top.specs.Questions.{IsCoreRefusal, IsLayoutRefusal}
 use Rattle.omi_top.specs.Shown.{IsRefusedCore}
@@ -32,7 +30,6 @@ use Rattle.omi_top.specs.Elf.{IsElfCopy}
 use Rattle.omi_top.specs.Files.{IsFileRefusal}
 use Rattle.omi_top.specs.Recode.{IsRecodedCopy}
 use Rattle.omi_frame.specs.Scripts.{IsScriptRefusal}
-use Rattle.omi_frame.specs.Statuses.{IsOutsideStatus}
 use Rattle.omi_frame.specs.Verb.{Answer, Gives, Verb}
 use Rattle.omi_top.specs.Run.{IsRun}
 use Rattle.omi_top.specs.declared.plan.Plan.{Plan}
@@ -211,64 +208,3 @@ verb_of command = record {
   refuses_core = λ s. RefusesCore command s;
   wrote_nothing = λ s. IsUnwritten command s;
 }
-
--- all is done, or a write failed or memory ran out
-abbrev pub IsWritingStatus : Status → Type 0
-IsWritingStatus status.Success = ⊤
-IsWritingStatus status.WriteFault = ⊤
-IsWritingStatus status.OutOfMemory = ⊤
-IsWritingStatus other = ⊥
-
--- a status comes exactly where a fact holds of what is read back, but for a fault of reading or of writing and for want of memory
-abbrev pub ComesBehind : Status → Status → Type 0 → Type 0
-ComesBehind status result fact = (result ≡ status → fact)
-    × (fact → (result ≡ status) ⊎ IsOutsideStatus result)
-
--- the core of the run was written, where the script is a program: a report was put, or what was read back was refused
-abbrev pub IsReadBackStatus : Status → Type 0
-IsReadBackStatus status.Success = ⊤
-IsReadBackStatus status.NoFile = ⊤
-IsReadBackStatus status.Core = ⊤
-IsReadBackStatus status.Damaged = ⊤
-IsReadBackStatus status.Incompatible = ⊤
-IsReadBackStatus other = ⊥
-
--- what `show` makes of a core whose words show a state: it puts the report of the state for these contexts, unless a file or the output
--- fails or memory runs out
-abbrev pub IsShown : State → List ℕ → Status → Option (List ℕ) → Option (List ℕ) → Type 0
-IsShown s contexts status.Success out after = (v : View) × IsViewOf s contexts v
-    × (after ≡ put_on out (report v))
-IsShown s contexts status.ReadFault out after = ⊤
-IsShown s contexts status.WriteFault out after = ⊤
-IsShown s contexts status.OutOfMemory out after = ⊤
-IsShown s contexts other out after = ⊥
-
--- what `show` makes of a core that has a report: it puts this report, unless a file or the output fails or memory runs out
-abbrev pub IsReported : List ℕ → Status → Option (List ℕ) → Option (List ℕ) → Type 0
-IsReported text status.Success out after = after ≡ put_on out text
-IsReported text status.ReadFault out after = ⊤
-IsReported text status.WriteFault out after = ⊤
-IsReported text status.OutOfMemory out after = ⊤
-IsReported text other out after = ⊥
-
--- what `audit` makes of a core whose words show a state that events of a program reach: the verdict is Yes, unless a file or the output fails or
--- memory runs out
-abbrev pub IsApproved : Status → Option (List ℕ) → Option (List ℕ) → Type 0
-IsApproved status.Success out after = (records : ℕ) × (after ≡ put_on out (audit_line (Yes records)))
-IsApproved status.ReadFault out after = ⊤
-IsApproved status.WriteFault out after = ⊤
-IsApproved status.OutOfMemory out after = ⊤
-IsApproved other out after = ⊥
-
--- what `run` makes of a script where it reads back the core that it left: the lines of a run of its program and the report of the state
--- that the run's events reach. The core is never refused
-abbrev pub IsRunShown : List ℕ → Plan → List ℕ → Status → Option (List ℕ) → Option (List ℕ) → Type 0
-IsRunShown script plan core status.Success out after =
-    (p : Program) × (lines : List ℕ) × Grammar script p × (run : IsStopped p plan core lines)
-    × (v : View) × IsViewOf run.state (thread_ids p.threads) v
-    × (after ≡ put_on out (lines ++ report v))
-IsRunShown script plan core status.NoFile out after = ⊥
-IsRunShown script plan core status.Core out after = ⊥
-IsRunShown script plan core status.Damaged out after = ⊥
-IsRunShown script plan core status.Incompatible out after = ⊥
-IsRunShown script plan core other out after = ⊤

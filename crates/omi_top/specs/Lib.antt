@@ -19,6 +19,7 @@ pub mod Elf
 pub mod Between
 pub mod Determined
 pub mod Recoded
+pub mod promises
 -- What private functions of the code stand on: a request as a command; what stays of the files; what the
 -- commands share that write a copy; and a run that was made
 pub mod Asked

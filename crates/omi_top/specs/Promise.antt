@@ -1,6 +1,6 @@
--- The promise of the whole, alone: what `run` puts is the events of a run of the script's program, each legal in the state that those
--- before it reach, how the run ended, and the report of the state that all of them reach.
-use Rattle.std.specs.Prelude.{◌≡◌, ◌≤◌, ◌++◌, ℕ, List}
+-- The promise of the whole, alone: what `run` puts is the events of a run of the script's program, each by the thread whose turn it was and legal
+-- in the state that those before it reach, how the run ended, and the report of the state that all of them reach.
+use Rattle.std.specs.Prelude.{◌≡◌, ◌⊎◌, ◌≤◌, ◌+◌, ◌++◌, ℕ, List, [], ◌∷◌}
 use Rattle.omi_script.specs.Grammar.{Grammar}
 use Rattle.omi_script.specs.declared.program.Program.{Program}
 use Rattle.omi_model.specs.declared.event.Event.{Event}
@@ -11,10 +11,20 @@ use Rattle.omi_model.specs.Views.{IsViewOf}
 use Rattle.omi_core.specs.declared.stop.End.{End}
 use Rattle.omi_core.specs.Ends.{IsEnded}
 use Rattle.omi_core.specs.Runs.{events_in}
+use Rattle.omi_core.specs.Schedules.{threads_by}
 use Rattle.omi_text.specs.Report.{report}
 use Rattle.omi_verbs.specs.Cores.{thread_ids}
 use Rattle.omi_top.specs.declared.plan.Plan.{Plan}
 use Rattle.omi_top.specs.Lines.{run_text}
+use Rattle.omi_top.specs.Run.{thread_schedule}
+
+-- Events, each with the number of its step and its thread, come in the turns of these threads, where the first turn is the step with this number: in
+-- each turn its thread commits one event or none. So their numbers rise, and none is above that of the last turn
+abbrev pub ComeInTurns : ℕ → List ℕ → List (ℕ × ℕ × Event) → Type 0
+ComeInTurns step [] events = events ≡ []
+ComeInTurns step (thread ∷ turns) events = ComeInTurns (step + 1) turns events
+    ⊎ ((e : Event) × (later : List (ℕ × ℕ × Event)) × (events ≡ (step, thread, e) ∷ later)
+    × ComeInTurns (step + 1) turns later)
 
 pub record IsPromised (script : List ℕ) (plan : Plan) (put : List ℕ) : Type 0 where
   -- the script is the text of a program
@@ -30,6 +40,8 @@ pub record IsPromised (script : List ℕ) (plan : Plan) (put : List ℕ) : Type 
   pub end : End
   pub few : steps ≤ plan.stop.steps
   pub ended : IsEnded plan.stop steps steps events end
+  -- the events came in the turns that the plan gives to the program's threads, in turn or by its seed
+  pub turns : ComeInTurns 1 (threads_by (thread_schedule plan.seed) program.threads steps) events
   -- this is what a tool may be shown of the state, for all threads
   pub view : View
   pub of_state : IsViewOf state (thread_ids program.threads) view
