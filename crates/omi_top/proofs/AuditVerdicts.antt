@@ -5,7 +5,8 @@ use Rattle.omi_outside.specs.declared.status.Status.{Status}
 use Rattle.omi_outside.specs.declared.status.Status.TheVariants as status
 use Rattle.omi_corefile.specs.declared.core_image.CoreImage.{CoreImage}
 use Rattle.omi_layout.proofs.OneAnswer.{not_both}
-use Rattle.omi_top.specs.Answer.{IsAuditRefusal, IsShowRefusal}
+use Rattle.omi_top.specs.verbs.Audit.{IsAuditRefusal}
+use Rattle.omi_top.specs.verbs.Show.{IsShowRefusal}
 use Rattle.omi_top.specs.Audit.{IsAudited}
 use Rattle.omi_top.specs.Cores.{HasLayout, HasWrongTable, IsIncompatible, IsWrongTable, LacksTable, Spells, words_of_core}
 use Rattle.omi_top.specs.Questions.{IsLayoutRefusal, refusal_of_layout}

@@ -19,7 +19,7 @@ use Rattle.omi_verbs.specs.Inquiries.{ComesOfWords}
 use Rattle.omi_frame.specs.Refusal.{IsReadFault, IsUnread}
 use Rattle.omi_frame.specs.declared.refusal.Input.TheVariants as input
 use Rattle.omi_frame.specs.declared.refusal.Refusal.{Refusal}
-use Rattle.omi_top.specs.Answer.{verb_of}
+use Rattle.omi_top.specs.CommandVerbs.{verb_of}
 
 -- a core over which there is no session has no verdict
 pub unopened_judged : (core : CoreImage) (r : Refusal) → IsUnopened core r → IsJudged core (Err r)

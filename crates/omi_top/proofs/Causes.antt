@@ -9,17 +9,16 @@ use Rattle.omi_frame.specs.Statuses.{IsOfCore, IsPrinting}
 use Rattle.omi_frame.proofs.Elsewhere.{late_not_of_core}
 use Rattle.omi_frame.specs.declared.refusal.Refusal.{Refusal}
 use Rattle.omi_frame.specs.declared.refusal.Refusal.TheVariants as refusal
-use Rattle.omi_top.specs.Answer.{IsUnwritten}
-use Rattle.omi_top.specs.Command.{Command}
+use Rattle.omi_top.specs.Kinds.{IsUnwrittenBy}
 
 -- a text that was printed, whole or in part, comes behind all that is written
-pub printing_writes : (command : Command) (s : Status) → IsPrinting s → IsUnwritten command s → ⊥
-printing_writes command s (inl e) unwritten =
-    let P : Status → Type 0 = λ x. IsUnwritten command x in subst P e unwritten
-printing_writes command s (inr (inl e)) unwritten =
-    let P : Status → Type 0 = λ x. IsUnwritten command x in subst P e unwritten
-printing_writes command s (inr (inr e)) unwritten =
-    let P : Status → Type 0 = λ x. IsUnwritten command x in subst P e unwritten
+pub printing_writes : (last : Type 0) (s : Status) → IsPrinting s → IsUnwrittenBy last s → ⊥
+printing_writes last s (inl e) unwritten =
+    let P : Status → Type 0 = λ x. IsUnwrittenBy last x in subst P e unwritten
+printing_writes last s (inr (inl e)) unwritten =
+    let P : Status → Type 0 = λ x. IsUnwrittenBy last x in subst P e unwritten
+printing_writes last s (inr (inr e)) unwritten =
+    let P : Status → Type 0 = λ x. IsUnwrittenBy last x in subst P e unwritten
 
 -- a fault of writing, or want of memory
 pub late_not_read : (result : Result (Vec ℕ) Refusal) → IfErr result IsLate → IsErrAnd result IsReadFault → ⊥
@@ -29,12 +28,12 @@ late_not_read (Err refusal.OutOfMemory) late read = read
 late_not_read (Err r) late read = late
 
 -- what a call wrote nothing of stays, whether it gave a text or a refusal
-pub unwritten_of : {C : Type 0} (command : Command) (result : Result (Vec ℕ) Refusal)
-    → IfErr result (λ r. IsUnwritten command (status_of r) → C)
-    → (s : Status) → MayEndWith result s → IsUnwritten command s → C
-unwritten_of command (Ok text) stays s ends unwritten = absurd (printing_writes command s ends unwritten)
-unwritten_of command (Err r) stays s ends unwritten =
-    stays (let P : Status → Type 0 = λ x. IsUnwritten command x in subst P ends unwritten)
+pub unwritten_of : {C : Type 0} (last : Type 0) (result : Result (Vec ℕ) Refusal)
+    → IfErr result (λ r. IsUnwrittenBy last (status_of r) → C)
+    → (s : Status) → MayEndWith result s → IsUnwrittenBy last s → C
+unwritten_of last (Ok text) stays s ends unwritten = absurd (printing_writes last s ends unwritten)
+unwritten_of last (Err r) stays s ends unwritten =
+    stays (let P : Status → Type 0 = λ x. IsUnwrittenBy last x in subst P ends unwritten)
 
 pub late_not_usage_of : (result : Result (Vec ℕ) Refusal) → IfErr result IsLate → IsErrOf result refusal.Usage → ⊥
 late_not_usage_of (Ok text) late is = cc
@@ -46,11 +45,11 @@ pub late_not_core : (C : Type 0) (result : Result (Vec ℕ) Refusal) → IfErr r
 late_not_core C (Ok text) late = tt
 late_not_core C (Err r) late = λ is. absurd (late_not_of_core r late is)
 
-pub late_writes : {C : Type 0} (command : Command) (result : Result (Vec ℕ) Refusal) → IfErr result IsLate
-    → (s : Status) → MayEndWith result s → IsUnwritten command s → C
-late_writes command (Ok text) late s ends unwritten = absurd (printing_writes command s ends unwritten)
-late_writes command (Err refusal.WriteFault) late s ends unwritten =
-    absurd (let P : Status → Type 0 = λ x. IsUnwritten command x in subst P ends unwritten)
-late_writes command (Err refusal.OutOfMemory) late s ends unwritten =
-    absurd (let P : Status → Type 0 = λ x. IsUnwritten command x in subst P ends unwritten)
-late_writes command (Err r) late s ends unwritten = absurd late
+pub late_writes : {C : Type 0} (last : Type 0) (result : Result (Vec ℕ) Refusal) → IfErr result IsLate
+    → (s : Status) → MayEndWith result s → IsUnwrittenBy last s → C
+late_writes last (Ok text) late s ends unwritten = absurd (printing_writes last s ends unwritten)
+late_writes last (Err refusal.WriteFault) late s ends unwritten =
+    absurd (let P : Status → Type 0 = λ x. IsUnwrittenBy last x in subst P ends unwritten)
+late_writes last (Err refusal.OutOfMemory) late s ends unwritten =
+    absurd (let P : Status → Type 0 = λ x. IsUnwrittenBy last x in subst P ends unwritten)
+late_writes last (Err r) late s ends unwritten = absurd late

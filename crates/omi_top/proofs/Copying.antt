@@ -12,15 +12,12 @@ use Rattle.omi_corefile.specs.Spelling.{Core}
 use Rattle.omi_corefile.specs.declared.core_image.CoreImage.{CoreImage}
 use Rattle.omi_corefile.specs.declared.fault.CoreError.{CoreError}
 use Rattle.omi_corefile.specs.declared.fault.CoreError.TheVariants as error
-use Rattle.omi_frame.specs.Verb.{Gives}
-use Rattle.omi_top.specs.Answer.{IsAnswer, IsCopyAnswer, IsToWrite, verb_of}
+use Rattle.omi_frame.specs.Verb.{Gives, Verb}
 use Rattle.omi_frame.specs.Left.{IsAnswered, IsEarly}
-use Rattle.omi_top.specs.Command.{Command, Recode, Elf}
-use Rattle.omi_top.specs.Copy.{IsCopying, IsOfCoreFile}
-use Rattle.omi_top.specs.Elf.{IsElfCopy}
+use Rattle.omi_top.specs.verbs.Copy.{IsCopyAnswer, copy_verb}
+use Rattle.omi_top.specs.Copy.{IsOfCoreFile}
 use Rattle.omi_top.specs.Files.{Holds}
 use Rattle.omi_top.specs.Questions.{IsCoreRefusal}
-use Rattle.omi_top.specs.Recode.{IsRecodedCopy}
 use Rattle.omi_top.specs.declared.limits.TheConstants.{CORE_FRONT}
 use Rattle.omi_frame.specs.Refusal.{IsReadFault, IsUnread, refusal_of_core, refusal_of_write, status_of}
 use Rattle.omi_frame.specs.Statuses.{IsOfCore}
@@ -85,20 +82,22 @@ only_bytes r is of_core = absurd of_core
 
 -- ---- the answers
 
-module _ (command : Command) (core copy : List ℕ) (copies : List ℕ → List ℕ → List ℕ → Type 0)
-    (copying : IsCopying command core copy copies) (told : List ℕ → Told) where
-  early : (r : Refusal) (old : Told) → IsUnread input.Core r → IsAnswered (verb_of command) told (Err r) old old
+module _ (copies : List ℕ → List ℕ → List ℕ → Type 0) (core copy : List ℕ) (told : List ℕ → Told) where
+  abbrev verb : Verb
+  verb = copy_verb copies core copy
+
+  early : (r : Refusal) (old : Told) → IsUnread input.Core r → IsAnswered verb told (Err r) old old
   early r old (inl failed) =
-      inr (inl (subst (λ (x : Refusal). IsEarly (verb_of command) x) (sym failed) copying.reads, refl))
-  early r old (inr memory) = inr (inl (subst (λ (x : Refusal). IsEarly (verb_of command) x) (sym memory) tt, refl))
+      inr (inl (subst (λ (x : Refusal). IsEarly verb x) (sym failed) tt, refl))
+  early r old (inr memory) = inr (inl (subst (λ (x : Refusal). IsEarly verb x) (sym memory) tt, refl))
 
   -- memory ran out before anything was written
-  pub no_memory : (old : Told) → IsAnswered (verb_of command) told (Err refusal.OutOfMemory) old old
+  pub no_memory : (old : Told) → IsAnswered verb told (Err refusal.OutOfMemory) old old
   no_memory old = inr (inl (tt, refl))
 
   module _ (content : Option (List ℕ)) (is : told core ≡ Some content) where
-    refusal_answer : (r : Refusal) → IsCoreRefusal content r → IsAnswer command told (Gives None (Err r))
-    refusal_answer r refuses = copying.answers told content (Gives None (Err r)) is (go content refuses)
+    refusal_answer : (r : Refusal) → IsCoreRefusal content r → verb.answers told (Gives None (Err r))
+    refusal_answer r refuses = (content, is, go content refuses)
       where
         go : (c : Option (List ℕ)) → IsCoreRefusal c r → IsCopyAnswer copies c (Gives None (Err r))
         go None refuses = refuses
@@ -106,57 +105,29 @@ module _ (command : Command) (core copy : List ℕ) (copies : List ℕ → List 
 
     -- the core is refused, can't be read, or memory ran out
     pub refused_answered : (r : Refusal) (old : Told) → IsCoreRefusal content r ⊎ IsUnread input.Core r
-        → IsAnswered (verb_of command) told (Err r) old old
+        → IsAnswered verb told (Err r) old old
     refused_answered r old (inl refuses) = inl (None, refusal_answer r refuses, refl)
     refused_answered r old (inr unread) = early r old unread
 
     module _ (image : CoreImage) (holds : Holds false content image) (written line : List ℕ)
         (copied : (bytes : List ℕ) → Core bytes image → copies bytes written line) where
-      answer : IsAnswer command told (Gives (Some written) (Ok line))
-      answer = copying.answers told content (Gives (Some written) (Ok line)) is (go content holds)
+      answer : verb.answers told (Gives (Some written) (Ok line))
+      answer = (content, is, go content holds)
         where
           go : (c : Option (List ℕ)) → Holds false c image → IsCopyAnswer copies c (Gives (Some written) (Ok line))
           go None nothing = absurd nothing
           go (Some bytes) spelled = copied bytes spelled
 
-      to_write : IsToWrite command told written
-      to_write = (
-        Ok line,
-        subst (λ (k : Command). IsAnswer k told (Gives (Some written) (Ok line))) (sym copying.alone) answer,
-      )
-
       -- the copy is partly written
       pub partly_answered : (r : RefusedWrite) (old new : Told) → IsCut old new written
-          → IsAnswered (verb_of command) told (Err (refusal_of_write r)) old new
-      partly_answered r old new cut = inr (inr (inl (late r, (written, to_write, cut))))
+          → IsAnswered verb told (Err (refusal_of_write r)) old new
+      partly_answered r old new cut = inr (inr (inl (late r, (written, (Ok line, answer), cut))))
 
       -- the copy is written, and the line is handed up
       pub done_answered : (v : Vec ℕ) (old new : Told) → v.items ≡ line → new ≡ holding old written
-          → IsAnswered (verb_of command) told (Ok v) old new
+          → IsAnswered verb told (Ok v) old new
       done_answered v old new same held = (
         Some written,
-        subst (λ (x : List ℕ). IsAnswer command told (Gives (Some written) (Ok x))) (sym same) answer,
+        subst (λ (x : List ℕ). verb.answers told (Gives (Some written) (Ok x))) (sym same) answer,
         held,
       )
-
--- ---- the commands that do so
-
-pub recode_copying : (order : ℕ) (core copy : List ℕ) → IsCopying (Recode order core copy) core copy (IsRecodedCopy order)
-recode_copying order core copy = record {
-  told = λ told is. is;
-  answers = λ told content answer is said. (content, is, said);
-  reads = tt;
-  alone = refl;
-  writes = refl;
-  refuses = λ is. is;
-}
-
-pub elf_copying : (core copy : List ℕ) → IsCopying (Elf core copy) core copy IsElfCopy
-elf_copying core copy = record {
-  told = λ told is. is;
-  answers = λ told content answer is said. (content, is, said);
-  reads = tt;
-  alone = refl;
-  writes = refl;
-  refuses = λ is. is;
-}

@@ -8,7 +8,7 @@ use Rattle.omi_rep.specs.LookView.{look_view}
 use Rattle.omi_rep.specs.declared.fault.LookFault.{LookFault}
 use Rattle.omi_walk.specs.Kept.{task_names}
 use Rattle.omi_frame.specs.Verb.{Gives}
-use Rattle.omi_top.specs.Answer.{IsFollowAnswer, IsFollowRefusal}
+use Rattle.omi_top.specs.verbs.Follow.{IsFollowAnswer, IsFollowRefusal}
 use Rattle.omi_top.specs.Cores.{IsLooked, words_of_core}
 use Rattle.omi_top.specs.Follow.{AreUnlike, IsFollowed, IsLaterRefusal, IsUnfollowed}
 use Rattle.omi_verbs.specs.Fates.{look_fates}

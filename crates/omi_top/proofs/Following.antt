@@ -47,7 +47,7 @@ use Rattle.omi_walk.specs.Kept.{Keeps, look_names, names_kept, task_names}
 use Rattle.omi_walk.specs.declared.fault.WalkFault.{WalkFault}
 use Rattle.omi_walk.specs.declared.fault.WalkFault.TheVariants as walk
 use Rattle.omi_word.specs.Words.{Words}
-use Rattle.omi_top.specs.Answer.{verb_of}
+use Rattle.omi_top.specs.CommandVerbs.{verb_of}
 
 -- ---- the tasks of the first core
 

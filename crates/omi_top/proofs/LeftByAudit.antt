@@ -10,7 +10,6 @@ use Rattle.omi_corefile.specs.declared.core_image.CoreImage.{CoreImage}
 use Rattle.omi_layout.proofs.OneAnswer.{one_layout}
 use Rattle.omi_rep.specs.Shows.{Shows}
 use Rattle.omi_frame.specs.Verb.{Answer, Gives}
-use Rattle.omi_top.specs.Answer.{AreTold, IsAnswer, IsAuditAnswer, IsAuditRefusal, verb_of}
 use Rattle.omi_frame.specs.Statuses.{IsDoneOrFailed, ComesWhere, IsFaultStatus}
 use Rattle.omi_frame.specs.Left.{IsLeft, IsRefused}
 use Rattle.omi_top.specs.Audit.{IsAudited, ShowsWhereYes, audit_line}
@@ -23,7 +22,8 @@ use Rattle.omi_top.proofs.ShowVerdicts.{says_core, says_incompatible, says_missi
 use Rattle.omi_frame.proofs.Statuses.{DidMore, DoesMore, IsDoneStatus, one_content, comes_where, never_refused as nothing_refused, written_more}
 use Rattle.omi_frame.specs.Refusal.{status_of}
 use Rattle.omi_frame.specs.declared.refusal.Refusal.{Refusal}
-use Rattle.omi_top.specs.promises.Audit.{AuditPromise, IsApproved}
+use Rattle.omi_top.specs.CommandVerbs.{AreTold, IsAnswer, verb_of}
+use Rattle.omi_top.specs.verbs.Audit.{IsAuditAnswer, IsAuditRefusal, AuditPromise, IsApproved}
 
 -- the core in the file gives a layout
 abbrev GivesOne : Option (List ℕ) → Type 0

@@ -9,7 +9,6 @@ use Rattle.omi_model.specs.declared.view.View.{View}
 use Rattle.omi_script.specs.declared.program.Program.{Program}
 use Rattle.omi_walk.specs.Kept.{task_names}
 use Rattle.omi_frame.specs.Verb.{Answer, Gives}
-use Rattle.omi_top.specs.Answer.{AreTold, IsAnswer, IsFollowAnswer, IsFollowRefusal, IsStopped, verb_of}
 use Rattle.omi_frame.specs.Statuses.{IsDoneOrFailed, ComesWhere, IsFaultStatus}
 use Rattle.omi_frame.specs.Left.{IsLeft}
 use Rattle.omi_top.specs.Between.{AreOfOneRun, AreStops, IsFollowedFrom, events_between, fates_after}
@@ -24,7 +23,9 @@ use Rattle.omi_top.proofs.TwoStops.{by_runs, stops_of}
 use Rattle.omi_verbs.specs.Cores.{thread_ids}
 use Rattle.omi_frame.specs.Refusal.{status_of}
 use Rattle.omi_frame.specs.declared.refusal.Refusal.{Refusal}
-use Rattle.omi_top.specs.promises.Follow.{FollowPromise}
+use Rattle.omi_top.specs.CommandVerbs.{AreTold, IsAnswer, verb_of}
+use Rattle.omi_top.specs.verbs.Follow.{IsFollowAnswer, IsFollowRefusal, FollowPromise}
+use Rattle.omi_top.specs.verbs.Stop.{IsStopped}
 
 -- both files have an answer
 abbrev IsAnswered : Option (List ℕ) → Option (List ℕ) → Type 0

@@ -6,12 +6,12 @@ use Rattle.omi_outside.specs.declared.status.Status.TheVariants as status
 use Rattle.omi_script.specs.Grammar.{Grammar}
 use Rattle.omi_script.specs.declared.program.Program.{Program}
 use Rattle.omi_frame.specs.Verb.{Gives}
-use Rattle.omi_top.specs.Answer.{AreTold, IsMakeAnswer, verb_of}
 use Rattle.omi_frame.specs.Left.{IsLeft, IsRefused}
 use Rattle.omi_top.specs.Command.{Make}
 use Rattle.omi_top.specs.Make.{IsMade, make_text}
 use Rattle.omi_frame.specs.declared.refusal.Refusal.{Refusal}
-use Rattle.omi_top.specs.promises.Make.{IsWritingStatus, MakePromise}
+use Rattle.omi_top.specs.CommandVerbs.{AreTold, verb_of}
+use Rattle.omi_top.specs.verbs.Make.{IsMakeAnswer, IsWritingStatus, MakePromise}
 
 -- it is refused nothing
 never_refused : (n : ℕ) (written : Option (List ℕ)) (r : Refusal) → IsMakeAnswer n (Gives written (Err r)) → ⊥

@@ -11,7 +11,6 @@ use Rattle.omi_script.specs.declared.fault.ScriptFault.{ScriptFault}
 use Rattle.omi_script.specs.declared.program.Program.{Program}
 use Rattle.omi_script.proofs.VerdictLemmas.{not_both}
 use Rattle.omi_frame.specs.Verb.{Answer, Gives}
-use Rattle.omi_top.specs.Answer.{AreTold, IsAnswer, IsReportOf, IsRunAnswer, IsShowAnswer, IsShowRefusal, IsStopAnswer, IsStopped, verb_of}
 use Rattle.omi_frame.specs.Statuses.{IsDoneOrFailed, IsOutsideStatus, ComesWhere}
 use Rattle.omi_frame.specs.Left.{IsLeft, IsRefused}
 use Rattle.omi_frame.specs.Scripts.{HoldsProgram, IsScriptRefusal}
@@ -25,7 +24,10 @@ use Rattle.omi_top.specs.Files.{HasFault}
 use Rattle.omi_top.proofs.Files.{core_is_file, file_unique}
 use Rattle.omi_top.proofs.ShowVerdicts.{Refusing, all_refusing, damaged as damaged_refused, faulty, incompatible as incompatible_refused, kinds, missing, report_not_refused, says_core, says_damaged, says_incompatible, says_missing}
 use Rattle.omi_frame.proofs.Statuses.{DidMore, DoesMore, SaysWith, comes_where, never_refused as nothing_refused, one_content}
-use Rattle.omi_top.specs.promises.Run.{ComesBehind, IsReadBackStatus, IsRunShown, RunPromise}
+use Rattle.omi_top.specs.CommandVerbs.{AreTold, IsAnswer, verb_of}
+use Rattle.omi_top.specs.verbs.Run.{IsRunAnswer, ComesBehind, IsReadBackStatus, IsRunShown, RunPromise}
+use Rattle.omi_top.specs.verbs.Show.{IsReportOf, IsShowAnswer, IsShowRefusal}
+use Rattle.omi_top.specs.verbs.Stop.{IsStopAnswer, IsStopped}
 
 -- the script has a fault
 abbrev HasScriptFault : List ℕ → Type 0

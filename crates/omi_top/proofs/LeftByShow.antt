@@ -17,7 +17,6 @@ use Rattle.omi_model.specs.declared.view.View.{View}
 use Rattle.omi_frame.specs.declared.refusal.Refusal.{Refusal}
 use Rattle.omi_top.specs.declared.plan.Plan.{Plan}
 use Rattle.omi_frame.specs.Verb.{Answer, Gives}
-use Rattle.omi_top.specs.Answer.{AreTold, IsAnswer, IsReportOf, IsShowAnswer, IsShowRefusal, IsStopped, verb_of}
 use Rattle.omi_frame.specs.Left.{IsLeft, IsRefused}
 use Rattle.omi_frame.specs.Statuses.{ComesWhere, IsDoneOrFailed, IsFaultStatus}
 use Rattle.omi_top.specs.Command.{Show}
@@ -27,7 +26,9 @@ use Rattle.omi_verbs.specs.Cores.{IsReachedCore, thread_ids}
 use Rattle.omi_verbs.proofs.ImageWords.{image_words}
 use Rattle.omi_rep.proofs.shown.ShownViews.{shown_looked as shown_look}
 use Rattle.omi_top.specs.Files.{HasFault, IsFileOf}
-use Rattle.omi_top.specs.promises.Show.{IsReported, IsShown, ShowPromise}
+use Rattle.omi_top.specs.CommandVerbs.{AreTold, IsAnswer, verb_of}
+use Rattle.omi_top.specs.verbs.Show.{IsReportOf, IsShowAnswer, IsShowRefusal, IsReported, IsShown, ShowPromise}
+use Rattle.omi_top.specs.verbs.Stop.{IsStopped}
 use Rattle.omi_top.proofs.Files.{core_is_file, file_unique}
 use Rattle.omi_top.proofs.ShowVerdicts.{Refusing, all_refusing, damaged as damaged_refused, faulty, incompatible as incompatible_refused, missing, one_looked, one_view, report_not_refused, says_core, says_damaged, says_incompatible, says_missing}
 use Rattle.omi_top.proofs.Recoded.{one_report, recoded_alike, report_alike}

@@ -9,7 +9,6 @@ use Rattle.omi_script.specs.declared.fault.ScriptFault.{ScriptFault}
 use Rattle.omi_script.specs.declared.program.Program.{Program}
 use Rattle.omi_frame.specs.declared.refusal.Refusal.{Refusal}
 use Rattle.omi_frame.specs.Verb.{Answer, Gives}
-use Rattle.omi_top.specs.Answer.{AreTold, IsAnswer, IsStopAnswer, IsStopped, verb_of}
 use Rattle.omi_frame.specs.Statuses.{IsDoneOrFailed, IsFaultStatus, ComesWhere}
 use Rattle.omi_frame.specs.Left.{IsLeft}
 use Rattle.omi_frame.specs.Scripts.{IsScriptRefusal, HoldsProgram}
@@ -17,7 +16,8 @@ use Rattle.omi_top.specs.Command.{Stop}
 use Rattle.omi_top.specs.declared.plan.Plan.{Plan}
 use Rattle.omi_frame.specs.Refusal.{status_of}
 use Rattle.omi_frame.proofs.Statuses.{DidMore, DoesMore, IsDoneStatus, one_content, comes_where, never_refused, written_more}
-use Rattle.omi_top.specs.promises.Stop.{StopPromise}
+use Rattle.omi_top.specs.CommandVerbs.{AreTold, IsAnswer, verb_of}
+use Rattle.omi_top.specs.verbs.Stop.{IsStopAnswer, IsStopped, StopPromise}
 
 -- the text has a fault
 abbrev HasFault : List ℕ → Type 0

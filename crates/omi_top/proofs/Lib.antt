@@ -6,7 +6,6 @@ pub mod Making
 pub mod Files
 pub mod Copying
 pub mod Causes
-pub mod Left
 pub mod LeftByStop
 pub mod LeftByMake
 pub mod LeftByCopy
@@ -27,3 +26,4 @@ pub mod LeftByFollow
 pub mod RunAnswers
 pub mod LeftByRun
 pub mod Promised
+pub mod EachCommand

@@ -9,9 +9,9 @@ use Rattle.omi_model.specs.declared.event.Event.{Event}
 use Rattle.omi_core.specs.declared.stop.Break.TheVariants.{TaskBegin}
 use Rattle.omi_core.specs.Ends.{count_of}
 use Rattle.omi_frame.specs.Verb.{Gives}
-use Rattle.omi_top.specs.Answer.{IsAnswer, verb_of}
 use Rattle.omi_frame.specs.Left.{IsAnswered}
 use Rattle.omi_top.specs.Command.{Make}
+use Rattle.omi_top.specs.CommandVerbs.{IsAnswer, verb_of}
 use Rattle.omi_top.specs.Make.{IsMade, made_line, make_plan, make_text}
 use Rattle.omi_core.specs.declared.stop.End.{End}
 use Rattle.omi_core.specs.Steps.{events_behind}

@@ -24,7 +24,7 @@ use Rattle.omi_core.specs.Steps.{events_behind, opening_watches}
 use Rattle.omi_core.proofs.Reaching.{reached_one}
 use Rattle.omi_verbs.specs.Cores.{thread_ids}
 use Rattle.omi_top.specs.declared.plan.Plan.{Plan}
-use Rattle.omi_top.specs.Answer.{IsStopped}
+use Rattle.omi_top.specs.verbs.Stop.{IsStopped}
 use Rattle.omi_top.specs.Determined.{IsOneRun, MakesAreDetermined, RunsAreDetermined, StopsAreDetermined}
 use Rattle.omi_top.specs.Lines.{run_text}
 use Rattle.omi_top.specs.Make.{IsMade, made_line, make_plan}

@@ -12,7 +12,7 @@ use Rattle.omi_core.specs.Steps.{events_behind, threads_of_steps}
 use Rattle.omi_text.specs.Report.{report}
 use Rattle.omi_top.specs.declared.plan.Plan.{Plan}
 use Rattle.omi_top.specs.Promise.{ComeInTurns, IsPromised}
-use Rattle.omi_top.specs.promises.Run.{IsRunShown}
+use Rattle.omi_top.specs.verbs.Run.{IsRunShown}
 
 -- the events of steps come in the turns of their threads, where those of all steps but the first do
 turn_and_later : (step thread : ℕ) (turns : List ℕ) (later : List (ℕ × ℕ × Event)) (o : Outcome)

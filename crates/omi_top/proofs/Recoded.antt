@@ -15,12 +15,12 @@ use Rattle.omi_rep.specs.LookView.{look_view}
 use Rattle.omi_text.specs.Report.{report}
 use Rattle.omi_word.specs.Words.{Words}
 use Rattle.omi_frame.specs.Verb.{Answer, Gives}
-use Rattle.omi_top.specs.Answer.{IsReportOf, IsShowAnswer, IsShowRefusal}
-use Rattle.omi_top.specs.Cores.{IsLooked, Spells, words_of_core}
+use Rattle.omi_top.specs.verbs.Show.{IsReportOf, IsShowAnswer, IsShowRefusal}
+use Rattle.omi_top.specs.Cores.{IsLooked, Spells, words_of_core, AreAlike}
 use Rattle.omi_top.specs.Elf.{IsElfCopy}
 use Rattle.omi_top.specs.Files.{IsFileOf}
 use Rattle.omi_top.specs.Recode.{IsRecoded}
-use Rattle.omi_top.specs.Recoded.{AreAlike, HaveOneAnswer}
+use Rattle.omi_top.specs.Recoded.{HaveOneAnswer}
 use Rattle.omi_top.proofs.Files.{core_is_file, elf_is_file, file_not_refused, file_unique}
 use Rattle.omi_top.specs.Shown.{IsRefusedCore}
 use Rattle.omi_top.proofs.ShowVerdicts.{one_looked, one_refusal, one_view, report_not_refused}

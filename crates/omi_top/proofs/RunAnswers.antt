@@ -5,8 +5,10 @@ use Rattle.std.specs.Prelude.{Result}
 use Rattle.omi_outside.specs.Outside.{Told}
 use Rattle.omi_frame.specs.Verb.{Gives}
 use Rattle.omi_frame.specs.Left.{IsAnswered, IsBehind, IsEarly, IsWritten}
-use Rattle.omi_top.specs.Answer.{IsShowAnswer, IsStopAnswer, IsUnwritten, verb_of}
 use Rattle.omi_top.specs.Command.{Run, Show, Stop}
+use Rattle.omi_top.specs.CommandVerbs.{IsUnwritten, verb_of}
+use Rattle.omi_top.specs.verbs.Show.{IsShowAnswer}
+use Rattle.omi_top.specs.verbs.Stop.{IsStopAnswer}
 use Rattle.omi_top.specs.declared.plan.Plan.{Plan}
 use Rattle.omi_outside.specs.declared.status.Status.{Status}
 use Rattle.omi_outside.specs.declared.status.Status.TheVariants as status

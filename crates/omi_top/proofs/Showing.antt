@@ -11,7 +11,7 @@ use Rattle.omi_top.specs.Shown.{IsViewed}
 use Rattle.omi_frame.specs.Refusal.{IsUnread}
 use Rattle.omi_frame.specs.declared.refusal.Input.TheVariants as input
 use Rattle.omi_frame.specs.declared.refusal.Refusal.{Refusal}
-use Rattle.omi_top.specs.Answer.{verb_of}
+use Rattle.omi_top.specs.CommandVerbs.{verb_of}
 
 module _ (name : List ℕ) (told : List ℕ → Told) (content : Option (List ℕ))
     (is : told name ≡ Some content) (old : Told) where

@@ -9,10 +9,12 @@ use Rattle.omi_corefile.specs.Spelling.{core_bytes}
 use Rattle.omi_model.specs.declared.event.Event.{Event}
 use Rattle.omi_core.specs.Steps.{events_behind}
 use Rattle.omi_frame.specs.Verb.{Gives}
-use Rattle.omi_top.specs.Answer.{IsAnswer, IsStopped, IsUnwritten, verb_of}
 use Rattle.omi_frame.specs.Left.{IsAnswered, IsEarly}
 use Rattle.omi_frame.specs.Scripts.{IsProgramIn, IsScriptRefusal}
-use Rattle.omi_top.specs.Command.{Command, Stop as StopCommand}
+use Rattle.omi_top.specs.Command.{Stop as StopCommand}
+use Rattle.omi_top.specs.Kinds.{IsUnwrittenBy}
+use Rattle.omi_top.specs.CommandVerbs.{IsAnswer, verb_of}
+use Rattle.omi_top.specs.verbs.Stop.{IsStopped}
 use Rattle.omi_verbs.specs.Cores.{IsCoreOf, thread_ids}
 use Rattle.omi_top.specs.Lines.{run_text}
 use Rattle.omi_core.specs.declared.stop.End.{End}
@@ -84,7 +86,7 @@ made_stopped p plan tells words steps why core text by bytes image lines =
     }
 
 -- a refused write is no refusal after which nothing was written
-pub never_unwritten : (command : Command) (r : RefusedWrite)
-    → IsUnwritten command (status_of (refusal_of_write r)) → ⊥
-never_unwritten command refused.Failed unwritten = unwritten
-never_unwritten command refused.OutOfMemory unwritten = unwritten
+pub never_unwritten : (last : Type 0) (r : RefusedWrite)
+    → IsUnwrittenBy last (status_of (refusal_of_write r)) → ⊥
+never_unwritten last refused.Failed unwritten = unwritten
+never_unwritten last refused.OutOfMemory unwritten = unwritten

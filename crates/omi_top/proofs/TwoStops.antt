@@ -17,7 +17,7 @@ use Rattle.omi_rep.specs.Shows.{Shows}
 use Rattle.omi_script.specs.declared.program.Program.{Program}
 use Rattle.omi_verbs.specs.Cores.{thread_ids}
 use Rattle.omi_word.specs.Words.{Words, words_of}
-use Rattle.omi_top.specs.Answer.{IsStopped}
+use Rattle.omi_top.specs.verbs.Stop.{IsStopped}
 use Rattle.omi_top.specs.Between.{AreOfOneRun, AreStops, IsFollowedFrom, events_between}
 use Rattle.omi_verbs.specs.Fates.{HasRecords}
 use Rattle.omi_top.specs.Run.{IsRun}

@@ -20,7 +20,7 @@ use Rattle.omi_rep.specs.Shows.{Shows}
 use Rattle.omi_rule_words.specs.Counts.{is_task}
 use Rattle.omi_script.specs.declared.program.Program.{Program}
 use Rattle.omi_walk.specs.Kept.{task_names}
-use Rattle.omi_top.specs.Answer.{IsStopped}
+use Rattle.omi_top.specs.verbs.Stop.{IsStopped}
 use Rattle.omi_top.specs.Cores.{words_of_core}
 use Rattle.omi_verbs.specs.Fates.{HasRecords, fate_line}
 use Rattle.omi_top.specs.declared.plan.Plan.{Plan}

@@ -1,5 +1,5 @@
 -- What a command line asks for.
-use Rattle.std.specs.Prelude.{◌≡◌, ◌||◌, ℕ, Bool, List, [], ◌∷◌, Option, Some, None, if◌then◌else◌, codes, bytes_eq, is_some, map, string_bytes, String, Vec, ⊤}
+use Rattle.std.specs.Prelude.{◌||◌, ℕ, Bool, List, [], ◌∷◌, Option, Some, None, if◌then◌else◌, codes, bytes_eq, is_some, map, string_bytes, String, Vec}
 use Rattle.std.specs.declared.alloc.Global.{Global}
 use Rattle.std.specs.Option.{option_map_or}
 use Rattle.omi_line.specs.Line.{split_of}
@@ -7,11 +7,6 @@ use Rattle.omi_line.specs.Number.{number_between}
 use Rattle.omi_line.specs.declared.line.Line.{Line}
 use Rattle.omi_top.specs.declared.limits.TheConstants.{MOST_NODES}
 use Rattle.omi_top.specs.declared.plan.Plan.{Plan}
-use Rattle.omi_outside.specs.declared.status.Status.{Status}
-use Rattle.omi_outside.specs.declared.status.Status.TheVariants as status
-use Rattle.omi_frame.specs.Refusal.{Named}
-use Rattle.omi_frame.specs.declared.refusal.Input.{Input}
-use Rattle.omi_frame.specs.declared.refusal.Input.TheVariants as input
 use Rattle.omi_top.specs.Plan.{plan_of}
 
 -- a command of the program, or words that are none
@@ -103,81 +98,3 @@ command_of words = command_by (split_of words)
 -- the command that the words behind the program's name ask for
 abbrev pub command_in : Vec (String Global) Global → Command
 command_in words = command_of (map string_bytes words.items)
-
--- a command reads this before it writes
-abbrev pub ReadsFirst : Command → Input → Type 0
-ReadsFirst (Stop plan script core) input.Script = ⊤
-ReadsFirst (Show core) input.Core = ⊤
-ReadsFirst (Run plan script core) input.Script = ⊤
-ReadsFirst (Recode order core copy) input.Core = ⊤
-ReadsFirst (Elf core copy) input.Core = ⊤
-ReadsFirst (Audit core) input.Core = ⊤
-ReadsFirst (Follow core later) input.Core = ⊤
-ReadsFirst (Follow core later) input.Later = ⊤
-ReadsFirst command read = ⊥
-
--- a command reads this after it wrote
-abbrev pub ReadsBack : Command → Input → Type 0
-ReadsBack (Run plan script core) input.Core = ⊤
-ReadsBack command read = ⊥
-
--- a command writes after all that it reads
-abbrev pub WritesLast : Command → Type 0
-WritesLast (Run plan script core) = ⊥
-WritesLast command = ⊤
-
--- a command may refuse a core with this status: one that looks at its words for any cause, and one that writes a copy for its bytes alone
-abbrev pub RefusesCore : Command → Status → Type 0
-RefusesCore (Show core) s = ⊤
-RefusesCore (Run plan script core) s = ⊤
-RefusesCore (Recode order core copy) s = s ≡ status.Core
-RefusesCore (Elf core copy) s = s ≡ status.Core
-RefusesCore (Audit core) s = ⊤
-RefusesCore (Follow core later) s = ⊤
-RefusesCore command s = ⊥
-
--- the names that a command gives to a script, to a core and to a later core, which are empty where it gives none
-abbrev pub script_name : Command → List ℕ
-script_name (Stop plan script core) = script
-script_name (Make n script) = script
-script_name (Show core) = []
-script_name (Run plan script core) = script
-script_name (Recode order core copy) = []
-script_name (Elf core copy) = []
-script_name (Audit core) = []
-script_name (Follow core later) = []
-script_name Faulty = []
-
-abbrev pub core_name : Command → List ℕ
-core_name (Stop plan script core) = core
-core_name (Make n script) = []
-core_name (Show core) = core
-core_name (Run plan script core) = core
-core_name (Recode order core copy) = core
-core_name (Elf core copy) = core
-core_name (Audit core) = core
-core_name (Follow core later) = core
-core_name Faulty = []
-
-abbrev pub later_name : Command → List ℕ
-later_name (Follow core later) = later
-later_name command = []
-
-abbrev pub names_of : Command → Named
-names_of command = record {
-  script = script_name command;
-  core = core_name command;
-  later = later_name command;
-}
-
--- the name of the file that a command writes, if it writes one
-abbrev pub written_file : Command → Option (List ℕ)
-written_file (Stop plan script core) = Some core
-written_file (Make n script) = Some script
-written_file (Show core) = None
-written_file (Run plan script core) = Some core
-written_file (Recode order core copy) = Some copy
-written_file (Elf core copy) = Some copy
-written_file (Audit core) = None
-written_file (Follow core later) = None
-written_file Faulty = None

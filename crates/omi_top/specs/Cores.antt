@@ -81,3 +81,12 @@ HasLayout core = (w : List ℕ) × IsValid w × GivesLayout (words_of_core core)
 -- a file stands for a core of which this holds
 abbrev pub Spells : List ℕ → (CoreImage → Type 0) → Type 0
 Spells bytes holds = (core : CoreImage) × IsFileOf bytes core × holds core
+
+-- two files stand for cores with the same contexts and the same words, in whatever format and order
+pub record AreAlike (bytes other : List ℕ) : Type 0 where
+  pub core : CoreImage
+  pub is : IsFileOf bytes core
+  pub second : CoreImage
+  pub also : IsFileOf other second
+  pub contexts : second.contexts ≡ core.contexts
+  pub words : words_of_core second ≡ words_of_core core

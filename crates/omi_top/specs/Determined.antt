@@ -7,7 +7,8 @@ use Rattle.omi_layout.specs.Family.{IsFamily}
 use Rattle.omi_core.specs.declared.entry.Entry.{Entry}
 use Rattle.omi_core.specs.declared.stop.End.{End}
 use Rattle.omi_frame.specs.Verb.{Gives}
-use Rattle.omi_top.specs.Answer.{IsMakeAnswer, IsStopAnswer}
+use Rattle.omi_top.specs.verbs.Make.{IsMakeAnswer}
+use Rattle.omi_top.specs.verbs.Stop.{IsStopAnswer}
 use Rattle.omi_top.specs.Run.{IsRun}
 use Rattle.omi_top.specs.declared.plan.Plan.{Plan}
 

@@ -4,20 +4,10 @@ use Rattle.omi_corefile.specs.Spelling.{spelling}
 use Rattle.omi_corefile.specs.declared.core_image.CoreImage.{CoreImage}
 use Rattle.omi_elf.specs.ElfCore.{ElfCore}
 use Rattle.omi_frame.specs.Verb.{Answer}
-use Rattle.omi_top.specs.Answer.{IsShowAnswer}
-use Rattle.omi_top.specs.Cores.{words_of_core}
+use Rattle.omi_top.specs.verbs.Show.{IsShowAnswer}
 use Rattle.omi_top.specs.Elf.{IsElfCopy}
-use Rattle.omi_top.specs.Files.{IsFileOf}
+use Rattle.omi_top.specs.Cores.{AreAlike}
 use Rattle.omi_top.specs.Recode.{IsRecoded}
-
--- two files stand for cores with the same contexts and the same words, in whatever format and order
-pub record AreAlike (bytes other : List ℕ) : Type 0 where
-  pub core : CoreImage
-  pub is : IsFileOf bytes core
-  pub second : CoreImage
-  pub also : IsFileOf other second
-  pub contexts : second.contexts ≡ core.contexts
-  pub words : words_of_core second ≡ words_of_core core
 
 -- two files have the same answers of `show`: the same report, or the same refusal
 abbrev pub HaveOneAnswer : List ℕ → List ℕ → Type 0

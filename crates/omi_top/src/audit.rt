@@ -3,10 +3,10 @@
 ghost use Rattle.std.specs.Prelude.{◌≡◌, ◌≢◌, ◌≤◌, IfErr, IfOk, IsErrAnd, length, string_bytes};
 ghost use Rattle.omi_outside.specs.Outside.{HasCause, Told};
 ghost use Rattle.omi_outside.specs.declared.status.Status.TheVariants.{Script};
-ghost use Rattle.omi_top.specs.Answer.{AreTold, verb_of};
 ghost use Rattle.omi_frame.specs.Left.{IsAnswered};
 ghost use Rattle.omi_top.specs.Audit.{audit_line, judged, refusal_of_audit};
 ghost use Rattle.omi_top.specs.Command.{Audit};
+ghost use Rattle.omi_top.specs.CommandVerbs.{AreTold, verb_of};
 ghost use Rattle.omi_frame.specs.Refusal.{IsReadFault, status_of};
 
 use crate::opened::{has_valid_layout, opened};

@@ -4,8 +4,9 @@ ghost use Rattle.std.specs.Prelude.{◌≡◌, IfSome};
 ghost use Rattle.std.specs.List.{All};
 ghost use Rattle.std.specs.Str.{IsUtf8};
 ghost use Rattle.omi_line.specs.Line.{IsText};
-ghost use Rattle.omi_top.specs.Command.{audit_by, command_by, elf_by, follow_by, has_option, make_by, names_of, recode_by, run_by, show_by, stop_by, verb_by};
+ghost use Rattle.omi_top.specs.Command.{audit_by, command_by, elf_by, follow_by, has_option, make_by, recode_by, run_by, show_by, stop_by, verb_by};
 ghost use Rattle.omi_top.specs.Asked.{asked, IsBounded};
+ghost use Rattle.omi_top.specs.CommandVerbs.{verb_of};
 ghost use Rattle.omi_frame.specs.Refusal.{named};
 
 use crate::limits::MOST_NODES;
@@ -223,7 +224,7 @@ pub fn request_of(line: &Option<Line>) -> Request<'_>
 
 /// The names of files in a request.
 pub fn names_of(request: Request<'_>) -> Names<'_>
-    ensures { named result ≡ names_of (asked request.entry) }
+    ensures { named result ≡ (verb_of (asked request.entry)).names }
 {
     let (script, core, later) = match request {
         Request::Stop { script, core, .. } | Request::Run { script, core, .. } => {

@@ -4,10 +4,9 @@ ghost use Rattle.std.specs.Prelude.{◌≡◌, ◌≢◌, ◌⊎◌, false, List
 ghost use Rattle.omi_corefile.specs.Spelling.{Core};
 ghost use Rattle.omi_outside.specs.Outside.{HasCause};
 ghost use Rattle.omi_frame.specs.Concluded.{Performed};
-ghost use Rattle.omi_top.specs.Answer.{verb_of};
 ghost use Rattle.omi_top.specs.Apart.{KeptApart};
-ghost use Rattle.omi_top.specs.Command.{Command};
-ghost use Rattle.omi_top.specs.Copy.{IsCopying, IsOfCoreFile};
+ghost use Rattle.omi_top.specs.verbs.Copy.{copy_verb};
+ghost use Rattle.omi_top.specs.Copy.{IsOfCoreFile};
 ghost use Rattle.omi_top.specs.Files.{Holds};
 ghost use Rattle.omi_top.specs.Questions.{IsCoreRefusal};
 ghost use Rattle.omi_frame.specs.Refusal.{IsReadFault, IsUnread};
@@ -63,9 +62,7 @@ pub fn write_copy<F: Files, W: Files, C: Copying>(
     files: &mut F,
     dest: &mut W,
 ) -> Result<Vec<u8>, Refusal>
-    ensures performed { (command : Command)
-        → IsCopying command core.now copy.now (C.copies copying)
-        → Performed (verb_of command) result
+    ensures performed { Performed (copy_verb (C.copies copying) core.now copy.now) result
         (files_seen (F.told files.old) (F.reads files.old) (F.writes files.old))
         (files_seen (F.told files.new) (F.reads files.new) (F.writes files.new))
         (files_seen (W.told dest.old) (W.reads dest.old) (W.writes dest.old))

@@ -3,9 +3,9 @@
 ghost use Rattle.std.specs.Prelude.{◌≡◌, ◌≢◌, IfErr, IsErrAnd};
 ghost use Rattle.omi_outside.specs.Outside.{HasCause, Told};
 ghost use Rattle.omi_outside.specs.declared.status.Status.TheVariants.{Script};
-ghost use Rattle.omi_top.specs.Answer.{AreTold, verb_of};
 ghost use Rattle.omi_frame.specs.Left.{IsAnswered};
 ghost use Rattle.omi_top.specs.Command.{Follow};
+ghost use Rattle.omi_top.specs.CommandVerbs.{AreTold, verb_of};
 ghost use Rattle.omi_top.specs.Follow.{kept_in, of_later};
 ghost use Rattle.omi_frame.specs.Refusal.{IsReadFault, status_of};
 

@@ -11,7 +11,7 @@ ghost use Rattle.omi_frame.specs.Refusal.{IsLate};
 ghost use Rattle.omi_top.specs.Asked.{IsMadeText, IsNodes};
 ghost use Rattle.omi_top.specs.Command.{Make};
 ghost use Rattle.omi_top.specs.Make.{IsMade, made_line, make_text};
-ghost use Rattle.omi_top.specs.Answer.{verb_of};
+ghost use Rattle.omi_top.specs.CommandVerbs.{verb_of};
 
 use crate::limits::MOST_STEPS;
 use crate::lines::word_of;

@@ -3,9 +3,9 @@
 ghost use Rattle.std.specs.Prelude.{◌≡◌, ◌≢◌, ◌≤◌, IfOk, IfErr, string_bytes};
 ghost use Rattle.omi_outside.specs.declared.status.Status.TheVariants.{Core};
 ghost use Rattle.omi_frame.specs.Concluded.{Performed};
-ghost use Rattle.omi_top.specs.Answer.{verb_of};
 ghost use Rattle.omi_top.specs.Apart.{KeptApart};
 ghost use Rattle.omi_top.specs.Command.{Recode};
+ghost use Rattle.omi_top.specs.CommandVerbs.{verb_of};
 ghost use Rattle.omi_top.specs.Recode.{recoded_line};
 ghost use Rattle.omi_frame.specs.Refusal.{status_of};
 ghost use Rattle.omi_frame.specs.Seen.{files_seen};

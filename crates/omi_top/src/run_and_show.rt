@@ -2,11 +2,11 @@
 
 ghost use Rattle.std.specs.Prelude.{◌≡◌, ◌≢◌, List, ℕ, IfErr, IsErrAnd, IsErrOf};
 ghost use Rattle.omi_outside.specs.Outside.{HasCause};
-ghost use Rattle.omi_top.specs.Answer.{AreTold, IsUnwritten, verb_of};
 ghost use Rattle.omi_frame.specs.Left.{IsAnswered};
 ghost use Rattle.omi_frame.specs.Verb.{Writes};
 ghost use Rattle.omi_top.specs.Asked.{IsPossible};
 ghost use Rattle.omi_top.specs.Command.{Run};
+ghost use Rattle.omi_top.specs.CommandVerbs.{AreTold, IsUnwritten, verb_of};
 ghost use Rattle.omi_top.specs.Apart.{KeptApart};
 ghost use Rattle.omi_frame.specs.Refusal.{IsReadFault, status_of};
 ghost use Rattle.omi_frame.specs.Seen.{files_seen};

@@ -3,9 +3,9 @@
 ghost use Rattle.std.specs.Prelude.{◌≡◌, ◌≢◌, ◌≤◌, IfErr, IsErrAnd, length};
 ghost use Rattle.omi_outside.specs.Outside.{HasCause, Told};
 ghost use Rattle.omi_outside.specs.declared.status.Status.TheVariants.{Script};
-ghost use Rattle.omi_top.specs.Answer.{AreTold, verb_of};
 ghost use Rattle.omi_frame.specs.Left.{IsAnswered};
 ghost use Rattle.omi_top.specs.Command.{Show};
+ghost use Rattle.omi_top.specs.CommandVerbs.{AreTold, verb_of};
 ghost use Rattle.omi_top.specs.Shown.{handed_on};
 ghost use Rattle.omi_frame.specs.Refusal.{IsReadFault, status_of};
 

@@ -3,8 +3,9 @@
 ghost use Rattle.std.specs.Prelude.{◌≢◌, ◌<◌, ◌≤◌, length, IfOk, IfErr, string_bytes};
 ghost use Rattle.omi_corefile.specs.Spelling.{core_bytes};
 ghost use Rattle.omi_script.specs.declared.limits.TheConstants.{MAX_THREADS};
-ghost use Rattle.omi_top.specs.Answer.{IsStopped, verb_of};
 ghost use Rattle.omi_top.specs.Command.{Stop as StopCommand};
+ghost use Rattle.omi_top.specs.CommandVerbs.{verb_of};
+ghost use Rattle.omi_top.specs.verbs.Stop.{IsStopped};
 ghost use Rattle.omi_top.specs.Asked.{IsPossible};
 ghost use Rattle.omi_frame.specs.Concluded.{Performed};
 ghost use Rattle.omi_top.specs.Apart.{KeptApart};

@@ -6,20 +6,12 @@ ghost use Rattle.omi_frame.specs.Concluded.{Causes, Concluded, Leaves, Performed
 ghost use Rattle.omi_frame.specs.Seen.{files_seen, output_seen};
 ghost use Rattle.omi_frame.specs.Statuses.{IsOfCore};
 ghost use Rattle.omi_frame.specs.Verb.{Writes};
-ghost use Rattle.omi_top.specs.Answer.{IsUnwritten, verb_of};
 ghost use Rattle.omi_top.specs.Apart.{KeptApart};
 ghost use Rattle.omi_top.specs.Asked.{asked, IsBounded};
-ghost use Rattle.omi_top.specs.Command.{Stop, Make, Show, Run, Recode, Elf, Audit, Follow, Faulty, RefusesCore, command_in};
+ghost use Rattle.omi_top.specs.Command.{Run, Faulty, command_in};
 ghost use Rattle.omi_top.specs.Promise.{IsPromised};
 ghost use Rattle.omi_top.specs.declared.plan.Plan.{Plan};
-ghost use Rattle.omi_top.specs.promises.Audit.{AuditPromise};
-ghost use Rattle.omi_top.specs.promises.Elf.{ElfPromise};
-ghost use Rattle.omi_top.specs.promises.Follow.{FollowPromise};
-ghost use Rattle.omi_top.specs.promises.Make.{MakePromise};
-ghost use Rattle.omi_top.specs.promises.Recode.{RecodePromise};
-ghost use Rattle.omi_top.specs.promises.Run.{RunPromise};
-ghost use Rattle.omi_top.specs.promises.Show.{ShowPromise};
-ghost use Rattle.omi_top.specs.promises.Stop.{StopPromise};
+ghost use Rattle.omi_top.specs.CommandVerbs.{IsUnwritten, Promises, RefusesCore, verb_of};
 
 use crate::audit::audit;
 use crate::command::{Request, names_of, request_of};
@@ -134,28 +126,9 @@ pub fn run_top<F: Files, W: Files, K: Sink>(
     ensures faulty { command_in words.now ≡ Faulty
         → (result ≡ Status.Usage) ⊎ (result ≡ Status.OutOfMemory) }
 
-    // What each command promises, by what is seen before and behind the call.
-    ensures stop { (plan : Plan) (script core : List ℕ) → command_in words.now ≡ Stop plan script core
-        → StopPromise plan script core result (F.told files.old)
-        (W.told dest.old core) (W.told dest.new core) (K.told out.old) (K.told out.new) }
-    ensures make { (n : ℕ) (script : List ℕ) → command_in words.now ≡ Make n script
-        → MakePromise n script result
-        (W.told dest.old script) (W.told dest.new script) (K.told out.old) (K.told out.new) }
-    ensures show { (core : List ℕ) → command_in words.now ≡ Show core
-        → ShowPromise core result (F.told files.old) (K.told out.old) (K.told out.new) }
-    ensures run { (plan : Plan) (script core : List ℕ) → command_in words.now ≡ Run plan script core
-        → RunPromise plan script core result (F.told files.old)
-        (W.told dest.old core) (W.told dest.new core) (K.told out.old) (K.told out.new) }
-    ensures recode { (order : ℕ) (core copy : List ℕ) → command_in words.now ≡ Recode order core copy
-        → RecodePromise order core copy result (F.told files.old)
-        (W.told dest.old copy) (W.told dest.new copy) (K.told out.old) (K.told out.new) }
-    ensures elf { (core copy : List ℕ) → command_in words.now ≡ Elf core copy
-        → ElfPromise core copy result (F.told files.old)
-        (W.told dest.old copy) (W.told dest.new copy) (K.told out.old) (K.told out.new) }
-    ensures audit { (core : List ℕ) → command_in words.now ≡ Audit core
-        → AuditPromise core result (F.told files.old) (K.told out.old) (K.told out.new) }
-    ensures follow { (core later : List ℕ) → command_in words.now ≡ Follow core later
-        → FollowPromise core later result (F.told files.old) (K.told out.old) (K.told out.new) }
+    // What the command promises: when each status comes, and what success puts and writes.
+    ensures promises { Promises (command_in words.now) result (F.told files.old)
+        (W.told dest.old) (W.told dest.new) (K.told out.old) (K.told out.new) }
 
     // The promise of the whole, alone. Where the bytes under CORE in `files` are those that `dest`
     // holds under CORE at the end, what is put is the events of a run, each legal, and the report of

@@ -2,9 +2,9 @@ use Rattle.std.proofs.Common.{◌++◌, ℕ, List, Ok, Err, arith, ap, refl, sub
 use Rattle.omi_frame.specs.Refusal.{status_of}
 use Rattle.std.proofs.lemmas.Result.{err_from_is_err_and}
 use Rattle.omi_outside.specs.Outside.{Told}
-use Rattle.omi_top.specs.Answer.{AreTold, verb_of}
 use Rattle.omi_frame.specs.Left.{IsAnswered}
 use Rattle.omi_top.specs.Command.{Show}
+use Rattle.omi_top.specs.CommandVerbs.{AreTold, verb_of}
 use Rattle.omi_top.proofs.RunAnswers.{no_memory, run_unwritten, show_failed, shown_behind, shows_last}
 use Rattle.omi_frame.proofs.Behind.{rose_later}
 use Rattle.omi_top.proofs.run_and_show.run_and_show.Goals as goal

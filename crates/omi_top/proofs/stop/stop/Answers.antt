@@ -1,14 +1,14 @@
 use Rattle.std.proofs.Common.{ℕ, Some, Ok, Err, arith, refl, ap, sym, subst, string_bytes}
 use Rattle.std.specs.Global.{Vec}
+use Rattle.std.specs.Prelude.{⊤}
 use Rattle.std.proofs.lemmas.Result.{err_from_is_err_and}
 use Rattle.omi_corefile.specs.Spelling.{core_bytes}
-use Rattle.omi_top.specs.Answer.{IsStopped}
 use Rattle.omi_frame.specs.declared.refusal.Refusal.TheVariants as refusal
 use Rattle.omi_frame.proofs.Elsewhere.{never_elsewhere, never_usage, write_not_read, never_of_core, write_not_of_core, write_failed}
 use Rattle.omi_frame.specs.Refusal.{refusal_of_write}
 use Rattle.omi_top.proofs.Causes.{unwritten_of}
 use Rattle.omi_top.proofs.Stopping.{refused_answered, partly_answered, done_answered, never_unwritten}
-use Rattle.omi_top.specs.Command.{Stop as StopCommand}
+use Rattle.omi_top.specs.verbs.Stop.{IsStopped}
 use Rattle.omi_top.proofs.stop.stop.Goals as goal
 
 -- ---- the script is refused
@@ -52,8 +52,8 @@ returns-in_err-write_core-clause-performed g c =
       usage = λ is. absurd (never_usage c.in_err-write_core.field-0.0 is);
       of_core = write_not_of_core c.in_err-write_core.field-0.0;
       unwritten =
-          unwritten_of (StopCommand c.args.plan c.args.script.now c.args.core.now) (Err (refusal_of_write c.in_err-write_core.field-0.0))
-          (λ is. absurd (never_unwritten (StopCommand c.args.plan c.args.script.now c.args.core.now) c.in_err-write_core.field-0.0 is));
+          unwritten_of ⊤ (Err (refusal_of_write c.in_err-write_core.field-0.0))
+          (λ is. absurd (never_unwritten ⊤ c.in_err-write_core.field-0.0 is));
       others = λ other not. c.in_err-write_core.ensures.others other (λ is. not (ap Some (sym is)));
     })
 
@@ -76,6 +76,6 @@ returns-clause-performed g c = record {
   written = λ is. absurd (cc);
   usage = λ is. absurd (cc);
   of_core = tt;
-  unwritten = unwritten_of (StopCommand c.args.plan c.args.script.now c.args.core.now) (Ok c.into_bytes.result) tt;
+  unwritten = unwritten_of ⊤ (Ok c.into_bytes.result) tt;
   others = λ other not. c.in_ok-write_core.ensures.others other (λ is. not (ap Some (sym is)));
 }

@@ -5,10 +5,10 @@ use Rattle.omi_frame.specs.Seen.{SeenFiles, SeenOutput, files_seen, output_seen}
 use Rattle.omi_frame.specs.declared.refusal.Refusal.TheVariants as refusal
 use Rattle.omi_frame.proofs.Concluding.{concluded, words_causes}
 use Rattle.omi_frame.specs.Verb.{WritesOne}
-use Rattle.omi_top.specs.Answer.{verb_of}
 use Rattle.omi_top.specs.Asked.{asked}
 use Rattle.omi_top.specs.Command.{Faulty}
-use Rattle.omi_top.proofs.Left.{proper}
+use Rattle.omi_top.specs.CommandVerbs.{verb_of}
+use Rattle.omi_top.proofs.EachCommand.{proper}
 use Rattle.omi_top.proofs.top.carry_out.Goals as goal
 
 pub returns-in-Faulty-clause-concluded : goal.returns-in-Faulty-clause-concluded
@@ -20,7 +20,7 @@ returns-in-Faulty-clause-concluded g c =
     rw (c.in-Faulty.is, c.refuse_words.ensures.status)
     (record {
       of_core = λ is. absurd is;
-      usage = λ is. refl;
+      usage = λ is. tt;
       causes = words_causes files dest out (WritesOne (verb_of Faulty)) out_now c.refuse_words.ensures.line c.refuse_words.ensures.faults c.refuse_words.ensures.wants;
       left = λ told. (refusal.Usage, refl, None, refl, refl, c.refuse_words.ensures.line);
       unwritten = λ is. refl;

@@ -1,10 +1,9 @@
 use Rattle.std.proofs.Common.{[], ℕ, None, Some, Ok, Err, ap, sym, arith, inl, refl}
-use Rattle.std.specs.Prelude.{Result, IfErr}
+use Rattle.std.specs.Prelude.{Result, IfErr, ⊤}
 use Rattle.std.specs.Global.{Vec}
 use Rattle.omi_frame.specs.Statuses.{IsOfCore}
 use Rattle.omi_frame.specs.Refusal.{status_of}
 use Rattle.omi_frame.specs.declared.refusal.Refusal.{Refusal}
-use Rattle.omi_top.specs.Command.{Make, Run}
 use Rattle.omi_top.proofs.Causes.{late_not_core, late_not_read, late_not_usage_of, late_writes, unwritten_of}
 use Rattle.omi_top.proofs.top.perform.Goals as goal
 
@@ -27,7 +26,7 @@ returns-in-Make-clause-performed g c =
       written = λ is. (c.in-Make.script.now, refl);
       usage = λ is. absurd (late_not_usage_of c.make.result c.make.ensures.late is);
       of_core = late_not_core _ c.make.result c.make.ensures.late;
-      unwritten = late_writes (Make c.in-Make.nodes c.in-Make.script.now) c.make.result c.make.ensures.late;
+      unwritten = late_writes ⊤ c.make.result c.make.ensures.late;
       others = λ other not. c.make.ensures.others other (λ is. not (ap Some (sym is)));
     })
 
@@ -56,7 +55,7 @@ returns-in-Run-clause-performed g c =
       written = λ is. (c.in-Run.core.now, refl);
       usage = λ is. absurd (run.usage is);
       of_core = looks c.run_and_show.result (λ x of_core. tt);
-      unwritten = unwritten_of (Run c.in-Run.plan c.in-Run.script.now c.in-Run.core.now) c.run_and_show.result run.unwritten;
+      unwritten = unwritten_of ⊥ c.run_and_show.result run.unwritten;
       others = run.others;
     })
 
@@ -102,7 +101,7 @@ returns-in-Faulty-clause-performed g c =
       read = record { later = omega arith; failed = λ is. absurd is };
       write = record { later = omega arith; failed = λ is. absurd (cc) };
       written = λ is. absurd (cc);
-      usage = λ is. refl;
+      usage = λ is. tt;
       of_core = λ is. absurd is;
       unwritten = λ s ends is. refl;
       others = λ other not. refl;

@@ -1,21 +1,13 @@
-use Rattle.std.proofs.Common.{◌≡◌, ◌∙◌, ℕ, List, [], ap, subst}
-use Rattle.omi_outside.specs.Outside.{Told}
-use Rattle.omi_outside.specs.declared.status.Status.TheVariants as status
-use Rattle.omi_frame.specs.Concluded.{HasCounted, Leaves}
+use Rattle.std.proofs.Common.{◌≡◌, ◌∙◌, ℕ, List, ap, refl, subst}
+use Rattle.omi_frame.specs.Concluded.{Leaves}
 use Rattle.omi_frame.specs.Seen.{SeenFiles, SeenOutput, files_seen, output_seen}
 use Rattle.omi_frame.specs.Statuses.{IsOfCore}
 use Rattle.omi_frame.specs.Verb.{Writes}
 use Rattle.omi_frame.proofs.Commands.{leaves_as}
-use Rattle.omi_top.specs.Answer.{IsUnwritten, verb_of}
 use Rattle.omi_top.specs.Asked.{asked}
-use Rattle.omi_top.specs.Command.{Command, Stop, Make, Show, Run, Recode, Elf, Audit, Follow, Faulty, RefusesCore, command_by, command_in}
-use Rattle.omi_top.proofs.LeftByAudit.{kept as audit_kept}
-use Rattle.omi_top.proofs.LeftByCopy.{elf_kept, recode_kept}
-use Rattle.omi_top.proofs.LeftByFollow.{kept as follow_kept}
-use Rattle.omi_top.proofs.LeftByMake.{kept as make_kept}
-use Rattle.omi_top.proofs.LeftByRun.{kept as run_kept}
-use Rattle.omi_top.proofs.LeftByShow.{kept as show_kept}
-use Rattle.omi_top.proofs.LeftByStop.{kept as stop_kept}
+use Rattle.omi_top.specs.Command.{Command, Faulty, command_by, command_in}
+use Rattle.omi_top.specs.CommandVerbs.{IsUnwritten, Promises, RefusesCore, verb_of}
+use Rattle.omi_top.proofs.EachCommand.{kept}
 use Rattle.omi_top.proofs.Promised.{promised}
 use Rattle.omi_top.proofs.top.run_top.Given as given
 use Rattle.omi_top.proofs.top.run_top.Goals as goal
@@ -48,65 +40,21 @@ left_of g c command is =
     leaves_as verb_of c.carry_out.result (seen_files g c) (dest g c) (dest_now g c) (out g c) (out_now g c)
     (asked c.request_of.result) command is c.carry_out.ensures.concluded.left
 
--- what the files that are read tell, what is written holds before and behind, and what was put before and behind
-abbrev told : (g : given.Over) → Joined-line g → List ℕ → Told
-told g c = (seen_files g c).told
+-- ---- what the command promises
 
-abbrev old : (g : given.Over) → Joined-line g → List ℕ → Told
-old g c = (dest g c).told
-
-abbrev new : (g : given.Over) → Joined-line g → List ℕ → Told
-new g c = (dest_now g c).told
-
-abbrev counted : (g : given.Over) → Joined-line g → Type 0
-counted g c = HasCounted (out g c) (out_now g c)
-
--- ---- what each command promises
-
-pub returns-in-Ok-clause-stop : goal.returns-in-Ok-clause-stop
-returns-in-Ok-clause-stop g c plan script core command =
-    stop_kept plan script core (told g c) (old g c core) (new g c core) (counted g c) (out g c).told (out_now g c).told c.carry_out.result
-    (left_of g c (Stop plan script core) (asked_is g c ∙ command))
-
-pub returns-in-Ok-clause-make : goal.returns-in-Ok-clause-make
-returns-in-Ok-clause-make g c n script command =
-    make_kept n script (told g c) (old g c script) (new g c script) (counted g c) (out g c).told (out_now g c).told c.carry_out.result
-    (left_of g c (Make n script) (asked_is g c ∙ command))
-
-pub returns-in-Ok-clause-show : goal.returns-in-Ok-clause-show
-returns-in-Ok-clause-show g c core command =
-    show_kept core (told g c) (old g c []) (new g c []) (counted g c) (out g c).told (out_now g c).told c.carry_out.result
-    (left_of g c (Show core) (asked_is g c ∙ command))
-
-pub returns-in-Ok-clause-run : goal.returns-in-Ok-clause-run
-returns-in-Ok-clause-run g c plan script core command =
-    run_kept plan script core (told g c) (old g c core) (new g c core) (counted g c) (out g c).told (out_now g c).told c.carry_out.result
-    (left_of g c (Run plan script core) (asked_is g c ∙ command))
-
-pub returns-in-Ok-clause-recode : goal.returns-in-Ok-clause-recode
-returns-in-Ok-clause-recode g c order core copy command =
-    recode_kept core copy (told g c) (old g c copy) (new g c copy) (counted g c) (out g c).told (out_now g c).told order c.carry_out.result
-    (left_of g c (Recode order core copy) (asked_is g c ∙ command))
-
-pub returns-in-Ok-clause-elf : goal.returns-in-Ok-clause-elf
-returns-in-Ok-clause-elf g c core copy command =
-    elf_kept core copy (told g c) (old g c copy) (new g c copy) (counted g c) (out g c).told (out_now g c).told c.carry_out.result
-    (left_of g c (Elf core copy) (asked_is g c ∙ command))
-
-pub returns-in-Ok-clause-audit : goal.returns-in-Ok-clause-audit
-returns-in-Ok-clause-audit g c core command =
-    audit_kept core (told g c) (old g c []) (new g c []) (counted g c) (out g c).told (out_now g c).told c.carry_out.result
-    (left_of g c (Audit core) (asked_is g c ∙ command))
-
-pub returns-in-Ok-clause-follow : goal.returns-in-Ok-clause-follow
-returns-in-Ok-clause-follow g c core later command =
-    follow_kept core later (told g c) (old g c []) (new g c []) (counted g c) (out g c).told (out_now g c).told c.carry_out.result
-    (left_of g c (Follow core later) (asked_is g c ∙ command))
+pub returns-in-Ok-clause-promises : goal.returns-in-Ok-clause-promises
+returns-in-Ok-clause-promises g c =
+    kept (command_in c.args.words.now) c.carry_out.result (seen_files g c) (dest g c) (dest_now g c) (out g c) (out_now g c)
+    (left_of g c (command_in c.args.words.now) (asked_is g c))
 
 pub returns-in-Ok-clause-promise : goal.returns-in-Ok-clause-promise
 returns-in-Ok-clause-promise g c plan script core text bytes command is back same done =
+    let promised_of =
+    subst
+    (λ k. Promises k c.carry_out.result (seen_files g c).told (dest g c).told (dest_now g c).told (out g c).told (out_now g c).told)
+    command (returns-in-Ok-clause-promises g c) in
     promised text plan bytes c.carry_out.result (out g c).told (out_now g c).told done
-    ((returns-in-Ok-clause-run g c plan script core command).shown text bytes is back same)
+    (promised_of.shown text bytes is back same)
 
 pub returns-in-Ok-clause-left : goal.returns-in-Ok-clause-left
 returns-in-Ok-clause-left g c = left_of g c (command_in c.args.words.now) (asked_is g c)
@@ -122,9 +70,14 @@ pub returns-in-Ok-clause-of_core : goal.returns-in-Ok-clause-of_core
 returns-in-Ok-clause-of_core g c =
     of_words g c (λ k. IsOfCore c.carry_out.result → RefusesCore k c.carry_out.result) c.carry_out.ensures.concluded.of_core
 
+-- words are refused where they are no command
+refused_words : (command : Command) → (verb_of command).refuses_words → command ≡ Faulty
+refused_words Faulty is = refl
+refused_words command is = absurd is
+
 pub returns-in-Ok-clause-usage : goal.returns-in-Ok-clause-usage
-returns-in-Ok-clause-usage g c =
-    of_words g c (λ k. c.carry_out.result ≡ status.Usage → k ≡ Faulty) c.carry_out.ensures.concluded.usage
+returns-in-Ok-clause-usage g c is =
+    of_words g c (λ k. k ≡ Faulty) (refused_words (asked c.request_of.result) (c.carry_out.ensures.concluded.usage is))
 
 pub returns-in-Ok-clause-unwritten : goal.returns-in-Ok-clause-unwritten
 returns-in-Ok-clause-unwritten g c =

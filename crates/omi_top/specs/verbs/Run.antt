@@ -1,7 +1,5 @@
--- What `run STEPS SCRIPT CORE` promises of a call that ends with the status s: CORE is written as with `stop`, and then the bytes under CORE in the
--- files that are read are judged as with `show`. told is what these files tell, old and new what CORE holds before and behind, and out and after
--- what was put before and behind.
-use Rattle.std.specs.Prelude.{◌≡◌, ◌⊎◌, ◌++◌, ℕ, List, Option, Some, None, ⊤}
+-- The verb `run`: its answers, and what it promises.
+use Rattle.std.specs.Prelude.{◌≡◌, ◌⊎◌, ◌++◌, ℕ, List, Option, Some, None, ⊤, [], Ok, Err, Result}
 use Rattle.omi_outside.specs.Outside.{Told, holding, put_on}
 use Rattle.omi_outside.specs.declared.status.Status.{Status}
 use Rattle.omi_outside.specs.declared.status.Status.TheVariants as status
@@ -14,10 +12,47 @@ use Rattle.omi_text.specs.Report.{report}
 use Rattle.omi_frame.specs.Scripts.{HoldsProgram}
 use Rattle.omi_frame.specs.Statuses.{ComesWhere, IsDoneOrFailed, IsOutsideStatus}
 use Rattle.omi_verbs.specs.Cores.{thread_ids}
-use Rattle.omi_top.specs.Answer.{IsReportOf, IsStopped}
 use Rattle.omi_top.specs.Cores.{IsDamaged, IsIncompatible, Spells}
 use Rattle.omi_top.specs.Files.{HasFault}
 use Rattle.omi_top.specs.declared.plan.Plan.{Plan}
+use Rattle.omi_frame.specs.Verb.{Answer, Gives, Verb}
+use Rattle.omi_frame.specs.declared.refusal.Refusal.{Refusal}
+use Rattle.omi_frame.specs.OfScript.{IsScript}
+use Rattle.omi_top.specs.Kinds.{IsCore, IsUnwrittenBy, to_write}
+use Rattle.omi_top.specs.verbs.Show.{IsReportOf, IsShowAnswer}
+use Rattle.omi_top.specs.verbs.Stop.{IsStopAnswer, IsStopped, StopAnswers}
+
+-- what `run` says behind the lines of its run, by the content under CORE in the files that it reads: the report that `show` puts for it,
+-- or the refusal of `show` alone
+abbrev pub IsReadBack : List ℕ → Option (List ℕ) → Result (List ℕ) Refusal → Type 0
+IsReadBack lines content (Ok text) =
+    (shown : List ℕ) × IsShowAnswer content (Gives None (Ok shown)) × (text ≡ lines ++ shown)
+IsReadBack lines content (Err r) = IsShowAnswer content (Gives None (Err r))
+
+-- an answer of `run`, by the contents of the script's file and of the core's: that of `stop` where this is a refusal; or the core of
+-- `stop`, and what is read back
+abbrev pub IsRunAnswer : Plan → Option (List ℕ) → Option (List ℕ) → Answer → Type 0
+IsRunAnswer plan script content (Gives None says) = IsStopAnswer plan script (Gives None says)
+IsRunAnswer plan script content (Gives (Some core) says) =
+    (lines : List ℕ) × IsStopAnswer plan script (Gives (Some core) (Ok lines))
+    × IsReadBack lines content says
+
+-- the verb: it writes what `stop` writes, and then reads it back
+abbrev pub run_verb : Plan → List ℕ → List ℕ → Verb
+run_verb plan script core = record {
+  names = record { script = script; core = core; later = [] };
+  writes = Some core;
+  are_told = λ told. ((content : Option (List ℕ)) × (told script ≡ Some content))
+      × ((content : Option (List ℕ)) × (told core ≡ Some content));
+  answers = λ told answer. (text : Option (List ℕ)) × (told script ≡ Some text)
+      × (content : Option (List ℕ)) × (told core ≡ Some content) × IsRunAnswer plan text content answer;
+  is_to_write = to_write (StopAnswers plan script);
+  reads_first = IsScript;
+  reads_back = IsCore;
+  refuses_words = ⊥;
+  refuses_core = λ s. ⊤;
+  wrote_nothing = IsUnwrittenBy ⊥;
+}
 
 -- a status comes exactly where a fact holds of what is read back, but for a fault of reading or of writing and for want of memory
 abbrev pub ComesBehind : Status → Status → Type 0 → Type 0
@@ -46,6 +81,9 @@ IsRunShown script plan core status.Damaged out after = ⊥
 IsRunShown script plan core status.Incompatible out after = ⊥
 IsRunShown script plan core other out after = ⊤
 
+-- What `run STEPS SCRIPT CORE` promises of a call that ends with the status s: CORE is written as with `stop`, and then the bytes under CORE in the
+-- files that are read are judged as with `show`. told is what these files tell, old and new what CORE holds before and behind, and out and after
+-- what was put before and behind.
 pub record RunPromise (plan : Plan) (script core : List ℕ) (s : Status) (told : List ℕ → Told)
     (old new : Told) (out after : Option (List ℕ)) : Type 0 where
   -- the script is judged first; what is read back is refused behind a program alone

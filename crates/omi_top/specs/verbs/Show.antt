@@ -1,6 +1,5 @@
--- What `show CORE` promises of a call that ends with the status s: told is what the files that it reads tell, and out and after what was put before
--- and behind.
-use Rattle.std.specs.Prelude.{◌≡◌, ℕ, List, Option, Some, None, Ok, ⊤}
+-- The verb `show`: its answers, and what it promises.
+use Rattle.std.specs.Prelude.{◌≡◌, ℕ, List, Option, Some, None, Ok, ⊤, ◌⊎◌, Err}
 use Rattle.omi_outside.specs.Outside.{Told, put_on}
 use Rattle.omi_outside.specs.declared.status.Status.{Status}
 use Rattle.omi_outside.specs.declared.status.Status.TheVariants as status
@@ -12,12 +11,36 @@ use Rattle.omi_model.specs.declared.view.View.{View}
 use Rattle.omi_text.specs.Report.{report}
 use Rattle.omi_frame.specs.Statuses.{ComesWhere, IsDoneOrFailed}
 use Rattle.omi_verbs.specs.Cores.{IsReachedCore, thread_ids}
-use Rattle.omi_top.specs.Answer.{IsReportOf, IsStopped}
-use Rattle.omi_top.specs.Cores.{IsDamaged, IsIncompatible, IsLooked, ShowsState, Spells}
-use Rattle.omi_top.specs.Files.{HasFault, IsFileOf}
+use Rattle.omi_top.specs.Cores.{AreAlike, IsDamaged, IsIncompatible, IsLooked, ShowsState, Spells}
+use Rattle.omi_top.specs.Files.{HasFault, IsFileOf, IsFileRefusal}
 use Rattle.omi_top.specs.Recode.{IsRecoded}
-use Rattle.omi_top.specs.Recoded.{AreAlike}
 use Rattle.omi_top.specs.declared.plan.Plan.{Plan}
+use Rattle.omi_frame.specs.Verb.{Answer, Gives, Verb}
+use Rattle.omi_frame.specs.declared.refusal.Refusal.{Refusal}
+use Rattle.omi_top.specs.Kinds.{of_core}
+use Rattle.omi_top.specs.Shown.{IsRefusedCore}
+use Rattle.omi_top.specs.verbs.Stop.{IsStopped}
+
+-- a text is the report of what a look at the words of a file's core gives
+abbrev pub IsReportOf : List ℕ → List ℕ → Type 0
+IsReportOf bytes text = (v : View) × Spells bytes (λ core. IsLooked core (Ok v)) × (text ≡ report v)
+
+-- why `show` refuses, by the content of the core's file: there is none, its bytes are no core, the core's words give no layout, or a look
+-- at them has a fault
+abbrev pub IsShowRefusal : Option (List ℕ) → Refusal → Type 0
+IsShowRefusal None r = IsFileRefusal None r
+IsShowRefusal (Some bytes) r =
+    IsFileRefusal (Some bytes) r ⊎ Spells bytes (λ core. IsRefusedCore core r)
+
+-- an answer of `show`, by the content of the core's file: a refusal, or the report
+abbrev pub IsShowAnswer : Option (List ℕ) → Answer → Type 0
+IsShowAnswer content (Gives None (Err r)) = IsShowRefusal content r
+IsShowAnswer (Some bytes) (Gives None (Ok text)) = IsReportOf bytes text
+IsShowAnswer content answer = ⊥
+
+-- the verb, which reads a core and writes nothing
+abbrev pub show_verb : List ℕ → Verb
+show_verb core = of_core core IsShowAnswer
 
 -- what `show` makes of a core whose words show a state: it puts the report of the state for these contexts, unless a file or the output
 -- fails or memory runs out
@@ -37,6 +60,8 @@ IsReported text status.WriteFault out after = ⊤
 IsReported text status.OutOfMemory out after = ⊤
 IsReported text other out after = ⊥
 
+-- What `show CORE` promises of a call that ends with the status s: told is what the files that it reads tell, and out and after what was put before
+-- and behind.
 pub record ShowPromise (core : List ℕ) (s : Status) (told : List ℕ → Told) (out after : Option (List ℕ)) : Type 0 where
   -- where the core's file is told: there is none, it has a fault of its format, which is ELF where it begins with the four bytes of every
   -- ELF file, no layout table of this version is found in its words, or this table is wrong or the look at the words has a fault, exactly

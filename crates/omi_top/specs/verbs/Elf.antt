@@ -1,5 +1,4 @@
--- What `elf CORE CORE2` promises of a call that ends with the status s: told is what the files that it reads tell, old and new what CORE2 holds
--- before and behind, and out and after what was put before and behind.
+-- The verb `elf`, and what it promises.
 use Rattle.std.specs.Prelude.{◌≡◌, ℕ, List, length, Option, Some, None}
 use Rattle.omi_outside.specs.Outside.{Told, holding, put_on}
 use Rattle.omi_outside.specs.declared.status.Status.{Status}
@@ -10,8 +9,15 @@ use Rattle.omi_corefile.specs.declared.core_image.CoreImage.{CoreImage}
 use Rattle.omi_corefile.specs.declared.fault.CoreFault.{CoreFault}
 use Rattle.omi_elf.specs.Spelling.{elf_bytes}
 use Rattle.omi_frame.specs.Statuses.{ComesWhere, IsDoneOrFailed}
-use Rattle.omi_top.specs.Elf.{elf_line}
+use Rattle.omi_top.specs.Elf.{elf_line, IsElfCopy}
+use Rattle.omi_frame.specs.Verb.{Verb}
+use Rattle.omi_top.specs.verbs.Copy.{copy_verb}
 
+abbrev pub elf_verb : List ℕ → List ℕ → Verb
+elf_verb core copy = copy_verb IsElfCopy core copy
+
+-- What `elf CORE CORE2` promises of a call that ends with the status s: told is what the files that it reads tell, old and new what CORE2 holds
+-- before and behind, and out and after what was put before and behind.
 pub record ElfPromise (core copy : List ℕ) (s : Status) (told : List ℕ → Told)
     (old new : Told) (out after : Option (List ℕ)) : Type 0 where
   -- a file that is missing is refused, and one that the grammar of core files refuses

@@ -1,9 +1,16 @@
--- No fault of the outside is what an answer says.
-use Rattle.std.proofs.Common.{◌≡◌, inl, inr, ℕ, true, false, List, Option, Some, None, Ok, Err, refl, sym, ◌∙◌, ap}
+-- Of each command: no fault of the outside is what its answer says, and what is left keeps its promise.
+use Rattle.std.proofs.Common.{◌≡◌, inl, inr, ℕ, true, false, List, [], Option, Some, None, Ok, Err, refl, sym, ◌∙◌, ap}
 use Rattle.omi_outside.specs.Outside.{Told}
 use Rattle.omi_top.specs.Command.{Command, Stop, Make, Show, Run, Recode, Elf, Audit, Follow, Faulty}
 use Rattle.omi_frame.specs.Verb.{Answer, Gives}
-use Rattle.omi_top.specs.Answer.{IsAnswer, IsAuditAnswer, IsFollowAnswer, IsStopAnswer, IsCopyAnswer, IsMakeAnswer, IsRunAnswer, IsShowAnswer}
+use Rattle.omi_top.specs.CommandVerbs.{IsAnswer, Promises, verb_of}
+use Rattle.omi_top.specs.verbs.Audit.{IsAuditAnswer}
+use Rattle.omi_top.specs.verbs.Copy.{IsCopyAnswer}
+use Rattle.omi_top.specs.verbs.Follow.{IsFollowAnswer}
+use Rattle.omi_top.specs.verbs.Make.{IsMakeAnswer}
+use Rattle.omi_top.specs.verbs.Run.{IsRunAnswer}
+use Rattle.omi_top.specs.verbs.Show.{IsShowAnswer}
+use Rattle.omi_top.specs.verbs.Stop.{IsStopAnswer}
 use Rattle.omi_top.specs.declared.plan.Plan.{Plan}
 use Rattle.omi_layout.specs.declared.fault.LayoutFault.TheVariants.{Version, Overlap, OutOfRecord, BadArena}
 use Rattle.omi_layout.specs.declared.reading.LayoutError.{LayoutError}
@@ -20,6 +27,16 @@ use Rattle.omi_top.proofs.Files.{told_holds}
 use Rattle.omi_verbs.specs.Inquiries.{refusal_of_look}
 use Rattle.omi_frame.specs.declared.refusal.Refusal.{Refusal}
 use Rattle.omi_frame.specs.declared.refusal.Refusal.TheVariants as refusal
+use Rattle.omi_outside.specs.declared.status.Status.{Status}
+use Rattle.omi_frame.specs.Concluded.{HasCounted, Leaves}
+use Rattle.omi_frame.specs.Seen.{SeenFiles, SeenOutput}
+use Rattle.omi_top.proofs.LeftByAudit.{kept as audit_kept}
+use Rattle.omi_top.proofs.LeftByCopy.{elf_kept, recode_kept}
+use Rattle.omi_top.proofs.LeftByFollow.{kept as follow_kept}
+use Rattle.omi_top.proofs.LeftByMake.{kept as make_kept}
+use Rattle.omi_top.proofs.LeftByRun.{kept as run_kept}
+use Rattle.omi_top.proofs.LeftByShow.{kept as show_kept}
+use Rattle.omi_top.proofs.LeftByStop.{kept as stop_kept}
 
 -- a refusal that is one of the others is none of these
 another : (r s : Refusal) → is_fault r ≡ true → r ≡ s → is_fault s ≡ false → ⊥
@@ -126,3 +143,26 @@ proper (Audit written) told core r fault (content, is, answer) = audit_proper co
 proper (Follow first later) told core r fault (content, is, others, here, answer) =
     follow_proper content others core r fault answer
 proper Faulty told core r fault is = another r refusal.Usage fault (ap said_of is) refl
+
+-- ---- what is left
+
+pub kept : (command : Command) (s : Status) (files dest dest_now : SeenFiles) (out out_now : SeenOutput)
+    → Leaves (verb_of command) s files dest dest_now out out_now
+    → Promises command s files.told dest.told dest_now.told out.told out_now.told
+kept (Stop plan script core) s files dest dest_now out out_now =
+    stop_kept plan script core files.told (dest.told core) (dest_now.told core) (HasCounted out out_now) out.told out_now.told s
+kept (Make n script) s files dest dest_now out out_now =
+    make_kept n script files.told (dest.told script) (dest_now.told script) (HasCounted out out_now) out.told out_now.told s
+kept (Show core) s files dest dest_now out out_now =
+    show_kept core files.told (dest.told []) (dest_now.told []) (HasCounted out out_now) out.told out_now.told s
+kept (Run plan script core) s files dest dest_now out out_now =
+    run_kept plan script core files.told (dest.told core) (dest_now.told core) (HasCounted out out_now) out.told out_now.told s
+kept (Recode order core copy) s files dest dest_now out out_now =
+    recode_kept core copy files.told (dest.told copy) (dest_now.told copy) (HasCounted out out_now) out.told out_now.told order s
+kept (Elf core copy) s files dest dest_now out out_now =
+    elf_kept core copy files.told (dest.told copy) (dest_now.told copy) (HasCounted out out_now) out.told out_now.told s
+kept (Audit core) s files dest dest_now out out_now =
+    audit_kept core files.told (dest.told []) (dest_now.told []) (HasCounted out out_now) out.told out_now.told s
+kept (Follow core later) s files dest dest_now out out_now =
+    follow_kept core later files.told (dest.told []) (dest_now.told []) (HasCounted out out_now) out.told out_now.told s
+kept Faulty s files dest dest_now out out_now = λ left. tt
