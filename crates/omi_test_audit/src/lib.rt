@@ -8,6 +8,8 @@ mod chains;
 #[cfg(test)]
 mod failing;
 #[cfg(test)]
+mod many;
+#[cfg(test)]
 mod overlay;
 #[cfg(test)]
 mod places;

@@ -7,7 +7,7 @@ use omi_outside::{
 use std::alloc::Global;
 use std::fs::Permissions;
 use std::io::ErrorKind;
-use std::os::unix::fs::PermissionsExt;
+use std::os::unix::fs::{PermissionsExt, symlink};
 use std::path::PathBuf;
 use std::test::Fail;
 use std::{env, fs, io, process};
@@ -161,23 +161,52 @@ fn forbidden_files_are_there(rt: HostRuntime) -> Result<(), Fail> {
     let mut files = DiskFiles::new(rt.clone()?);
     let made = write_whole(&mut files, name, b"x");
     fs::set_permissions(&rt, name, Permissions::from_mode(0))?;
-    // Who may open every file, as root, has no forbidden one: then the answers are not looked at.
-    // The stand-in's test of PermissionDenied holds for everybody.
     let forbidden = fs::open(&rt, name).is_err();
-    let size = files.size(name);
-    let written = DiskFiles::new(rt.clone()?).append(name, b"y");
+    let found = (
+        files.size(name),
+        DiskFiles::new(rt.clone()?).append(name, b"y"),
+    );
     fs::remove_file(&rt, name)?;
-    let refused = size == Err(Refused::Failed) && written == Err(Refused::Failed);
-    expect_equal(&rt, &(made, refused || !forbidden), &(Ok(()), true));
+    // Who may open every file, as root, has no forbidden one.
+    let wanted = if forbidden {
+        (Err(Refused::Failed), Err(Refused::Failed))
+    } else {
+        (Ok(Some(1)), Ok(()))
+    };
+    expect_equal(&rt, &(made, found), &(Ok(()), wanted));
+    Ok(())
+}
+
+/// A link to itself is there for every user, and nobody can open it.
+#[test]
+fn links_that_lead_nowhere_are_there(rt: HostRuntime) -> Result<(), Fail> {
+    let path = fresh(&rt, "circle")?;
+    let name = path.as_str();
+    symlink(&rt, name, name)?;
+    let mut files = DiskFiles::new(rt.clone()?);
+    let found = (
+        files.size(name),
+        files.create(name),
+        files.append(name, b"x"),
+    );
+    fs::remove_file(&rt, name)?;
+    expect_equal(
+        &rt,
+        &found,
+        &(
+            Err(Refused::Failed),
+            Err(Refused::Failed),
+            Err(Refused::Failed),
+        ),
+    );
     Ok(())
 }
 
 #[test]
 fn devices(rt: HostRuntime) -> Result<(), Fail> {
-    // A system without these devices has nothing to look at, and none is made there.
-    if !fs::exists(&rt, "/dev/full")? || !fs::exists(&rt, "/dev/null")? {
-        return Ok(());
-    }
+    // A file that is made in the place of a device that is missing takes what is written.
+    let are_there = (fs::exists(&rt, "/dev/full")?, fs::exists(&rt, "/dev/null")?);
+    assert_eq!(rt; are_there, (true, true));
     let mut files = DiskFiles::new(rt.clone()?);
     let full = write_whole(&mut files, "/dev/full", b"x");
     // What can't be handed over is no fault.
@@ -216,7 +245,7 @@ fn writes_that_fail(rt: HostRuntime) -> Result<(), Fail> {
     let unruly = Unruly::new(rt.clone()?).failing_write(8);
     let mut files = DiskFiles::new((unruly, rt.alloc()));
     let written = write_whole(&mut files, name, &bytes);
-    let left = holds(&rt, name, bytes.get(..6_096).unwrap_or(b""));
+    let left = holds(&rt, name, bytes.get(..6_096).ok_or("short")?);
     // The file stays open, so that what is left can be handed over.
     let handed = files.sync();
     fs::remove_file(&rt, name)?;
@@ -328,7 +357,7 @@ fn output(rt: HostRuntime) -> Result<(), Fail> {
     let whole = (put_whole(&mut out, &bytes), holds(&rt, name, &bytes));
     let mut out = StdSink::new(UnrulyOutput::new(fs::create(&rt, name)?, 3));
     let cut = put_whole(&mut out, &bytes);
-    let front = holds(&rt, name, bytes.get(..8_192).unwrap_or(b""));
+    let front = holds(&rt, name, bytes.get(..8_192).ok_or("short")?);
     fs::remove_file(&rt, name)?;
     expect_equal(
         &rt,

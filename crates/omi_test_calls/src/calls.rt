@@ -3,6 +3,7 @@
 use omi_outside::{Call, MemFiles, MemSink, Status};
 use omi_top::run_top;
 use std::alloc::{AllocError, Global};
+use std::test::Fail;
 
 /// An empty program, and one that changes two variables.
 pub const EMPTY: &str = "func main\nend\n";
@@ -25,6 +26,17 @@ pub struct Done {
     pub status: Status,
     pub dest: MemFiles,
     pub out: MemSink,
+}
+
+impl Done {
+    /// The bytes that a call left under a name. An error where it didn't succeed or left nothing there.
+    pub fn left(&self, alloc: Global, name: &str) -> Result<Vec<u8>, Fail> {
+        if self.status != Status::Success {
+            return Err(Fail::from("no success"));
+        }
+        let bytes = self.dest.bytes(name).ok_or("no such file")?;
+        Ok(bytes.to_vec(alloc)?)
+    }
 }
 
 /// What a line leaves over a script under `s` and these bytes under `c`, if any, where these calls of reading, writing and putting fail.
@@ -71,26 +83,31 @@ pub fn run(alloc: Global, line: &[&str], script: &str) -> Result<Done, AllocErro
     call(alloc, line, (script, None), &[], &[], &[])
 }
 
-/// The core that `stop` writes.
-pub fn core_of(alloc: Global, steps: &str, script: &str) -> Result<Vec<u8>, AllocError> {
-    let done = run(alloc, &["stop", steps, "s", "c"], script)?;
-    match done.dest.bytes("c") {
-        Some(bytes) => bytes.to_vec(alloc),
-        None => Ok(Vec::new(alloc)),
-    }
+/// The core that `stop` writes with these words behind its files. An error where it doesn't succeed.
+pub fn core_with(
+    alloc: Global,
+    steps: &str,
+    script: &str,
+    options: &[&str],
+) -> Result<Vec<u8>, Fail> {
+    let mut line = Vec::new(alloc);
+    line.extend_from_slice(&["stop", steps, "s", "c"])?;
+    line.extend_from_slice(options)?;
+    run(alloc, line.as_slice(), script)?.left(alloc, "c")
 }
 
-/// The core with another word at a place.
-pub fn with_word(
-    alloc: Global,
-    core: &[u8],
-    place: usize,
-    word: u64,
-) -> Result<Vec<u8>, AllocError> {
+/// The same without such words.
+pub fn core_of(alloc: Global, steps: &str, script: &str) -> Result<Vec<u8>, Fail> {
+    core_with(alloc, steps, script, &[])
+}
+
+/// The core of one context with another word at a place. An error where it has no such word.
+pub fn with_word(alloc: Global, core: &[u8], place: usize, word: u64) -> Result<Vec<u8>, Fail> {
     let mut changed = core.to_vec(alloc)?;
     let at = place.wrapping_mul(8).wrapping_add(40);
-    if at <= changed.len() && changed.len() - at >= 8 {
-        changed[at..at + 8].copy_from_slice(&word.to_le_bytes());
+    if at > changed.len() || changed.len() - at < 8 {
+        return Err(Fail::from("no such word"));
     }
+    changed[at..at + 8].copy_from_slice(&word.to_le_bytes());
     Ok(changed)
 }

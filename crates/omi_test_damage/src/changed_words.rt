@@ -4,7 +4,7 @@ use crate::calls::{BEFORE, NONE, call};
 use omi_outside::Status;
 use omi_test_calls::{core_of, opening_core_v1, with_word};
 use omi_test_rows::AN_EMPTY_RUN;
-use std::alloc::{AllocError, Global};
+use std::alloc::Global;
 use std::process::Abort;
 use std::test::Fail;
 
@@ -37,7 +37,7 @@ const WORDS: [(usize, u64, Status, &str); 11] = [
 ];
 
 /// Each change of a word of this core is told as the table has it.
-fn expect_changes(rt: &impl Abort, alloc: Global, core: &[u8]) -> Result<(), AllocError> {
+fn expect_changes(rt: &impl Abort, alloc: Global, core: &[u8]) -> Result<(), Fail> {
     for (number, word, status, text) in &WORDS {
         let changed = with_word(alloc, core, *number, *word)?;
         let done = call(alloc, &["show", "c"], "", &changed, NONE)?;
@@ -56,6 +56,5 @@ fn one_changed_word(rt: HostRuntime) -> Result<(), Fail> {
     expect_changes(&rt, alloc, &first)?;
     let second = core_of(alloc, "0", AN_EMPTY_RUN)?;
     assert_eq!(rt; second.len(), 68_056);
-    expect_changes(&rt, alloc, &second)?;
-    Ok(())
+    expect_changes(&rt, alloc, &second)
 }

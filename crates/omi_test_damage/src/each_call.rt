@@ -264,6 +264,7 @@ fn expect_writes(
     assert_eq!(rt; whole.status, Status::Success);
     let bytes = left(&whole, command);
     let pieces = bytes.len().div_ceil(PIECE);
+    assert_eq!(rt; pieces > 0, command.written.is_some());
     for number in 0..pieces {
         let writes = [(Call::Append, number as u64 + 1)];
         let failing = Failing {
@@ -333,9 +334,11 @@ fn expect_puts(
     core: &[u8],
 ) -> Result<(), AllocError> {
     let whole = made(alloc, command, core, NONE)?;
+    assert_eq!(rt; whole.status, Status::Success);
     let text = whole.out.bytes();
     let held = left(&whole, command);
     let pieces = text.len().div_ceil(PIECE);
+    assert!(rt; pieces > 0, "{}", verb_of(command));
     for number in 0..pieces {
         let puts = [number as u64 + 1];
         let failing = Failing {

@@ -133,9 +133,8 @@ fn each_read_of_a_core(rt: HostRuntime) -> Result<(), Fail> {
 fn each_read_of_an_elf_file(rt: HostRuntime) -> Result<(), Fail> {
     let alloc = rt.alloc();
     let core = core_of(alloc, "0", AN_EMPTY_RUN)?;
-    let done = call(alloc, &["elf", "c", "d"], "", &core, NONE)?;
-    let file = done.dest.bytes("d").unwrap_or(b"");
-    assert_eq!(rt; failing_reads(&rt, alloc, file, Call::Size)?, 2);
-    assert_eq!(rt; failing_reads(&rt, alloc, file, Call::ReadAt)?, 18);
+    let file = call(alloc, &["elf", "c", "d"], "", &core, NONE)?.left(alloc, "d")?;
+    assert_eq!(rt; failing_reads(&rt, alloc, &file, Call::Size)?, 2);
+    assert_eq!(rt; failing_reads(&rt, alloc, &file, Call::ReadAt)?, 18);
     Ok(())
 }

@@ -1,6 +1,7 @@
 //! Each fault of an ELF core file at each of its turns, and which of two is told.
 
-use crate::files::{Header, file, patched, put_note, small};
+use crate::file_tests::is_core;
+use crate::files::{Header, file, patched, put_note, put_words, small};
 use omi_elf::{ElfError, ElfFault, decode_elf, encode_elf};
 use std::alloc::{AllocError, Global};
 use std::test::Fail;
@@ -28,6 +29,11 @@ fn are_refused(alloc: Global, rows: &[Row]) -> Result<bool, AllocError> {
 }
 
 const WHOLE: usize = 292;
+
+/// The most program headers of a file, and the place behind them.
+const MOST_HEADERS: u64 = 65_535;
+
+const BEHIND_MOST: u64 = 64 + 56 * MOST_HEADERS;
 
 /// The header's rows, in its order: each field is judged once it is there.
 #[test]
@@ -128,6 +134,29 @@ fn most_segments(rt: HostRuntime) -> Result<(), Fail> {
     }
     let many = file(rt.alloc(), 0, &more, &note)?;
     assert!(rt; is_refused(rt.alloc(), &many, 0, ElfFault::TooMany(65)));
+    Ok(())
+}
+
+/// As many program headers as a file can have: of a note, and of segments of one word, the last of which lies first. They touch.
+#[test]
+fn most_program_headers(rt: HostRuntime) -> Result<(), Fail> {
+    let mut body = Vec::new(rt.alloc());
+    put_note(&mut body, 0, b"OMPD\0", &[5])?;
+    let mut words = Vec::new(rt.alloc());
+    let mut headers: Vec<Header> = Vec::new(rt.alloc());
+    headers.push((4, BEHIND_MOST, 0, 28))?;
+    for at in 0..MOST_HEADERS - 1 {
+        headers.push((
+            1,
+            BEHIND_MOST + 28 + 8 * at,
+            0x10000 + 8 * (MOST_HEADERS - 2 - at),
+            8,
+        ))?;
+        put_words(&mut body, 0, &[MOST_HEADERS - 2 - at])?;
+        words.push(at)?;
+    }
+    let core = decode_elf(rt.alloc(), &file(rt.alloc(), 0, &headers, &body)?)?;
+    assert!(rt; is_core(&core, 0, &[5], &[(0x10000, words.as_slice())]));
     Ok(())
 }
 

@@ -1,10 +1,11 @@
 //! Lines of `follow` over two cores in memory, and what they are to leave.
 
 use omi_outside::{Call, MemFiles, MemSink, Status};
-use omi_test_calls::{Done, run, words};
+use omi_test_calls::{Done, core_with, words};
 use omi_top::run_top;
 use std::alloc::{AllocError, Global};
 use std::process::Abort;
+use std::test::Fail;
 
 /// The bytes under `c` and those under `d`, if any.
 #[derive(Clone, Copy)]
@@ -67,27 +68,8 @@ pub fn expect(
     Ok(())
 }
 
-/// The core that `stop` writes with these words behind its files.
-pub fn core_with(
-    alloc: Global,
-    steps: &str,
-    script: &str,
-    options: &[&str],
-) -> Result<Vec<u8>, AllocError> {
-    let mut line = Vec::new(alloc);
-    line.extend_from_slice(&["stop", steps, "s", "c"])?;
-    line.extend_from_slice(options)?;
-    let done = run(alloc, line.as_slice(), script)?;
-    done.dest.bytes("c").unwrap_or(b"").to_vec(alloc)
-}
-
 /// The core at the event of this number among those of a kind.
-pub fn core_at(
-    alloc: Global,
-    script: &str,
-    kind: &str,
-    count: &str,
-) -> Result<Vec<u8>, AllocError> {
+pub fn core_at(alloc: Global, script: &str, kind: &str, count: &str) -> Result<Vec<u8>, Fail> {
     core_with(
         alloc,
         "1000000",

@@ -1,10 +1,10 @@
 //! What `follow` says of tasks: each kind current and stale, in every family and either order of bytes.
 
-use crate::calls::{Cores, core_at, core_with, expect};
+use crate::calls::{Cores, core_at, expect};
 use omi_outside::Status;
-use omi_test_calls::{call, core_of, with_word};
+use omi_test_calls::{call, core_of, core_with, with_word};
 use omi_test_rows::A_TEAM_OF_TWO;
-use std::alloc::{AllocError, Global};
+use std::alloc::Global;
 use std::fmt::Write;
 use std::process::Abort;
 use std::test::Fail;
@@ -157,10 +157,9 @@ fn every_family(rt: HostRuntime) -> Result<(), Fail> {
 }
 
 /// The core with the bytes of each word in the other order.
-fn turned(alloc: Global, core: &[u8]) -> Result<Vec<u8>, AllocError> {
+fn turned(alloc: Global, core: &[u8]) -> Result<Vec<u8>, Fail> {
     let line = ["recode", "1", "c", "d"];
-    let done = call(alloc, &line, ("", Some(core)), &[], &[], &[])?;
-    done.dest.bytes("d").unwrap_or(b"").to_vec(alloc)
+    call(alloc, &line, ("", Some(core)), &[], &[], &[])?.left(alloc, "d")
 }
 
 #[test]
@@ -180,9 +179,8 @@ fn either_order_of_bytes(rt: HostRuntime) -> Result<(), Fail> {
 }
 
 /// The core as an ELF file.
-fn as_elf(alloc: Global, core: &[u8]) -> Result<Vec<u8>, AllocError> {
-    let done = call(alloc, &["elf", "c", "d"], ("", Some(core)), &[], &[], &[])?;
-    done.dest.bytes("d").unwrap_or(b"").to_vec(alloc)
+fn as_elf(alloc: Global, core: &[u8]) -> Result<Vec<u8>, Fail> {
+    call(alloc, &["elf", "c", "d"], ("", Some(core)), &[], &[], &[])?.left(alloc, "d")
 }
 
 /// Each of the two cores may be an ELF file, whatever the other is.
@@ -207,11 +205,12 @@ fn either_kind_of_file(rt: HostRuntime) -> Result<(), Fail> {
 }
 
 /// The words of the second core's one task that differ: its life word, by what it is set to.
-fn expect_life(rt: &impl Abort, alloc: Global, life: u64, text: &str) -> Result<(), AllocError> {
+fn expect_life(rt: &impl Abort, alloc: Global, life: u64, text: &str) -> Result<(), Fail> {
     let first = core_of(alloc, "0", TWO_TASKS)?;
     let later = with_word(alloc, &first, 310, life)?;
     let cores = Cores::of(&first, &later);
-    expect(rt, alloc, cores, Status::Success, text)
+    expect(rt, alloc, cores, Status::Success, text)?;
+    Ok(())
 }
 
 /// Every life word but the one of the task's generation, odd or even, makes it stale.

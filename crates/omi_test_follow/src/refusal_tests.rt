@@ -1,9 +1,9 @@
 //! Refusals of `follow`: the first file is judged whole before the second one is looked at.
 
-use crate::calls::{Cores, call, core_with, expect, expect_done};
+use crate::calls::{Cores, call, expect, expect_done};
 use crate::fate_tests::{BOTH_CURRENT, TWO_TASKS, USED_AGAIN};
 use omi_outside::{Call, Status};
-use omi_test_calls::{core_of, opening_core_v1, with_word};
+use omi_test_calls::{core_of, core_with, opening_core_v1, with_word};
 use omi_test_rows::{A_TEAM_OF_TWO, AN_EMPTY_RUN};
 use std::alloc::{AllocError, Global};
 use std::process::Abort;
@@ -119,6 +119,9 @@ fn a_later_core_without_a_report(rt: HostRuntime) -> Result<(), Fail> {
     let later = with_word(alloc, &core, 114, 3)?;
     let cores = Cores::of(&core, &later);
     expect(&rt, alloc, cores, Status::Success, BOTH_CURRENT)?;
+    let turned = Cores::of(&later, &core);
+    let text = "damaged 0x3 thread.cur\n";
+    expect(&rt, alloc, turned, Status::Damaged, text)?;
     Ok(())
 }
 
@@ -149,7 +152,7 @@ fn expect_first(
     first: Option<&[u8]>,
     status: Status,
     text: &str,
-) -> Result<(), AllocError> {
+) -> Result<(), Fail> {
     let good = core_of(alloc, "0", AN_EMPTY_RUN)?;
     let other = core_of(alloc, "0", A_TEAM_OF_TWO)?;
     for later in [None, Some(b"".as_slice()), Some(&other), Some(&good)] {

@@ -138,13 +138,18 @@ fn has_null_ends<F: ToHost>(s: &mut Stopped<'_, F>) -> Result<bool, Rc> {
     Ok(is_alone && other == Err(Rc::Unavailable) && other_kind == Err(Rc::Unsupported))
 }
 
-/// The same before the first step of an empty run.
-fn null_ends_in<F: ToHost>(alloc: Global, order: ByteOrder, to_host: F) -> Result<bool, Wrong>
+/// The same before the first step of a script's run.
+fn null_ends_in<F: ToHost>(
+    alloc: Global,
+    script: &str,
+    order: ByteOrder,
+    to_host: F,
+) -> Result<bool, Wrong>
     requires takes { TakesAll (F.takes to_host) }
     requires gives { GivesNumbers (F.gives to_host) (if order.highest_first then 1 else 0) }
 {
     let asked = Asked::never();
-    let core = core_at(alloc, AN_EMPTY_RUN, 0, after(0))?;
+    let core = core_at(alloc, script, 0, after(0))?;
     let session = open(alloc, core, order, to_host, &asked)?;
     let mut s = Opened { session };
     let has = has_null_ends(&mut s.session)?;
@@ -176,7 +181,7 @@ fn team_numbers_in<F: ToHost>(alloc: Global, order: ByteOrder, to_host: F) -> Re
     Ok(has)
 }
 
-/// Whether there are null ends before the first step of an empty run, and two members at the fork of a team of two.
+/// Whether there are null ends before the first step of an empty run and of one of two threads, and two members at the fork of a team of two.
 fn null_ends_and_numbers_in<F: ToHost + Copy>(
     alloc: Global,
     order: ByteOrder,
@@ -185,9 +190,10 @@ fn null_ends_and_numbers_in<F: ToHost + Copy>(
     requires takes { TakesAll (F.takes to_host) }
     requires gives { GivesNumbers (F.gives to_host) (if order.highest_first then 1 else 0) }
 {
-    let null_ends = null_ends_in(alloc, order, to_host)?;
+    let of_one = null_ends_in(alloc, AN_EMPTY_RUN, order, to_host)?;
+    let of_two = null_ends_in(alloc, A_TEAM_OF_TWO, order, to_host)?;
     let numbers = team_numbers_in(alloc, order, to_host)?;
-    Ok((null_ends, numbers))
+    Ok((of_one && of_two, numbers))
 }
 
 #[test]

@@ -14,7 +14,9 @@ use omi_handle::TaskHandle;
 use omi_model::{TaskRow, Tid};
 use omi_session::Rc;
 use omi_test_rows::A_TEAM_OF_TWO;
-use omi_test_targets::{Asked, LITTLE, Opened, Stopped, Wrong, at_fork, core_at, library};
+use omi_test_targets::{
+    Asked, LITTLE, LONG_TASKS, Opened, Stopped, Wrong, at_fork, core_at, library, long_chains, open,
+};
 use omi_walk::{KeptList, WalkFault, kept, walk};
 use omi_word::{Natives, OutOfMemory};
 use std::alloc::Global;
@@ -191,5 +193,31 @@ fn no_handle_behind_a_call_that_fails(rt: HostRuntime) -> Result<(), Fail> {
         { u64::from_le_bytes(bytes) },
     );
     assert!(rt; calls.is_ok_and(|calls| calls > 150), "{calls:?}");
+    Ok(())
+}
+
+/// How many tasks a walk keeps over a memory of 64 threads whose tasks are one chain.
+fn kept_of_a_long_chain<F: ToHost>(alloc: Global, to_host: F) -> Result<usize, Wrong>
+    requires takes { TakesAll (F.takes to_host) }
+    requires gives { GivesNumbers (F.gives to_host) 0 }
+{
+    let asked = Asked::never();
+    let session = open(alloc, long_chains(alloc)?, LITTLE, to_host, &asked)?;
+    let mut s = Opened { session };
+    match tasks(alloc, &mut s.session)? {
+        Ok(kept) => Ok(kept.len()),
+        Err(_) => Err(Wrong::NoCore),
+    }
+}
+
+#[test]
+fn a_handle_of_each_task_of_a_long_chain(rt: HostRuntime) -> Result<(), Fail> {
+    let count = kept_of_a_long_chain(
+        rt.alloc(),
+        |bytes: [u8; 8]| -> u64
+            ensures { result ≡ from_le_bytes w64 bytes }
+        { u64::from_le_bytes(bytes) },
+    )?;
+    assert_eq!(rt; count as u64, LONG_TASKS);
     Ok(())
 }

@@ -1,8 +1,7 @@
 //! Tests of inquiries and walks over the words of stopped runs: what they answer.
 #![tactic(auto)]
 
-#[cfg(test)]
-mod answers;
+pub mod answers;
 #[cfg(test)]
 mod forks;
 #[cfg(test)]

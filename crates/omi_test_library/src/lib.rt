@@ -1,6 +1,8 @@
-//! Tests of sessions over the words of stopped runs: how they open, their handles, and a worked example.
+//! Tests of sessions over the words of stopped runs: how they open, their handles, long chains, and a worked example.
 #![tactic(auto)]
 
+#[cfg(test)]
+mod chains;
 #[cfg(test)]
 mod example;
 #[cfg(test)]

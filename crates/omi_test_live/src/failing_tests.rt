@@ -74,6 +74,7 @@ fn each_append(rt: HostRuntime) -> Result<(), Fail> {
     let whole = whole(&rt, alloc)?;
     let core = whole.core().ok_or("no core")?;
     let pieces = core.len().div_ceil(PIECE);
+    assert!(&rt; pieces > 1);
     for number in 0..pieces {
         let failing = [(Call::Append, number as u64 + 1)];
         let done = call_failing(&rt, alloc, NO_STEPS, A_TEAM_OF_TWO, &failing, &[])?;
@@ -118,6 +119,7 @@ fn each_put(rt: HostRuntime) -> Result<(), Fail> {
     assert_eq!(&rt; whole.status, Status::Success);
     let text = whole.out.bytes();
     let pieces = text.len().div_ceil(PIECE);
+    assert!(&rt; pieces > 0);
     for number in 0..pieces {
         let puts = [number as u64 + 1];
         let done = call_failing(&rt, alloc, budget, A_FULL_ROW, &[], &puts)?;

@@ -9,8 +9,6 @@ use omi_text::report_text;
 use omi_word::Natives;
 use std::test::Fail;
 
-/// A function that works, and a team of two threads over it.
-
 /// The events before the fork.
 const BEFORE: &str = "t1 begin; t1 offer; t0 enter; t0 state overhead 0; t0 want 2; t0 ask 1 got";
 

@@ -107,6 +107,7 @@ fn before_the_first_step(rt: HostRuntime) -> Result<(), Fail> {
             }
             assert!(rt; are_same(&stop.image, &end.image));
         }
+        assert_eq!(rt; end.runs.len(), usize::from(threads));
         for thread in end.runs.as_slice() {
             assert_eq!(rt; thread.steps, 0);
             assert_eq!(rt; thread.until, Until::Budget);
@@ -172,11 +173,11 @@ fn at_each_step(rt: HostRuntime) -> Result<(), Fail> {
 /// The gate is passed before and behind each call to stop, with the numbers from 1 on.
 #[test]
 fn eight_stops(rt: HostRuntime) -> Result<(), Fail> {
-    for (script, budget) in [
-        (NOTHING, 2_000),
-        (A_TEAM_OF_TWO, 300),
-        (A_LOCK, 300),
-        (A_TEAM_OF_SIXTY_FOUR, 5),
+    for (script, budget, threads) in [
+        (NOTHING, 2_000, 1),
+        (A_TEAM_OF_TWO, 300, 2),
+        (A_LOCK, 300, 4),
+        (A_TEAM_OF_SIXTY_FOUR, 5, 64),
     ] {
         let gate = Counting::new();
         let end = run(&rt, rt.alloc(), script, budget, MOST_STOPS, &gate);
@@ -184,7 +185,8 @@ fn eight_stops(rt: HostRuntime) -> Result<(), Fail> {
         let end = end.unwrap();
         assert_eq!(rt; end.stops.len(), 8);
         assert_eq!(rt; gate.passes(), (16, 16));
-        for thread in 0..end.runs.len() {
+        assert_eq!(rt; end.runs.len(), threads);
+        for thread in 0..threads {
             let mut last = 0;
             for stop in end.stops.as_slice() {
                 let steps = steps_of(stop, thread).ok_or("no number")?;
@@ -211,6 +213,7 @@ fn behind_its_end(rt: HostRuntime) -> Result<(), Fail> {
     assert!(rt; end.is_some());
     assert!(rt; gate.holds.all_ended());
     let end = end.unwrap();
+    assert_eq!(rt; end.stops.len(), 2);
     for stop in end.stops.as_slice() {
         let made = steps_of(stop, 0).ok_or("no number")?;
         assert!(rt; made.wrapping_add(1) == steps || made == steps);
@@ -249,6 +252,7 @@ fn fewer_threads(rt: HostRuntime) -> Result<(), Fail> {
             let end = end.map_err(|_| "no memory")?;
             assert_eq!(rt; gate.passes(), (16, 16));
             assert_eq!(rt; end.stops.len(), 8);
+            assert_eq!(rt; end.runs.len(), usize::from(threads));
             for stop in end.stops.as_slice() {
                 assert_eq!(rt; stop.steps.len(), usize::from(threads));
                 assert!(rt; in_work(&end, stop) <= usize::from(limit));

@@ -288,6 +288,7 @@ fn refused_scripts(rt: HostRuntime) -> Result<(), Fail> {
 fn a_put_that_fails(rt: HostRuntime) -> Result<(), Fail> {
     let alloc = rt.alloc();
     let whole = call(&rt, alloc, "0 8 s", AN_EMPTY_RUN, &FreeGate)?;
+    assert_eq!(rt; whole.status, Status::Success);
     let text = whole.out.bytes();
     let piece = text.get(..4096).ok_or("one piece")?;
     for (put, left) in [(1u64, b"" as &[u8]), (2, piece)] {

@@ -107,7 +107,7 @@ fn long_script(alloc: Global) -> Result<String, AllocError> {
 }
 
 /// A line over the team of two under `s` and its core under `c`. Its calls go into the log.
-fn run_over(alloc: Global, line: &[&str], log: &Log) -> Result<Status, AllocError> {
+fn run_over(alloc: Global, line: &[&str], log: &Log) -> Result<Status, Fail> {
     let mut source = MemFiles::new(alloc, Vec::new(alloc));
     source.put("s", long_script(alloc)?.as_bytes())?;
     source.put("c", &core_of(alloc, "197", A_TEAM_OF_TWO)?)?;
@@ -126,12 +126,14 @@ fn run_over(alloc: Global, line: &[&str], log: &Log) -> Result<Status, AllocErro
     Ok(run_top(alloc, &line, &mut files, &mut dest, &mut out))
 }
 
-/// The calls that a line makes, which succeeds.
+/// The calls that a line makes, which succeeds. There are some.
 fn calls_of(rt: &impl Abort, alloc: Global, line: &[&str]) -> Result<Vec<Noted>, Fail> {
     let log = Log::new(alloc);
     let status = run_over(alloc, line, &log)?;
     assert_eq!(rt; status, Status::Success);
-    Ok(log.calls().ok_or("a call is missing")?)
+    let calls = log.calls().ok_or("a call is missing")?;
+    assert!(rt; !calls.is_empty());
+    Ok(calls)
 }
 
 /// `run` reads the core back behind its last write, and so reads what it wrote where both objects are one disk.

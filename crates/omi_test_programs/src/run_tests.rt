@@ -30,7 +30,7 @@ fn expect_back(
     core: Option<&[u8]>,
     status: Status,
     texts: &[&str],
-) -> Result<(), AllocError> {
+) -> Result<(), Fail> {
     let line = ["run", "0", "s", "c"];
     let done = call(alloc, &line, (EMPTY, core), &[], &[], &[])?;
     assert_eq!(rt; done.status, status);
@@ -57,8 +57,7 @@ fn what_is_read_back(rt: HostRuntime) -> Result<(), Fail> {
         &["cycle 0x109b0\n"],
     )?;
     expect_back(&rt, alloc, None, Status::NoFile, &["no file c\n"])?;
-    expect_back(&rt, alloc, Some(b""), Status::Core, &["core 0 4 Short\n"])?;
-    Ok(())
+    expect_back(&rt, alloc, Some(b""), Status::Core, &["core 0 4 Short\n"])
 }
 
 /// `run 0` of an empty script over this core, where these calls of reading, writing and putting fail, ends with this status, puts this text and leaves

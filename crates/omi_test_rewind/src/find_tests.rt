@@ -68,7 +68,7 @@ fn first_of_thread(
     )
 }
 
-/// The first step up to a last one behind which a thread has a state. None where the layout has no such thread.
+/// The first step up to a last one behind which a thread has a state. An error where the layout has no such thread.
 fn first_in_state(
     alloc: Global,
     rewind: &mut Rewind,
@@ -82,7 +82,7 @@ fn first_in_state(
     ensures { rewind.new.how ≡ Schedule.RoundRobin }
 {
     if thread >= layout.threads() || !layout.fits(rewind.image().len()) {
-        return Ok(None);
+        return Err(Wrong::NoProgram);
     }
     first_of_thread(alloc, rewind, layout, thread, state, last)
 }

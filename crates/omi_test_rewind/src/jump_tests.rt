@@ -4,6 +4,8 @@ use crate::runs::{Wrong, differing, fork_of, jump, rewind_of, run_for, stands_be
 use omi_core::{End, Schedule, Stop};
 use omi_rewind::At;
 use omi_test_rows::A_TEAM_OF_TWO;
+use std::fs;
+use std::test::Fail;
 
 /// The workload that `make 1000` writes.
 const MANY_TASKS: &str = "threads 4
@@ -22,6 +24,28 @@ func main
   parallel team num 4
 end
 ";
+
+/// How many pages of memory the system has given to this process.
+fn pages(rt: &HostRuntime) -> Result<u64, Fail> {
+    let text = fs::read(rt, "/proc/self/statm")?;
+    let text = str::from_utf8(&text)?;
+    let (pages, _) = text.split_once(' ').ok_or("no number")?;
+    Ok(pages.parse::<u64>()?)
+}
+
+/// Fewer pages, of 4,096 bytes, than the room for 200,000 steps takes.
+const FEW_PAGES: u64 = 2_000;
+
+#[test]
+fn few_steps_take_little_room(rt: HostRuntime) -> Result<(), Fail> {
+    let alloc = rt.alloc();
+    let mut rewind = rewind_of(alloc, A_TEAM_OF_TWO)?;
+    let before = pages(&rt)?;
+    assert_eq!(rt; jump(alloc, &mut rewind, 10)?, At::Here);
+    let more = pages(&rt)?.saturating_sub(before);
+    assert!(rt; more < FEW_PAGES, "{more} pages");
+    Ok(())
+}
 
 #[test]
 fn back_one_step(rt: HostRuntime) -> Result<(), Wrong> {

@@ -84,5 +84,14 @@ fn sixteen_steps(rt: HostRuntime) -> Result<(), Fail> {
     let steps = "0,1,2,3,4,5,6,7,8,9,10,11,12,13,14,1000000";
     let done = call(alloc, &["at", steps, "s"], Some(AN_EMPTY_RUN), &[], &[])?;
     assert_eq!(rt; done.status, Status::Success);
+    let text = str::from_utf8(done.out.bytes())?;
+    let mut wanted = steps.split(',');
+    for line in text.lines() {
+        if let Some(place) = line.strip_prefix("step ") {
+            assert_eq!(rt; place.split(' ').next(), wanted.next());
+        }
+    }
+    assert_eq!(rt; wanted.next(), None);
+    assert!(rt; text.contains("\nstep 1000000 done 12\n"));
     Ok(())
 }

@@ -18,7 +18,8 @@ const ORDERS_OF_MANY: u64 = 24;
 /// More steps than a run has.
 const MOST: u64 = 6_000;
 
-/// Judges a workload in an order, in the layout of some family.
+/// Judges a workload in an order, in the layout of some family. The words are compared with the state at one of eight events at least, before the first
+/// step and behind the last one.
 fn judged(alloc: Global, script: &str, order: u64, dice: &mut Dice) -> Result<Trial, Wrong> {
     let looks = if order / 4 % 2 == 0 {
         Looks::EachEvent
@@ -28,6 +29,9 @@ fn judged(alloc: Global, script: &str, order: u64, dice: &mut Dice) -> Result<Tr
     let family = (dice.roll(16) % 16) as u8;
     let mut t = Trial::opening(alloc, script, family, looks)?;
     at_random(&mut t, manner_of(order), dice, MOST)?;
+    if t.compared < (t.core().events().len() as u64 / 8).wrapping_add(2) {
+        return Err(Wrong::Unseen);
+    }
     Ok(t)
 }
 

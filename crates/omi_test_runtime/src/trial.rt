@@ -45,6 +45,8 @@ pub enum Wrong {
     Falls { step: u64 },
     /// Life words were stored at other steps than those that the events tell of.
     Lives,
+    /// The words were compared with the state less often than they are to be.
+    Unseen,
     /// The words have no report.
     NoReport,
     /// A word differs from the state.

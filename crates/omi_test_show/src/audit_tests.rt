@@ -2,7 +2,7 @@
 
 use crate::show_tests::{DAMAGED, HOSTILE, with_byte};
 use omi_outside::{Call, Status};
-use omi_test_calls::{call, core_of, opening_core_v1, run, with_word};
+use omi_test_calls::{call, core_of, core_with, opening_core_v1, with_word};
 use omi_test_rows::{A_FULL_ROW, A_TEAM_OF_TWO, AN_EMPTY_RUN};
 use std::alloc::{AllocError, Global};
 use std::process::Abort;
@@ -36,22 +36,12 @@ fn cores_of_runs(rt: HostRuntime) -> Result<(), Fail> {
         Status::Success,
         "audit ok records 2\n",
     )?;
-    let line = [
-        "stop",
-        "100000",
-        "s",
-        "c",
-        "--break",
-        "parallel_begin",
-        "--count",
-        "1",
-    ];
-    let done = run(alloc, &line, A_TEAM_OF_TWO)?;
-    let core = done.dest.bytes("c");
+    let options = ["--break", "parallel_begin", "--count", "1"];
+    let core = core_with(alloc, "100000", A_TEAM_OF_TWO, &options)?;
     expect(
         &rt,
         alloc,
-        core,
+        Some(&core),
         &[],
         Status::Success,
         "audit ok records 5\n",
@@ -67,14 +57,9 @@ fn is_approved(
     steps: &str,
     options: &[&str],
     begins: &str,
-) -> Result<(), AllocError> {
-    let mut line = Vec::new(alloc);
-    line.extend_from_slice(&["stop", steps, "s", "c"])?;
-    line.extend_from_slice(options)?;
-    let done = run(alloc, line.as_slice(), script)?;
-    assert_eq!(rt; done.status, Status::Success);
-    let core = done.dest.bytes("c");
-    let done = call(alloc, &["audit", "c"], ("", core), &[], &[], &[])?;
+) -> Result<(), Fail> {
+    let core = core_with(alloc, steps, script, options)?;
+    let done = call(alloc, &["audit", "c"], ("", Some(&core)), &[], &[], &[])?;
     assert_eq!(rt; done.status, Status::Success);
     assert!(rt;
         done.out.bytes().starts_with(begins.as_bytes()),
@@ -91,7 +76,7 @@ fn is_approved_at(
     family: &str,
     kind: &str,
     count: &str,
-) -> Result<(), AllocError> {
+) -> Result<(), Fail> {
     let options = [
         "--layout", family, "--seed", family, "--break", kind, "--count", count,
     ];
@@ -256,8 +241,7 @@ fn sixty_four_threads_at_a_fork(rt: HostRuntime) -> Result<(), Fail> {
         "1",
     ];
     let text = "audit ok records 67\n";
-    is_approved(&rt, rt.alloc(), SIXTY_FOUR, "1000000", &options, text)?;
-    Ok(())
+    is_approved(&rt, rt.alloc(), SIXTY_FOUR, "1000000", &options, text)
 }
 
 /// What `audit` says where the level of the initial region is out of range.

@@ -33,9 +33,8 @@ fn expect_done(rt: &impl Abort, done: &Done, status: Status, text: &[u8], copy: 
 }
 
 /// The file that `elf` writes of a core.
-fn elf_of(alloc: Global, core: &[u8]) -> Result<Vec<u8>, AllocError> {
-    let done = elf(alloc, core)?;
-    done.dest.bytes("d").unwrap_or(b"").to_vec(alloc)
+fn elf_of(alloc: Global, core: &[u8]) -> Result<Vec<u8>, Fail> {
+    elf(alloc, core)?.left(alloc, "d")
 }
 
 /// The core of an empty run as an ELF file: its length, its report, and a fault at its type and at its end.
@@ -62,15 +61,11 @@ fn written_as_elf(rt: HostRuntime) -> Result<(), Fail> {
 }
 
 /// The ELF file of a core has so many bytes more, and this report.
-fn expect_file(
-    rt: &impl Abort,
-    alloc: Global,
-    core: &[u8],
-    report: &str,
-) -> Result<(), AllocError> {
+fn expect_file(rt: &impl Abort, alloc: Global, core: &[u8], report: &str) -> Result<(), Fail> {
     let file = elf_of(alloc, core)?;
     assert_eq!(rt; file.len(), core.len().wrapping_add(164));
-    expect(rt, alloc, &file, Status::Success, report)
+    expect(rt, alloc, &file, Status::Success, report)?;
+    Ok(())
 }
 
 /// A core in the other order has the same report as an ELF file.
@@ -82,7 +77,7 @@ fn both_orders(rt: HostRuntime) -> Result<(), Fail> {
         let line = ["recode", "1", "c", "d"];
         let big = call(alloc, &line, ("", Some(core.as_slice())), &[], &[], &[])?;
         expect_file(&rt, alloc, &core, report)?;
-        expect_file(&rt, alloc, big.dest.bytes("d").unwrap_or(b""), report)?;
+        expect_file(&rt, alloc, &big.left(alloc, "d")?, report)?;
     }
     Ok(())
 }

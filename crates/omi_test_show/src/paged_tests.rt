@@ -2,7 +2,7 @@
 
 use crate::counted::Counted;
 use omi_outside::{Call, MemFiles, MemSink, Status};
-use omi_test_calls::{EMPTY, call, core_of, run, words};
+use omi_test_calls::{EMPTY, call, core_of, core_with, words};
 use omi_test_rows::A_TEAM_OF_TWO;
 use omi_top::run_top;
 use std::alloc::{AllocError, Global};
@@ -85,21 +85,9 @@ fn shown(alloc: Global, core: &[u8]) -> Result<(Status, u64, u64), AllocError> {
 #[test]
 fn fewer_bytes_than_the_core_has(rt: HostRuntime) -> Result<(), Fail> {
     let alloc = rt.alloc();
-    let line = [
-        "stop",
-        "1000000",
-        "s",
-        "c",
-        "--seed",
-        "5",
-        "--break",
-        "task_begin",
-        "--count",
-        "20",
-    ];
-    let done = run(alloc, &line, TREES)?;
-    let core = done.dest.bytes("c").ok_or("no core")?;
-    let (status, _, given) = shown(alloc, core)?;
+    let options = ["--seed", "5", "--break", "task_begin", "--count", "20"];
+    let core = core_with(alloc, "1000000", TREES, &options)?;
+    let (status, _, given) = shown(alloc, &core)?;
     assert_eq!(rt; status, Status::Success);
     assert!(rt; 0 < given && given < core.len() as u64, "{given}");
     Ok(())

@@ -33,19 +33,9 @@ fn expect_done(rt: &impl Abort, done: &Done, status: Status, text: &[u8], copy: 
     assert_eq!(rt; done.dest.bytes("other"), Some(b"stays".as_slice()));
 }
 
-/// The bytes under `d`.
-fn copied(alloc: Global, done: &Done) -> Result<Vec<u8>, AllocError> {
-    done.dest.bytes("d").unwrap_or(b"").to_vec(alloc)
-}
-
 /// A core in order 1 has byte 9 and the words of it, and the same report; back in order 0 it has its bytes again.
-fn expect_both(
-    rt: &impl Abort,
-    alloc: Global,
-    core: &[u8],
-    report: &str,
-) -> Result<(), AllocError> {
-    let big = copied(alloc, &recode(alloc, "1", core)?)?;
+fn expect_both(rt: &impl Abort, alloc: Global, core: &[u8], report: &str) -> Result<(), Fail> {
+    let big = recode(alloc, "1", core)?.left(alloc, "d")?;
     assert_eq!(rt; big.len(), core.len());
     assert_eq!(rt; big.get(9), Some(&1));
     assert_eq!(rt; big.get(10..40), core.get(10..40));
@@ -154,7 +144,7 @@ fn calls_that_fail(rt: HostRuntime) -> Result<(), Fail> {
         &[],
     )?;
     expect_done(&rt, &done, Status::WriteFault, b"", None);
-    let big = copied(alloc, &recode(alloc, "1", &core)?)?;
+    let big = recode(alloc, "1", &core)?.left(alloc, "d")?;
     let done = recode_with(
         alloc,
         "1",

@@ -104,13 +104,13 @@ pub fn expect(
     expect_line(rt, alloc, &["show", "c"], core, None, status, text)
 }
 
-/// The core with another byte at a place.
-pub fn with_byte(alloc: Global, core: &[u8], at: usize, byte: u8) -> Result<Vec<u8>, AllocError> {
-    let mut changed = Vec::new(alloc);
-    changed.extend_from_slice(core)?;
-    if at < changed.len() {
-        changed[at] = byte;
+/// The core with another byte at a place. An error where it has no such byte.
+pub fn with_byte(alloc: Global, core: &[u8], at: usize, byte: u8) -> Result<Vec<u8>, Fail> {
+    let mut changed = core.to_vec(alloc)?;
+    if at >= changed.len() {
+        return Err(Fail::from("no such byte"));
     }
+    changed[at] = byte;
     Ok(changed)
 }
 
@@ -121,7 +121,7 @@ fn expect_changed(
     changes: &[(usize, u8)],
     status: Status,
     text: &str,
-) -> Result<(), AllocError> {
+) -> Result<(), Fail> {
     let core = core_of(alloc, "0", EMPTY)?;
     for (at, byte) in changes {
         let changed = with_byte(alloc, &core, *at, *byte)?;
@@ -136,7 +136,7 @@ fn expect_each(
     alloc: Global,
     changes: &[(usize, u8, &str)],
     status: Status,
-) -> Result<(), AllocError> {
+) -> Result<(), Fail> {
     for (at, byte, text) in changes {
         expect_changed(rt, alloc, &[(*at, *byte)], status, text)?;
     }
@@ -268,8 +268,7 @@ const NO_CORE: [(usize, u8, &str); 7] = [
 
 #[test]
 fn bytes_that_are_no_core(rt: HostRuntime) -> Result<(), Fail> {
-    expect_each(&rt, rt.alloc(), &NO_CORE, Status::Core)?;
-    Ok(())
+    expect_each(&rt, rt.alloc(), &NO_CORE, Status::Core)
 }
 
 #[test]

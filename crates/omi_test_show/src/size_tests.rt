@@ -5,11 +5,11 @@ ghost use Rattle.std.specs.Prelude.{◌≤◌};
 use crate::show_tests::{OPENING, expect};
 use omi_outside::Status;
 use omi_test_calls::{EMPTY, call, core_of};
-use std::alloc::{AllocError, Global};
+use std::alloc::Global;
 use std::test::Fail;
 
 /// The core of the opening words with so many words, those behind the image all 0.
-fn longer_core(alloc: Global, words: u64) -> Result<Vec<u8>, AllocError>
+fn longer_core(alloc: Global, words: u64) -> Result<Vec<u8>, Fail>
     requires { words ≤ 1048577 }
 {
     let mut core = core_of(alloc, "0", EMPTY)?;

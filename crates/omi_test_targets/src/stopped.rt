@@ -61,8 +61,8 @@ pub fn at_fork() -> Stop
 }
 
 /// A run. Its drop is written out, so that what lets a run go owes one call, and not the drops of all its parts at each exit.
-struct Run {
-    core: Core,
+pub(crate) struct Run {
+    pub(crate) core: Core,
 }
 
 impl Drop for Run {
@@ -72,7 +72,7 @@ impl Drop for Run {
 }
 
 /// The program of a script.
-fn program_of(alloc: Global, script: &str) -> Result<Program, Wrong> {
+pub(crate) fn program_of(alloc: Global, script: &str) -> Result<Program, Wrong> {
     match parse(alloc, script.as_bytes()) {
         Ok(program) => Ok(program),
         Err(_) => Err(Wrong::NoProgram),
@@ -80,7 +80,7 @@ fn program_of(alloc: Global, script: &str) -> Result<Program, Wrong> {
 }
 
 /// The layout of a family for so many threads.
-fn layout_for(threads: u8, family: u8) -> Result<Layout, Wrong> {
+pub(crate) fn layout_for(threads: u8, family: u8) -> Result<Layout, Wrong> {
     if family > 15 || threads < 1 || u64::from(threads) > MOST_THREADS {
         return Err(Wrong::NoProgram);
     }
@@ -88,7 +88,7 @@ fn layout_for(threads: u8, family: u8) -> Result<Layout, Wrong> {
 }
 
 /// The run of a program in a layout, where this suits it, before its first step.
-fn run_of(alloc: Global, program: Program, layout: Layout) -> Result<Run, Wrong> {
+pub(crate) fn run_of(alloc: Global, program: Program, layout: Layout) -> Result<Run, Wrong> {
     if !suits(&program, &layout) {
         return Err(Wrong::NoProgram);
     }

@@ -59,6 +59,7 @@ fn no_budget(rt: HostRuntime) -> Result<(), Fail> {
     let end = run(&rt, rt.alloc(), A_TEAM_OF_TWO, 0, None, &FreeGate);
     assert!(rt; end.is_some());
     let end = end.unwrap();
+    assert_eq!(rt; end.runs.len(), 2);
     for thread in end.runs.as_slice() {
         assert_eq!(rt; thread.steps, 0);
         assert_eq!(rt; thread.until, Until::Budget);
@@ -84,6 +85,7 @@ fn a_break_stops(rt: HostRuntime) -> Result<(), Fail> {
     assert!(rt; end.is_some());
     let end = end.unwrap();
     assert_eq!(rt; until_of(&end, 0), Some(Until::Stopped));
+    assert_eq!(rt; end.runs.len(), 4);
     for thread in end.runs.as_slice() {
         assert_ne!(rt; thread.until, Until::Ended);
     }
@@ -163,24 +165,33 @@ fn work_begins_once_all_have_offered(rt: HostRuntime) -> Result<(), Fail> {
         let end = run(&rt, rt.alloc(), script, 5, None, &gate);
         assert!(rt; end.is_some(), "{threads} threads");
         assert_eq!(rt; gate.seen(), threads - 1, "{threads} threads");
-        for thread in end.unwrap().runs.as_slice() {
+        let end = end.unwrap();
+        assert_eq!(rt; end.runs.len() as u64, threads);
+        for thread in end.runs.as_slice() {
             assert_eq!(rt; thread.steps, 5, "{threads} threads");
         }
         let end = run(&rt, rt.alloc(), script, 2, None, &Starting::new());
         assert!(rt; end.is_some(), "{threads} threads");
-        for thread in end.unwrap().runs.as_slice() {
+        let end = end.unwrap();
+        assert_eq!(rt; end.runs.len() as u64, threads);
+        for thread in end.runs.as_slice() {
             assert_eq!(rt; thread.steps, 2, "{threads} threads");
         }
     }
     Ok(())
 }
 
+/// More passes than end in a test's time where each of them waits.
+const MANY: u64 = 20_000;
+
 /// Who waits in vain goes on after so many turns, and then nobody waits any more.
 #[test]
 fn no_thread_waits_for_ever(rt: HostRuntime) -> Result<(), Fail> {
-    let gate = StartGate::of(3);
+    let gate = StartGate::of(20);
     gate.open(4, 10);
-    gate.pass(0, 1);
+    for _pass in 0..MANY {
+        gate.pass(0, 1);
+    }
     gate.pass(2, 3);
     let end = run(&rt, rt.alloc(), A_TEAM_OF_TWO, 5, None, &StartGate::of(0));
     assert!(rt; end.is_some());

@@ -4,7 +4,10 @@ use omi_outside::Status;
 use omi_seat::StartGate;
 use omi_test_gates::{call_past, inspect};
 use omi_test_rows::A_TEAM_OF_TWO;
+use std::alloc::Global;
+use std::process::Abort;
 use std::test::Fail;
+use std::thread::Threads;
 
 /// A team of as many threads as a program can have.
 const A_TEAM_OF_SIXTY_FOUR: &str =
@@ -60,6 +63,21 @@ func main
 end
 ";
 
+/// A thread that makes a team of itself alone and a task, beside three that wait to be asked: it waits for none of them, so it comes to
+/// each of its events.
+const A_TEAM_OF_ONE: &str = "threads 4
+func leaf
+  work
+end
+func member
+  task leaf
+  taskwait
+end
+func main
+  parallel member num 1
+end
+";
+
 /// So many turns a thread waits at most until all others have offered themselves.
 const TURNS: u64 = 4_000_000;
 
@@ -107,39 +125,64 @@ fn cut_runs_are_shown(rt: HostRuntime) -> Result<(), Fail> {
     Ok(())
 }
 
-/// Whether the first event of a kind is the last line of a thread, if it has one.
-fn ends_with_first(lines: &str, kind: &str) -> bool {
-    match lines.split_once(kind) {
-        Some((_, rest)) => !rest.trim_end().contains('\n'),
-        None => true,
+/// Each kind of break, and how the lines of its events go on behind their threads.
+const BREAKS: [(&str, &str); 5] = [
+    ("thread_begin", " begin"),
+    ("parallel_begin", " fork "),
+    ("task_begin", " start"),
+    ("task_end", " finish "),
+    ("parallel_end", " join "),
+];
+
+/// How many threads come to an event of a kind. It is the last one of each of them, and the core is shown.
+fn stopped_by<R: Threads + Sync + Abort>(
+    rt: &R,
+    alloc: Global,
+    script: &str,
+    name: &str,
+    kind: &str,
+) -> Result<usize, Fail> {
+    let line = format!(in alloc; "5000 s c --break {name}")?;
+    let gate = StartGate::of(100);
+    let mut done = call_past(rt, alloc, &line, script, None, Vec::new(alloc), &gate)?;
+    assert_eq!(rt; done.status, Status::Success, "{name}");
+    let printed = done.printed(alloc)?;
+    let events = printed
+        .strip_suffix("end budget 5000\n")
+        .ok_or("no end line")?;
+    let mut count = 0usize;
+    for lines in events.split("thread ") {
+        let Some((_, rest)) = lines.split_once(kind) else {
+            continue;
+        };
+        assert!(rt; !rest.trim_end().contains('\n'), "{name}");
+        count = count.wrapping_add(1);
     }
+    let shown = inspect(alloc, "show c", &mut done.files)?;
+    assert_eq!(rt; shown.status, Status::Success, "{name}");
+    Ok(count)
 }
 
-/// At each kind of break, its event is the last of its thread, and the core is shown. Where a thread that begins is a break, others may
-/// not offer themselves, and who waits for them does so in vain.
+/// At each kind of break its event comes. Where a thread that begins is a break, others may not offer themselves, and who waits for them
+/// does so in vain.
 #[test]
 fn each_kind_of_break_stops(rt: HostRuntime) -> Result<(), Fail> {
-    let alloc = rt.alloc();
-    for (name, kind) in [
-        ("thread_begin", " begin"),
-        ("parallel_begin", " fork "),
-        ("task_begin", " start"),
-        ("task_end", " finish "),
-        ("parallel_end", " join "),
-    ] {
-        let line = format!(in alloc; "5000 s c --break {name}")?;
-        let gate = StartGate::of(100);
-        let mut done = call_past(&rt, alloc, &line, TASKS, None, Vec::new(alloc), &gate)?;
-        assert_eq!(&rt; done.status, Status::Success, "{name}");
-        let printed = done.printed(alloc)?;
-        let events = printed
-            .strip_suffix("end budget 5000\n")
-            .ok_or("no end line")?;
-        for lines in events.split("thread ") {
-            assert!(&rt; ends_with_first(lines, kind), "{name}");
-        }
-        let shown = inspect(alloc, "show c", &mut done.files)?;
-        assert_eq!(&rt; shown.status, Status::Success, "{name}");
+    for (name, kind) in BREAKS {
+        let count = stopped_by(&rt, rt.alloc(), A_TEAM_OF_ONE, name, kind)?;
+        assert!(&rt; count > 0, "{name}");
+    }
+    Ok(())
+}
+
+/// In a team whose threads wait for each other a budget may end before the event comes.
+#[test]
+fn a_break_is_the_last_event_of_a_member(rt: HostRuntime) -> Result<(), Fail> {
+    for (name, kind) in BREAKS {
+        let count = stopped_by(&rt, rt.alloc(), TASKS, name, kind)?;
+        assert!(&rt;
+            count > 0 || name == "task_end" || name == "parallel_end",
+            "{name}"
+        );
     }
     Ok(())
 }
