@@ -78,14 +78,22 @@ fn first_states(rt: HostRuntime) -> Result<(), Fail> {
     Ok(())
 }
 
+/// As many steps as a command line may name.
+const SIXTEEN_STEPS: &str = "0,1,2,3,4,5,6,7,8,9,10,11,12,13,14,1000000";
+
 #[test]
 fn sixteen_steps(rt: HostRuntime) -> Result<(), Fail> {
     let alloc = rt.alloc();
-    let steps = "0,1,2,3,4,5,6,7,8,9,10,11,12,13,14,1000000";
-    let done = call(alloc, &["at", steps, "s"], Some(AN_EMPTY_RUN), &[], &[])?;
+    let done = call(
+        alloc,
+        &["at", SIXTEEN_STEPS, "s"],
+        Some(AN_EMPTY_RUN),
+        &[],
+        &[],
+    )?;
     assert_eq!(rt; done.status, Status::Success);
     let text = str::from_utf8(done.out.bytes())?;
-    let mut wanted = steps.split(',');
+    let mut wanted = SIXTEEN_STEPS.split(',');
     for line in text.lines() {
         if let Some(place) = line.strip_prefix("step ") {
             assert_eq!(rt; place.split(' ').next(), wanted.next());
