@@ -25,6 +25,7 @@ CLAUSE = re.compile(r"^ *(?:ensures|requires|law)\*? (\w+) \{", re.M)
 BODY = re.compile(r"^(?:pub )?(?:struct|enum|trait) [^\n]*\{\n(.*?)^\}", re.M | re.S)
 MEMBER = re.compile(r"^    (?:pub(?:\(\w+\))? )?(\w+)", re.M)
 DEFINED = re.compile(r"^ *(?:(?:abbrev|unfoldable|pub|record|data) )*([^\s:({]+) :|^ *pub (?:record|data|mod) (\S+)", re.M)
+FILE_ENDS = (".md", ".rt", ".antt", ".py", ".c", ".h", ".omp", ".expected", ".txt")
 CODE = (".c", ".h", ".py", ".mk", ".map", ".omp")
 
 
@@ -84,6 +85,8 @@ class Known:
             return True
         if "*" in name:
             return any(fnmatch.fnmatch(it, name) for it in self.ends)
+        if name.endswith(FILE_ENDS):
+            return False
         if "/" in name:  # what is built stands in the folder out of its own
             front, out, _ = name.partition("/out/")
             return bool(out) and front in self.ends
