@@ -1,5 +1,5 @@
 #!/usr/bin/env python3
-"""Checks the names in backticks of all documents but CHANGELOG.md, which speaks of what was.
+"""Checks the names in backticks, and of crates, in all documents but CHANGELOG.md, which speaks of what was.
 
 docs/names.py           fails where a document names a file, crate, function, clause or definition that isn't there
 docs/names.py words     prints the words of docs/words.txt that no document has any more
@@ -18,6 +18,7 @@ ROOT = os.path.dirname(os.path.dirname(os.path.abspath(__file__)))
 WORDS = "docs/words.txt"
 
 NAME = re.compile(r"`([\w.:/*-]+(?:\(\))?)`")
+CRATE = re.compile(r"\bomi_\w+")
 NUMBER = re.compile(r"-?(?:0x[0-9a-f]+|[\d.,:-]+)")
 IN_CRATE = re.compile(r"`?\b(\w+)`? \(((?:`[\w/]+\.(?:rt|antt)`(?:, | and )?)+)\)")
 ITEM = re.compile(r"^ *(?:pub(?:\(\w+\))? )?(?:unsafe )?(?:fn|struct|enum|trait|const|static|mod|type) (\w+)", re.M)
@@ -102,7 +103,7 @@ def names_of(path):
     for number, line in enumerate(read(path).split("\n"), 1):
         fenced ^= line.startswith("```")
         if not fenced and not line.startswith("    "):
-            for name in NAME.findall(line):
+            for name in NAME.findall(line) + CRATE.findall(re.sub(r"`[^`]*`", "", line)):
                 yield number, name
 
 
