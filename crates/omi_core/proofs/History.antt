@@ -1,7 +1,6 @@
 -- A step more at the end of a list of steps, and what the list makes then.
-use Rattle.std.proofs.Common.{◌≡◌, ◌≢◌, ◌+◌, ◌==◌, ◌++◌, ℕ, suc, Bool, true, false, List, [], ◌∷◌, length, refl, sym, ap, ◌∙◌, subst, arith, eqb-true, if◌then◌else◌}
+use Rattle.std.proofs.Common.{◌≡◌, ◌≢◌, ◌+◌, ◌==◌, ◌++◌, ℕ, suc, Bool, true, false, List, [], ◌∷◌, length, refl, sym, ap, ◌∙◌, subst, arith, eqb-true, eq-eqb, if◌then◌else◌}
 use Rattle.std.proofs.lemmas.List.{append_assoc, append-nil}
-use Rattle.std.proofs.lemmas.Bool.Decides.{nat_tests}
 use Rattle.omi_word.specs.Memory.{words_after}
 use Rattle.omi_script.specs.declared.program.Program.{Program}
 use Rattle.omi_model.specs.declared.event.Event.{Event}
@@ -92,33 +91,45 @@ steps_one_more p w words past s watches (x ∷ xs) last t later i e next watch (
 
 -- ---- the steps of one thread
 
+-- what a list has under one number, when one more is added at its end
+module _ {A : Type 0} (under : List (ℕ × A) → List A) (j : ℕ) (none : under [] ≡ [])
+    (some : (x : ℕ × A) (xs : List (ℕ × A)) → under (x ∷ xs) ≡ (if x.0 == j then x.1 ∷ under xs else under xs)) where
+  -- under this number
+  pub own_more : (xs : List (ℕ × A)) (a : A) → under (xs ++ (j, a) ∷ []) ≡ under xs ++ a ∷ []
+  own_more [] a =
+      some (j, a) []
+      ∙ ap (λ b. if b then a ∷ under [] else under []) (eq-eqb j j refl)
+      ∙ ap (λ (ys : List A). a ∷ ys) none
+      ∙ ap (λ (ys : List A). ys ++ a ∷ []) (sym none)
+  own_more (x ∷ xs) a =
+      some x (xs ++ (j, a) ∷ [])
+      ∙ by (own_more xs a) (x.0 == j)
+      ∙ ap (λ (ys : List A). ys ++ a ∷ []) (sym (some x xs))
+    where
+      by : under (xs ++ (j, a) ∷ []) ≡ under xs ++ a ∷ [] → (b : Bool)
+          → (if b then x.1 ∷ under (xs ++ (j, a) ∷ []) else under (xs ++ (j, a) ∷ [])) ≡ (if b then x.1 ∷ under xs else under xs) ++ a ∷ []
+      by rest true = ap (λ (ys : List A). x.1 ∷ ys) rest
+      by rest false = rest
+
+  -- and under another one
+  pub other_more : (i : ℕ) (xs : List (ℕ × A)) (a : A) → i ≢ j → under (xs ++ (i, a) ∷ []) ≡ under xs
+  other_more i [] a other = some (i, a) [] ∙ by (i == j) refl
+    where
+      by : (b : Bool) → i == j ≡ b → (if b then a ∷ under [] else under []) ≡ under []
+      by true is = absurd (other (eqb-true i j is))
+      by false is = refl
+  other_more i (x ∷ xs) a other =
+      some x (xs ++ (i, a) ∷ [])
+      ∙ ap (λ (ys : List A). if x.0 == j then x.1 ∷ ys else ys) (other_more i xs a other)
+      ∙ sym (some x xs)
+
 pub own_one_more : (j : ℕ) (xs : List (ℕ × Entry)) (e : Entry)
     → steps_of j (xs ++ (j, e) ∷ []) ≡ steps_of j xs ++ e ∷ []
-own_one_more j [] e = by (j == j) refl
-  where
-    by : (b : Bool) → j == j ≡ b → (if b then e ∷ [] else []) ≡ e ∷ []
-    by true is = refl
-    by false is = absurd (grind (arith, nat_tests))
-own_one_more j (x ∷ xs) e = by (own_one_more j xs e) (x.0 == j)
-  where
-    by : steps_of j (xs ++ (j, e) ∷ []) ≡ steps_of j xs ++ e ∷ [] → (b : Bool)
-        → (if b then x.1 ∷ steps_of j (xs ++ (j, e) ∷ []) else steps_of j (xs ++ (j, e) ∷ [])) ≡ (if b then x.1 ∷ steps_of j xs else steps_of j xs) ++ e ∷ []
-    by rest true = ap (λ (ys : List Entry). x.1 ∷ ys) rest
-    by rest false = rest
+own_one_more j = own_more (steps_of j) j refl (λ x xs. refl)
 
 pub other_one_more : (j i : ℕ) (xs : List (ℕ × Entry)) (e : Entry) → i ≢ j
     → steps_of j (xs ++ (i, e) ∷ []) ≡ steps_of j xs
-other_one_more j i [] e other = by (i == j) refl
-  where
-    by : (b : Bool) → i == j ≡ b → (if b then e ∷ [] else []) ≡ []
-    by true is = absurd (other (eqb-true i j is))
-    by false is = refl
-other_one_more j i (x ∷ xs) e other = by (other_one_more j i xs e other) (x.0 == j)
-  where
-    by : steps_of j (xs ++ (i, e) ∷ []) ≡ steps_of j xs → (b : Bool)
-        → (if b then x.1 ∷ steps_of j (xs ++ (i, e) ∷ []) else steps_of j (xs ++ (i, e) ∷ [])) ≡ (if b then x.1 ∷ steps_of j xs else steps_of j xs)
-    by rest true = ap (λ (ys : List Entry). x.1 ∷ ys) rest
-    by rest false = rest
+other_one_more j = other_more (steps_of j) j refl (λ x xs. refl)
 
 -- a worker makes its next step
 pub goes_under_way : (p : Program) (w : List ℕ) (a : Actor) (es : List Entry) (e : Entry)

@@ -17,9 +17,12 @@ use Rattle.omi_core.specs.Kept.{KeepsRun}
 use Rattle.omi_core.proofs.Stepping.{actor_is, few_seats, inside, own, right, run_after, seats_for, spare_after}
 use Rattle.omi_core.proofs.run.Core.step.Goals as goal
 
--- the actor of a thread, as it is read from the list
-module _ (a : Run) (keeps : KeepsRun a) (i : ℕ) (thread : i < a.program.threads) (b : Actor)
+-- the actor of a thread, as it is read from the list of a run that is seen as this one
+module _ (a seen : Run) (view : a ≡ seen) (keeps : KeepsRun a) (i : ℕ) (known : i < seen.program.threads) (b : Actor)
     (read : b ≡ slice_index_or a.actors i b) where
+  thread : i < a.program.threads
+  thread = subst (λ (z : Run). i < z.program.threads) (sym view) known
+
   read_is : b ≡ actors_in a.actors i
   read_is = read ∙ actor_is a.actors i b (subst (λ n. i < n) (sym keeps.actors) thread)
 
@@ -31,13 +34,11 @@ module _ (a : Run) (keeps : KeepsRun a) (i : ℕ) (thread : i < a.program.thread
 
 pub next-op-requires-clause-fits : goal.next-op-requires-clause-fits
 next-op-requires-clause-fits c =
-    let thread = subst (λ (z : Run). c.args.i < z.program.threads) (sym c.self.view_is) c.requires.thread in
-    fits_read _ c.self.invariant c.args.i thread c.index-actor.result.now c.index-actor.ensures
+    fits_read _ _ c.self.view_is c.self.invariant c.args.i c.requires.thread c.index-actor.result.now c.index-actor.ensures
 
 pub next-op-requires-clause-placed : goal.next-op-requires-clause-placed
 next-op-requires-clause-placed c =
-    let thread = subst (λ (z : Run). c.args.i < z.program.threads) (sym c.self.view_is) c.requires.thread in
-    placed_read _ c.self.invariant c.args.i thread c.index-actor.result.now c.index-actor.ensures
+    placed_read _ _ c.self.view_is c.self.invariant c.args.i c.requires.thread c.index-actor.result.now c.index-actor.ensures
 
 pub next-op-requires-clause-groups : goal.next-op-requires-clause-groups
 next-op-requires-clause-groups c = c.self.invariant.suits.groups
@@ -46,33 +47,29 @@ pub apply-found-requires : goal.apply-found-requires
 apply-found-requires c =
     let thread = subst (λ (z : Run). c.args.i < z.program.threads) (sym c.self.view_is) c.requires.thread in
     let spare = subst (λ (z : Run). 1 ≤ spare_in z) (sym c.self.view_is) c.requires.spare in
-    let here = read_is _ c.self.invariant c.args.i thread c.index-actor.result.now c.index-actor.ensures in
+    let here = read_is _ _ c.self.view_is c.self.invariant c.args.i c.requires.thread c.index-actor.result.now c.index-actor.ensures in
     subst (λ (o : Op). IsWordOf c.self.inside.image (address_of o))
     (sym (c.next-op.ensures ∙ ap (λ (b : Actor). next_of c.self.inside.program c.self.inside.layout.table b) here))
     (inside _ c.self.invariant c.args.i thread spare)
 
 pub outcome-came-requires-clause-fits : goal.outcome-came-requires-clause-fits
 outcome-came-requires-clause-fits c =
-    let thread = subst (λ (z : Run). c.args.i < z.program.threads) (sym c.self.view_is) c.requires.thread in
-    fits_read _ c.self.invariant c.args.i thread c.index-actor.result.now c.index-actor.ensures
+    fits_read _ _ c.self.view_is c.self.invariant c.args.i c.requires.thread c.index-actor.result.now c.index-actor.ensures
 
 pub outcome-came-requires-clause-placed : goal.outcome-came-requires-clause-placed
 outcome-came-requires-clause-placed c =
-    let thread = subst (λ (z : Run). c.args.i < z.program.threads) (sym c.self.view_is) c.requires.thread in
-    placed_read _ c.self.invariant c.args.i thread c.index-actor.result.now c.index-actor.ensures
+    placed_read _ _ c.self.view_is c.self.invariant c.args.i c.requires.thread c.index-actor.result.now c.index-actor.ensures
 
 pub outcome-came-requires-clause-groups : goal.outcome-came-requires-clause-groups
 outcome-came-requires-clause-groups c = c.self.invariant.suits.groups
 
 pub advance-requires-clause-fits : goal.advance-requires-clause-fits
 advance-requires-clause-fits c =
-    let thread = subst (λ (z : Run). c.args.i < z.program.threads) (sym c.self.view_is) c.requires.thread in
-    fits_read _ c.self.invariant c.args.i thread c.index_mut.result.now c.index_mut.ensures.value
+    fits_read _ _ c.self.view_is c.self.invariant c.args.i c.requires.thread c.index_mut.result.now c.index_mut.ensures.value
 
 pub advance-requires-clause-placed : goal.advance-requires-clause-placed
 advance-requires-clause-placed c =
-    let thread = subst (λ (z : Run). c.args.i < z.program.threads) (sym c.self.view_is) c.requires.thread in
-    placed_read _ c.self.invariant c.args.i thread c.index_mut.result.now c.index_mut.ensures.value
+    placed_read _ _ c.self.view_is c.self.invariant c.args.i c.requires.thread c.index_mut.result.now c.index_mut.ensures.value
 
 pub list_event-requires-clause-seats : goal.list_event-requires-clause-seats
 list_event-requires-clause-seats c =
