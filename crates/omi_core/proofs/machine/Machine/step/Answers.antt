@@ -1,7 +1,7 @@
 use Rattle.std.proofs.Common.{◌≡◌, ◌∙◌, slice_index_or, refl, sym, ap}
 use Rattle.omi_pc.specs.declared.actor.Actor.{Actor}
 use Rattle.omi_pc.specs.Fits.{Fits}
-use Rattle.omi_step_words.specs.Placed.{IsPlaced}
+use Rattle.omi_step_words.specs.Placed.{HasGroupWords, IsPlaced}
 use Rattle.omi_actor.specs.Steps.{resumed_at}
 use Rattle.omi_core.specs.Runs.{actors_in}
 use Rattle.omi_core.proofs.RecordedRuns.{actor_there, fits_now, groups_now, placed_now, stepped_on, word_found}
@@ -21,6 +21,9 @@ module _ (g : Over) (c : Start g) (b : Actor)
   placed : IsPlaced c.args.self.now.layout.table b
   placed = placed_now c.args.self.now c.args.steps c.requires.at.0 c.requires.at.1 c.args.i c.requires.thread c.requires.below b here
 
+  groups : HasGroupWords c.args.self.now.layout.table
+  groups = groups_now c.args.self.now c.args.steps c.requires.at.0 c.requires.at.1 c.args.i c.requires.thread c.requires.below b here
+
 pub next-op-requires-clause-fits : goal.next-op-requires-clause-fits
 next-op-requires-clause-fits g c =
     fits g (goal.at.next-op-requires-clause-fits g c).Start c.index-actor.result.now c.index-actor.ensures
@@ -31,9 +34,7 @@ next-op-requires-clause-placed g c =
 
 pub next-op-requires-clause-groups : goal.next-op-requires-clause-groups
 next-op-requires-clause-groups g c =
-    let b = c.index-actor.result.now in
-    groups_now c.args.self.now c.args.steps c.requires.at.0 c.requires.at.1 c.args.i c.requires.thread c.requires.below b
-    (here g (goal.at.next-op-requires-clause-groups g c).Start b c.index-actor.ensures)
+    groups g (goal.at.next-op-requires-clause-groups g c).Start c.index-actor.result.now c.index-actor.ensures
 
 pub apply-found-requires : goal.apply-found-requires
 apply-found-requires g c =
@@ -51,9 +52,7 @@ outcome-came-requires-clause-placed g c =
 
 pub outcome-came-requires-clause-groups : goal.outcome-came-requires-clause-groups
 outcome-came-requires-clause-groups g c =
-    let b = c.index-actor.result.now in
-    groups_now c.args.self.now c.args.steps c.requires.at.0 c.requires.at.1 c.args.i c.requires.thread c.requires.below b
-    (here g (goal.at.outcome-came-requires-clause-groups g c).Start b c.index-actor.ensures)
+    groups g (goal.at.outcome-came-requires-clause-groups g c).Start c.index-actor.result.now c.index-actor.ensures
 
 pub advance-requires-clause-fits : goal.advance-requires-clause-fits
 advance-requires-clause-fits g c =
