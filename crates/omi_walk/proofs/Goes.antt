@@ -151,25 +151,6 @@ module _ {C F : Type 0} (told : C → Told) (asked : C → ℕ) where
   walks_map s t f (Err fault) r reads is walks =
       subst (λ r. Walks told asked s t r (with_answer f reads)) (sym is) (walks_err s t f fault reads walks)
 
-  -- a call between the making of a handle and its release
-  pub lent_walks : {A : Type 0} (s given t new : Opened C F) (pair : ℕ × ℕ) (h : Held) (r : Result A WalkFault) (reads : List ℕ → Option Held → Asks A)
-      → given.table ≡ s.table → given.layout ≡ s.layout → get given.handles.held pair ≡ Some h → new.table ≡ t.table
-      → Walks told asked given t r (reads given.layout (get given.handles.held pair)) → Walks told asked s new r (reads s.layout (Some h))
-  lent_walks s given t new pair h r reads table layout there released walks =
-      let here =
-      subst (λ w. Walks told asked given t r (reads w (Some h))) layout
-      (subst (λ o. Walks told asked given t r (reads given.layout o)) there walks) in
-      let first = ap (λ (k : Kept C F). asked k.calls) table in
-      let last = ap (λ (k : Kept C F). asked k.calls) released in
-      record {
-        is = λ memory tells. here.is memory (still_tells (told s.table.calls) (told given.table.calls) memory (ap (λ (k : Kept C F). told k.calls) table) tells);
-        most = λ memory tells.
-            let one =
-            here.most memory
-            (still_tells (told s.table.calls) (told given.table.calls) memory (ap (λ (k : Kept C F). told k.calls) table) tells) in
-            omega (arith, one, first, last);
-      }
-
   -- a call's answer is judged
   pub walks_judged : {A B : Type 0} (s t : Opened C F) (judge : A → Result B WalkFault) (x : A) (r : Result B WalkFault) (reads : Asks A)
       → r ≡ judge x → Walks told asked s t (Ok x) reads
@@ -197,6 +178,25 @@ module _ {C F : Type 0} (told : C → Told) (asked : C → ℕ) where
         is = λ memory tells ne no. absurd (no (p.1 ∙ ap Err p.2));
         most = λ memory tells. let one = walks.most memory tells in let count = with_count memory f reads in omega (arith, one, count);
       }
+
+-- a call between the making of a handle and its release
+pub lent_walks : {A C F : Type 0} {told : C → Told} {asked : C → ℕ} {s given t new : Opened C F} {r : Result A WalkFault} (pair : ℕ × ℕ) (h : Held) (reads : List ℕ → Option Held → Asks A)
+    → given.table ≡ s.table → given.layout ≡ s.layout → get given.handles.held pair ≡ Some h → new.table ≡ t.table
+    → Walks told asked given t r (reads given.layout (get given.handles.held pair)) → Walks told asked s new r (reads s.layout (Some h))
+lent_walks {A} {C} {F} {told} {asked} {s} {given} {t} {new} {r} pair h reads table layout there released walks =
+    let here =
+    subst (λ w. Walks told asked given t r (reads w (Some h))) layout
+    (subst (λ o. Walks told asked given t r (reads given.layout o)) there walks) in
+    let first = ap (λ (k : Kept C F). asked k.calls) table in
+    let last = ap (λ (k : Kept C F). asked k.calls) released in
+    record {
+      is = λ memory tells. here.is memory (still_tells (told s.table.calls) (told given.table.calls) memory (ap (λ (k : Kept C F). told k.calls) table) tells);
+      most = λ memory tells.
+          let one =
+          here.most memory
+          (still_tells (told s.table.calls) (told given.table.calls) memory (ap (λ (k : Kept C F). told k.calls) table) tells) in
+          omega (arith, one, first, last);
+    }
 
 -- ---- several calls
 
@@ -339,3 +339,45 @@ module _ {C F : Type 0} (told : C → Told) (asked : C → ℕ) where
         let count = ap (λ r. length (addresses_on memory r)) (same memory tells) in
         omega (arith, two, count);
   }
+
+-- no handle was made, and so nothing was asked
+pub walks_unmade : {B C F : Type 0} {told : C → Told} {asked : C → ℕ} {s u : Opened C F} {all : Asks B} {fault : WalkFault} {r : Result B WalkFault}
+    → u.table ≡ s.table → IsErrAnd r (λ why. why ≡ fault) → fault ≡ OutOfMemory → Walks told asked s u r all
+walks_unmade {B} {C} {F} {told} {asked} {s} {u} {all} {fault} {r} table is full =
+    goes_unmade told asked s s u all all fault r (goes_begin told asked s all) table is full
+
+-- ---- one inquiry after the other
+
+-- what is left to ask in a session, of reads that began in another one
+pub record Left {B C F : Type 0} (told : C → Told) (asked : C → ℕ) (s t : Opened C F) (all : Asks B) : Type 0 where
+  pub rest : Asks B
+  pub goes : Goes told asked s t all rest
+
+-- before the first inquiry all is left
+abbrev pub left_first : {B C F : Type 0} (told : C → Told) (asked : C → ℕ) (s : Opened C F) (all : Asks B)
+    → Left told asked s s all
+left_first told asked s all = record { rest = all; goes = goes_begin told asked s all }
+
+module _ {A B C F : Type 0} {told : C → Told} {asked : C → ℕ} {s t u : Opened C F} {all : Asks B}
+    (reads : List ℕ → Option Held → Asks A) (pair : ℕ × ℕ) (more : A → Asks B) (so : Left told asked s t all)
+    (next : so.rest ≡ then_reads (reads s.layout (get s.handles.held pair)) more) where
+  -- behind an inquiry that answered the rest is left
+  abbrev pub left_on : {n : ℕ} {x : A} → Leaves told n t u
+      → Walks told asked t u (Ok x) (reads t.layout (get t.handles.held pair)) → Left told asked s u all
+  left_on {n} {x} leaves walks = record {
+    rest = more x;
+    goes = goes_on told asked s t u pair all reads more (goes_same told asked s t all so.rest _ next so.goes) n x leaves walks;
+  }
+
+  -- and one that was refused is the last
+  pub left_stop : {fault : WalkFault} {r : Result B WalkFault}
+      → Walks told asked t u (Err fault) (reads t.layout (get t.handles.held pair))
+      → IsErrAnd r (λ why. why ≡ fault) → Walks told asked s u r all
+  left_stop {fault} {r} walks is =
+      goes_stop told asked s t u pair all reads more (goes_same told asked s t all so.rest _ next so.goes) fault r walks is
+
+-- nothing is left but an answer
+pub left_end : {B C F : Type 0} {told : C → Told} {asked : C → ℕ} {s t : Opened C F} {all : Asks B} {r answer : Result B WalkFault} (so : Left told asked s t all)
+    → so.rest ≡ Answer answer → r ≡ answer → Walks told asked s t r all
+left_end {B} {C} {F} {told} {asked} {s} {t} {all} {r} {answer} so last is =
+    goes_end told asked s t all r answer is (goes_same told asked s t all so.rest _ last so.goes)

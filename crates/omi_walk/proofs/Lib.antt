@@ -3,6 +3,7 @@ pub mod Looked
 pub mod Steps
 pub mod Goes
 pub mod AskedObjects
+pub mod ObjectWalks
 pub mod EachAsked
 pub mod ChainAsked
 pub mod SlotsAsked

@@ -1,17 +1,12 @@
-use Rattle.std.proofs.Common.{◌∙◌, sym, ap, refl}
+use Rattle.std.proofs.Common.{◌∙◌, ap, refl}
 use Rattle.std.specs.FinMap.{get}
-use Rattle.omi_handle.specs.declared.handle.Kind.TheVariants.{Task, Region}
-use Rattle.omi_session.specs.Handles.{name_of}
-use Rattle.omi_session.specs.Made.{region_pair, task_pair}
-use Rattle.omi_walk.specs.Gives.{Looks}
-use Rattle.omi_walk.proofs.Looked.{found_gives, found_leaves, stands_at}
-use Rattle.omi_walk.proofs.MemberLooks.{member_looked, member_past, refused_member, past_member, no_member}
-use Rattle.std.specs.Prelude.{Ok, Err}
-use Rattle.omi_walk.specs.Asking.{ask_object, met, of_member}
-use Rattle.omi_walk.proofs.Goes.{of_made_ok, of_made_err, walks_ok, walks_err}
-use Rattle.omi_walk.proofs.AskedObjects.{met_is}
-use Rattle.omi_session.specs.Inquiry.{member}
+use Rattle.std.specs.Prelude.{Err}
+use Rattle.omi_handle.specs.declared.handle.Kind.TheVariants.{Task}
+use Rattle.omi_session.specs.Made.{region_pair}
+use Rattle.omi_walk.specs.Asking.{of_member}
 use Rattle.omi_walk.specs.Fault.{member_fault}
+use Rattle.omi_walk.proofs.Looked.{found_leaves}
+use Rattle.omi_walk.proofs.ObjectWalks.{object_found, object_refused}
 use Rattle.omi_walk.proofs.members.task_of.Goals as goal
 
 pub returns-in-Ok-clause-leaves : goal.returns-in-Ok-clause-leaves
@@ -22,31 +17,10 @@ returns-in-Ok-clause-leaves g c =
 -- reads: what was asked
 
 pub returns-in-Ok-clause-reads : goal.returns-in-Ok-clause-reads
-unfolding ask_object
 returns-in-Ok-clause-reads g c =
-    let told = g.C.Callbacks.told in
-    let asked = g.C.Callbacks.asked in
-    let s = c.args.s.now in
-    let w = s.layout in
-    let mid = c.get_task_in_parallel.new.s in
-    let found = get s.handles.held (region_pair c.args.r) in
-    let h = c.let_go.result.held in
-    let name =
-    ap (λ w. name_of w h) (sym c.get_task_in_parallel.ensures.stays.layout) ∙ c.let_go.ensures.name in
-    walks_ok told asked s _ (met w) h _ _ (met_is w c.let_go.result name)
-    (of_made_ok told asked s mid _ (task_pair c.in-Ok.found) h (member w found c.args.num) (of_member found) h c.in-Ok.ensures.answer c.let_go.ensures.object refl c.let_go.ensures.table)
+    object_found c.let_go.result c.in-Ok.ensures.answer c.let_go.ensures.object c.let_go.ensures.name c.get_task_in_parallel.ensures.stays.layout c.let_go.ensures.table (of_member (get c.args.s.now.handles.held (region_pair c.args.r))) refl
 
 pub returns-in-Err-clause-reads : goal.returns-in-Err-clause-reads
-unfolding ask_object
 returns-in-Err-clause-reads g c =
-    let told = g.C.Callbacks.told in
-    let asked = g.C.Callbacks.asked in
-    let s = c.args.s.now in
-    let w = s.layout in
-    let mid = c.get_task_in_parallel.new.s in
-    let rc = c.in-Err.rc in
-    let pair = region_pair c.args.r in
-    let found = get s.handles.held pair in
-    walks_err told asked s mid (met w) c.member_fault.result _
-    (of_made_err told asked s mid rc (member w found c.args.num) (of_member found) (Err c.member_fault.result) refl refl
-    (ap Err (c.member_fault.ensures ∙ ap (λ held. member_fault (get held pair) rc) c.in-Err.ensures.handles.keeps.held)) c.in-Err.ensures.answer)
+    object_refused c.in-Err.ensures.answer (of_member (get c.args.s.now.handles.held (region_pair c.args.r))) c.member_fault.result refl refl
+    (ap Err (c.member_fault.ensures ∙ ap (λ held. member_fault (get held (region_pair c.args.r)) c.in-Err.rc) c.in-Err.ensures.handles.keeps.held))

@@ -1,12 +1,10 @@
 use Rattle.std.proofs.Common.{◌≡◌, arith, refl, subst, sym}
-use Rattle.std.proofs.lemmas.Result.{IfOk-weaker, err_from_is_err_and}
-use Rattle.omi_handle.specs.declared.handle.Kind.TheVariants.{Task}
+use Rattle.std.proofs.lemmas.Result.{IfOk-weaker}
 use Rattle.omi_walk.specs.declared.tasks.Link.{Link}
 use Rattle.omi_walk.specs.Kept.{IsLive}
 use Rattle.omi_walk.proofs.LiveTasks.{live_met, live_after}
-use Rattle.omi_walk.proofs.Lent.{lent_stands, lent_leaves}
-use Rattle.omi_walk.proofs.Steps.{look_unsaid, looks_before}
-use Rattle.omi_walk.proofs.Goes.{goes_begin, goes_unmade, lent_walks}
+use Rattle.omi_walk.proofs.Lent.{lent_leaves}
+use Rattle.omi_walk.proofs.Goes.{lent_walks, walks_unmade}
 use Rattle.std.specs.Ordering.{nat_cmp}
 use Rattle.std.specs.BTreeSet.{contains}
 use Rattle.omi_walk.specs.AskTasks.{ask_link}
@@ -14,9 +12,7 @@ use Rattle.omi_walk.proofs.tasks.task_row.Goals as goal
 
 pub returns-clause-leaves : goal.returns-clause-leaves
 returns-clause-leaves g c =
-    lent_leaves g.C.Callbacks.told c.args.s.now c.hand.new.s Task c.args.task _ c.in_ok-key.ensures.handed c.hand.ensures.stays
-    c.link_of-link.new.s c.release.new.self 3 4
-    (omega arith) c.link_of-link.ensures.leaves c.release.ensures.removed c.release.ensures.made c.release.ensures.layout c.release.ensures.table
+    lent_leaves 3 4 (omega arith) c.in_ok-key.ensures.handed c.hand.ensures.stays c.link_of-link.ensures.leaves c.release.ensures.removed c.release.ensures.made c.release.ensures.layout c.release.ensures.table
 
 pub returns-clause-live : goal.returns-clause-live
 returns-clause-live g c =
@@ -36,17 +32,8 @@ returns-clause-live g c =
 
 pub returns-in_err-key-clause-reads : goal.returns-in_err-key-clause-reads
 returns-in_err-key-clause-reads g c =
-    let told = g.C.Callbacks.told in
-    let asked = g.C.Callbacks.asked in
-    let s = c.args.s.now in
-    goes_unmade told asked s s _ _ _ _ _
-    (goes_begin told asked s _) c.hand.ensures.table c.from_residual.ensures.1 c.in_err-key.ensures.memory
+    walks_unmade c.hand.ensures.table c.from_residual.ensures.1 c.in_err-key.ensures.memory
 
 pub returns-clause-reads : goal.returns-clause-reads
 returns-clause-reads g c =
-    let told = g.C.Callbacks.told in
-    let asked = g.C.Callbacks.asked in
-    let s = c.args.s.now in
-    lent_walks told asked s c.hand.new.s c.link_of-link.new.s _ _ c.args.task.held _
-    (λ w k. ask_link w (contains nat_cmp c.args.met.now) c.args.thread c.args.task.name k)
-    c.hand.ensures.table c.hand.ensures.stays.layout c.in_ok-key.ensures.handed.found c.release.ensures.table c.link_of-link.ensures.reads
+    lent_walks _ c.args.task.held (λ w k. ask_link w (contains nat_cmp c.args.met.now) c.args.thread c.args.task.name k) c.hand.ensures.table c.hand.ensures.stays.layout c.in_ok-key.ensures.handed.found c.release.ensures.table c.link_of-link.ensures.reads

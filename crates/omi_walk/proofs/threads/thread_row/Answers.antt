@@ -2,13 +2,12 @@ use Rattle.std.proofs.Common.{Some, None, refl, subst, arith}
 use Rattle.std.specs.List.{range_with_len}
 use Rattle.std.specs.Prelude.{Ok, IfSome}
 use Rattle.std.proofs.lemmas.Result.{err_from_is_err_and}
-use Rattle.omi_handle.specs.declared.handle.Kind.TheVariants.{Thread}
 use Rattle.omi_layout.specs.Table.{thread_count}
 use Rattle.omi_rep.specs.LookView.{look_for}
 use Rattle.omi_walk.specs.Gives.{Looks}
 use Rattle.omi_walk.specs.Objects.{IsMet}
 use Rattle.omi_walk.specs.Threads.{number_met}
-use Rattle.omi_walk.proofs.Lent.{lent_stands, lent_leaves}
+use Rattle.omi_walk.proofs.Lent.{lent_leaves}
 use Rattle.omi_walk.proofs.Steps.{look_then, look_stops, look_is, look_unsaid, looks_before, stays_then, leaves_then}
 use Rattle.omi_walk.specs.declared.threads.SeenPart.{SeenPart}
 use Rattle.omi_walk.specs.declared.threads.SeenThread.{SeenThread}
@@ -21,14 +20,12 @@ use Rattle.omi_walk.proofs.threads.thread_row.Goals as goal
 pub returns-in_err-seen-clause-leaves : goal.returns-in_err-seen-clause-leaves
 returns-in_err-seen-clause-leaves g c =
     leaves_then g.C.Callbacks.told 1 2 3 _ _ _ (omega arith) c.thread_with.ensures.leaves
-    (lent_leaves g.C.Callbacks.told c.thread_with.new.s c.hand.new.s Thread c.in-Some.t _ c.in_ok-key.ensures.handed c.hand.ensures.stays
-    c.part_of-seen.new.s c.release.new.self 1 2 (omega arith) c.part_of-seen.ensures.leaves c.release.ensures.removed c.release.ensures.made c.release.ensures.layout c.release.ensures.table)
+    (lent_leaves 1 2 (omega arith) c.in_ok-key.ensures.handed c.hand.ensures.stays c.part_of-seen.ensures.leaves c.release.ensures.removed c.release.ensures.made c.release.ensures.layout c.release.ensures.table)
 
 pub returns-clause-leaves : goal.returns-clause-leaves
 returns-clause-leaves g c =
     leaves_then g.C.Callbacks.told 1 2 3 _ _ _ (omega arith) c.thread_with.ensures.leaves
-    (lent_leaves g.C.Callbacks.told c.thread_with.new.s c.hand.new.s Thread c.in-Some.t _ c.in_ok-key.ensures.handed c.hand.ensures.stays
-    c.part_of-seen.new.s c.release.new.self 1 2 (omega arith) c.part_of-seen.ensures.leaves c.release.ensures.removed c.release.ensures.made c.release.ensures.layout c.release.ensures.table)
+    (lent_leaves 1 2 (omega arith) c.in_ok-key.ensures.handed c.hand.ensures.stays c.part_of-seen.ensures.leaves c.release.ensures.removed c.release.ensures.made c.release.ensures.layout c.release.ensures.table)
 
 -- reads: what was asked
 
@@ -80,7 +77,7 @@ returns-in_err-seen-clause-reads g c =
     (subst (λ o. Walks told asked s t (Ok o) (ask_thread_with s.layout c.args.native)) c.in-Some.is c.in_ok-t.ensures.reads) in
     goes_stop told asked s t _ (0, 0) all
     (λ w k. ask_part w m.name.creator (Some m.held)) _ so1 c.in_err-seen.field-0.0 _
-    (lent_walks told asked t c.hand.new.s c.part_of-seen.new.s c.release.new.self _ m.held _ (λ w k. ask_part w m.name.creator k)
+    (lent_walks _ m.held (λ w k. ask_part w m.name.creator k)
     c.hand.ensures.table c.hand.ensures.stays.layout c.in_ok-key.ensures.handed.found c.release.ensures.table c.in_err-seen.ensures.reads) c.from_residual-in_err-seen.ensures.1
 
 pub returns-clause-reads : goal.returns-clause-reads
@@ -99,5 +96,5 @@ returns-clause-reads g c =
       row = record { native = c.args.native; found = Some seen.part };
       current = seen.current;
     }) c.in_ok-seen.seen _ _ refl
-    (lent_walks told asked t c.hand.new.s c.part_of-seen.new.s c.release.new.self _ m.held _ (λ w k. ask_part w m.name.creator k)
+    (lent_walks _ m.held (λ w k. ask_part w m.name.creator k)
     c.hand.ensures.table c.hand.ensures.stays.layout c.in_ok-key.ensures.handed.found c.release.ensures.table c.in_ok-seen.ensures.reads))
