@@ -126,6 +126,15 @@ module _ {C F : Type 0} (told : C → Told) where
     layout = second.layout ∙ first.layout;
   }
 
+  -- nothing was asked yet
+  pub leaves_same : (most : ℕ) (s : Opened C F) → Leaves told most s s
+  leaves_same most s = record {
+    stays = record { table = record { same = refl; order = refl; to_host = refl }; layout = refl };
+    held = refl;
+    later = omega arith;
+    made = omega arith;
+  }
+
   -- what is left is left over two calls
   pub leaves_then : (m n most : ℕ) (a b c : Opened C F) → m + n ≤ most → Leaves told m a b → Leaves told n b c
       → Leaves told most a c

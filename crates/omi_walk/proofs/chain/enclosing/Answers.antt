@@ -11,7 +11,7 @@ use Rattle.omi_layout.specs.Table.{records}
 use Rattle.omi_rep.specs.Look.{was_met}
 use Rattle.omi_walk.specs.Objects.{IsMet}
 use Rattle.omi_walk.proofs.Chained.{one_met}
-use Rattle.omi_walk.proofs.Steps.{leaves_then, look_unsaid, met_after}
+use Rattle.omi_walk.proofs.Steps.{leaves_same, leaves_then, look_unsaid, met_after}
 use Rattle.omi_calls.specs.Told.{Told}
 use Rattle.omi_session.specs.Opened.{Opened}
 use Rattle.omi_walk.specs.declared.met.Met.{Met}
@@ -78,15 +78,7 @@ loop-init g c =
     let s = c.args.s.now in
     let count = c.region_count-end.ensures.value ∙ ap (λ w. records w regions) (c.layout.ensures) in
     record {
-      leaves = record {
-        stays = record {
-          table = record { same = refl; order = refl; to_host = refl };
-          layout = refl;
-        };
-        held = refl;
-        later = omega arith;
-        made = omega arith;
-      };
+      leaves = leaves_same g.C.Callbacks.told _ c.args.s.now;
       later = omega arith;
       bound = count;
       few = c.region_count-end.ensures.few;

@@ -37,26 +37,22 @@ module _ (g : Over) where
 pub returns-in_err-version-clause-reads : goal.returns-in_err-version-clause-reads
 unfolding ask_head
 returns-in_err-version-clause-reads g c =
-    left_stop (λ w k. ask_version w) (0, 0) _ (left_first _ _ _ (ask_head c.args.s.now.layout)) refl
-    c.in_err-version.ensures.reads c.from_residual.ensures.1
+    left_stop (λ w k. ask_version w) (0, 0) _ (left_first _ _ _ (ask_head c.args.s.now.layout)) refl c.in_err-version.ensures.reads c.from_residual.ensures.1
 
 pub returns-in_err-debug-clause-reads : goal.returns-in_err-debug-clause-reads
 unfolding ask_head
 returns-in_err-debug-clause-reads g c =
-    left_stop (λ w k. ask_space w DEBUG_VAR) (0, 0) _ (asked_version g (goal.at.returns-in_err-debug-clause-reads g c).In_ok-version) refl
-    c.in_err-debug.ensures.reads c.from_residual-in_err-debug.ensures.1
+    left_stop (λ w k. ask_space w DEBUG_VAR) (0, 0) _ (asked_version g (goal.at.returns-in_err-debug-clause-reads g c).In_ok-version) refl c.in_err-debug.ensures.reads c.from_residual-in_err-debug.ensures.1
 
 pub returns-in_err-procs-clause-reads : goal.returns-in_err-procs-clause-reads
 unfolding ask_head
 returns-in_err-procs-clause-reads g c =
-    left_stop (λ w k. ask_space w NUM_PROCS_VAR) (0, 0) _ (asked_debug g (goal.at.returns-in_err-procs-clause-reads g c).In_ok-debug) refl
-    c.in_err-procs.ensures.reads c.from_residual-in_err-procs.ensures.1
+    left_stop (λ w k. ask_space w NUM_PROCS_VAR) (0, 0) _ (asked_debug g (goal.at.returns-in_err-procs-clause-reads g c).In_ok-debug) refl c.in_err-procs.ensures.reads c.from_residual-in_err-procs.ensures.1
 
 pub returns-in_err-max_active-clause-reads : goal.returns-in_err-max_active-clause-reads
 unfolding ask_head
 returns-in_err-max_active-clause-reads g c =
-    left_stop (λ w k. ask_space w MAX_ACTIVE_LEVELS_VAR) (0, 0) _ (asked_procs g (goal.at.returns-in_err-max_active-clause-reads g c).In_ok-procs) refl
-    c.in_err-max_active.ensures.reads c.from_residual-in_err-max_active.ensures.1
+    left_stop (λ w k. ask_space w MAX_ACTIVE_LEVELS_VAR) (0, 0) _ (asked_procs g (goal.at.returns-in_err-max_active-clause-reads g c).In_ok-procs) refl c.in_err-max_active.ensures.reads c.from_residual-in_err-max_active.ensures.1
 
 pub returns-clause-reads : goal.returns-clause-reads
 unfolding ask_head

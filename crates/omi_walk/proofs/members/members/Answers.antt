@@ -4,7 +4,7 @@ use Rattle.std.specs.List.{range_with_len}
 use Rattle.omi_handle.specs.declared.handle.Kind.TheVariants.{Region}
 use Rattle.omi_rep.specs.LookView.{look_member}
 use Rattle.omi_session.specs.Made.{region_pair}
-use Rattle.omi_walk.proofs.Steps.{EachSoFar, each_begins, each_next, each_stops, each_ends, next_range, looks_after, stands_after, leaves_then, look_unsaid, no_more}
+use Rattle.omi_walk.proofs.Steps.{leaves_same, EachSoFar, each_begins, each_next, each_stops, each_ends, next_range, looks_after, stands_after, leaves_then, look_unsaid, no_more}
 use Rattle.omi_walk.proofs.EachAsked.{EachGoes, asks_begin, asks_next, asks_stop, asks_end}
 use Rattle.omi_walk.proofs.Goes.{goes_unsaid}
 use Rattle.omi_walk.specs.AskRegions.{ask_member}
@@ -12,7 +12,7 @@ use Rattle.omi_walk.proofs.members.members.Goals as goal
 
 pub loop-num-init : goal.loop-num-init
 loop-num-init g c = record {
-  leaves = record { stays = record { table = record { same = refl; order = refl; to_host = refl }; layout = refl }; held = refl; later = omega arith; made = omega arith };
+  leaves = leaves_same g.C.Callbacks.told _ c.args.s.now;
   later = omega arith;
   bound = refl;
   goes =
@@ -43,10 +43,8 @@ returns-in_err-row-clause-reads g c =
     let asked = g.C.Callbacks.asked in
     let s = c.args.s.now in
     let pair = region_pair c.args.r in
-    let below : c.loop-num.num < c.args.size =
-    omega (arith, c.loop-num.invariant.bound, c.loop-num-test.true) in
     let so = subst (λ left. EachGoes told asked s pair (λ w k num. ask_member w k num) (range_with_len 0 c.args.size) c.loop-num.s c.loop-num.rows left)
-    (next_range c.loop-num.num c.args.size below) c.loop-num.invariant.goes in
+    (next_range c.loop-num.num c.args.size (omega (arith, c.loop-num.invariant.bound, c.loop-num-test.true))) c.loop-num.invariant.goes in
     asks_stop told asked s pair (λ w k num. ask_member w k num)
     (range_with_len 0 c.args.size) c.loop-num.s c.member.new.s c.loop-num.rows c.loop-num.num _ c.in_err-row.field-0.0 _ so c.in_err-row.ensures.reads c.from_residual.ensures.1
 
@@ -56,10 +54,8 @@ returns-in_err-push-clause-reads g c =
     let asked = g.C.Callbacks.asked in
     let s = c.args.s.now in
     let pair = region_pair c.args.r in
-    let below : c.loop-num.num < c.args.size =
-    omega (arith, c.loop-num.invariant.bound, c.loop-num-test.true) in
     let so = subst (λ left. EachGoes told asked s pair (λ w k num. ask_member w k num) (range_with_len 0 c.args.size) c.loop-num.s c.loop-num.rows left)
-    (next_range c.loop-num.num c.args.size below) c.loop-num.invariant.goes in
+    (next_range c.loop-num.num c.args.size (omega (arith, c.loop-num.invariant.bound, c.loop-num-test.true))) c.loop-num.invariant.goes in
     goes_unsaid told asked s c.member.new.s _ _ _
     (asks_next told asked s pair (λ w k num. ask_member w k num) (range_with_len 0 c.args.size) c.loop-num.s c.member.new.s c.loop-num.rows _ c.loop-num.num _ c.in_ok-row.row so c.member.ensures.leaves c.in_ok-row.ensures.reads)
     c.from_residual-in_err-push.ensures.1

@@ -11,8 +11,7 @@ use Rattle.omi_walk.proofs.members.thread_of.Goals as goal
 
 pub returns-in-Ok-clause-leaves : goal.returns-in-Ok-clause-leaves
 returns-in-Ok-clause-leaves g c =
-    found_leaves g.C.Callbacks.told c.args.s.now c.get_thread_in_parallel.new.s c.let_go.new.s Thread _ c.in-Ok.ensures.handles c.get_thread_in_parallel.ensures.stays
-    c.let_go.ensures.layout c.let_go.ensures.table c.let_go.ensures.removed c.let_go.ensures.made
+    found_leaves g.C.Callbacks.told c.args.s.now c.get_thread_in_parallel.new.s c.let_go.new.s Thread _ c.in-Ok.ensures.handles c.get_thread_in_parallel.ensures.stays c.let_go.ensures.layout c.let_go.ensures.table c.let_go.ensures.removed c.let_go.ensures.made
 
 -- reads: what was asked
 
@@ -22,5 +21,4 @@ returns-in-Ok-clause-reads g c =
 
 pub returns-in-Err-clause-reads : goal.returns-in-Err-clause-reads
 returns-in-Err-clause-reads g c =
-    object_refused c.in-Err.ensures.answer (of_member (get c.args.s.now.handles.held (region_pair c.args.r))) c.member_fault.result refl refl
-    (ap Err (c.member_fault.ensures ∙ ap (λ held. member_fault (get held (region_pair c.args.r)) c.in-Err.rc) c.in-Err.ensures.handles.keeps.held))
+    object_refused c.in-Err.ensures.answer (of_member (get c.args.s.now.handles.held (region_pair c.args.r))) c.member_fault.result refl refl (ap Err (c.member_fault.ensures ∙ ap (λ held. member_fault (get held (region_pair c.args.r)) c.in-Err.rc) c.in-Err.ensures.handles.keeps.held))

@@ -11,7 +11,7 @@ use Rattle.omi_walk.specs.Added.{Added}
 use Rattle.omi_walk.specs.Regions.{in_own_slots, met_in_slot, own_slots}
 use Rattle.omi_walk.proofs.AddedRows.{at_each, looks_as, added_none, added_as, added_then, added_stops}
 use Rattle.omi_walk.proofs.RegionSlots.{in_one, own_by_slot, parts_more, parts_behind}
-use Rattle.omi_walk.proofs.Steps.{leaves_then, next_range, no_more}
+use Rattle.omi_walk.proofs.Steps.{leaves_same, leaves_then, next_range, no_more}
 use Rattle.std.specs.Prelude.{Err}
 use Rattle.omi_walk.specs.declared.met.Met.{Met}
 use Rattle.omi_model.specs.declared.view.RegionRow.{RegionRow}
@@ -22,7 +22,7 @@ use Rattle.omi_walk.proofs.region_rows.add_rows.Goals as goal
 
 pub loop-slot-init : goal.loop-slot-init
 loop-slot-init g c = record {
-  leaves = record { stays = record { table = record { same = refl; order = refl; to_host = refl }; layout = refl }; held = refl; later = omega arith; made = omega arith };
+  leaves = leaves_same g.C.Callbacks.told _ c.args.s.now;
   later = omega arith;
   bound = c.regions_per_thread-slot-end.ensures ∙ ap (λ w. per_thread w regions) c.layout.ensures;
   few = subst (λ w. per_thread w regions ≤ 64) c.layout.ensures (regions_of_valid c.layout.result.now.table c.layout.result.now.valid);

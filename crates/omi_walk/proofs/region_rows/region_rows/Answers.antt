@@ -12,7 +12,7 @@ use Rattle.omi_walk.specs.Added.{Added}
 use Rattle.omi_walk.specs.Regions.{in_own_slots, met_in_slot, own_slots}
 use Rattle.omi_walk.proofs.AddedRows.{at_each, looks_as, added_none, added_as, added_then, added_stops, all_added}
 use Rattle.omi_walk.proofs.RegionSlots.{all_by_thread, met_in_slots, parts_more, parts_behind}
-use Rattle.omi_walk.proofs.Steps.{leaves_then, next_range, no_more}
+use Rattle.omi_walk.proofs.Steps.{leaves_same, leaves_then, next_range, no_more}
 use Rattle.std.specs.Prelude.{Result, Ok, Err}
 use Rattle.omi_walk.specs.declared.met.Met.{Met}
 use Rattle.std.specs.BTreeMap.{BTreeMap}
@@ -105,15 +105,7 @@ loop-creator-init g c =
     let index = c.args.index.now in
     let layout = c.layout.result.now in
     record {
-      leaves = record {
-        stays = record {
-          table = record { same = refl; order = refl; to_host = refl };
-          layout = refl;
-        };
-        held = refl;
-        later = omega arith;
-        made = omega arith;
-      };
+      leaves = leaves_same g.C.Callbacks.told _ c.args.s.now;
       later = omega arith;
       bound = c.threads-creator-end.ensures ∙ ap thread_count c.layout.ensures;
       few =

@@ -111,38 +111,32 @@ module _ (g : Over) where
 pub returns-in_err-func-clause-reads : goal.returns-in_err-func-clause-reads
 unfolding ask_row row_with
 returns-in_err-func-clause-reads g c =
-    left_stop (λ w k. ask_entry w k) (region_pair c.args.r) _ (left_first _ _ _ (ask_row c.args.s.now.layout c.args.region (get c.args.s.now.handles.held (region_pair c.args.r)))) refl
-    c.in_err-func.ensures.reads c.from_residual.ensures.1
+    left_stop (λ w k. ask_entry w k) (region_pair c.args.r) _ (left_first _ _ _ (ask_row c.args.s.now.layout c.args.region (get c.args.s.now.handles.held (region_pair c.args.r)))) refl c.in_err-func.ensures.reads c.from_residual.ensures.1
 
 pub returns-in_err-levels-clause-reads : goal.returns-in_err-levels-clause-reads
 unfolding ask_row row_with
 returns-in_err-levels-clause-reads g c =
-    left_stop (λ w k. ask_region_variable w LEVELS_VAR k) (region_pair c.args.r) _ (asked_func g (goal.at.returns-in_err-levels-clause-reads g c).In_ok-func) refl
-    c.in_err-levels.ensures.reads c.from_residual-in_err-levels.ensures.1
+    left_stop (λ w k. ask_region_variable w LEVELS_VAR k) (region_pair c.args.r) _ (asked_func g (goal.at.returns-in_err-levels-clause-reads g c).In_ok-func) refl c.in_err-levels.ensures.reads c.from_residual-in_err-levels.ensures.1
 
 pub returns-in_err-active-clause-reads : goal.returns-in_err-active-clause-reads
 unfolding ask_row row_with
 returns-in_err-active-clause-reads g c =
-    left_stop (λ w k. ask_region_variable w ACTIVE_LEVELS_VAR k) (region_pair c.args.r) _ (asked_levels g (goal.at.returns-in_err-active-clause-reads g c).In_ok-levels) refl
-    c.in_err-active.ensures.reads c.from_residual-in_err-active.ensures.1
+    left_stop (λ w k. ask_region_variable w ACTIVE_LEVELS_VAR k) (region_pair c.args.r) _ (asked_levels g (goal.at.returns-in_err-active-clause-reads g c).In_ok-levels) refl c.in_err-active.ensures.reads c.from_residual-in_err-active.ensures.1
 
 pub returns-in_err-size-clause-reads : goal.returns-in_err-size-clause-reads
 unfolding ask_row row_with
 returns-in_err-size-clause-reads g c =
-    left_stop (λ w k. ask_region_variable w TEAM_SIZE_VAR k) (region_pair c.args.r) _ (asked_active g (goal.at.returns-in_err-size-clause-reads g c).In_ok-active) refl
-    c.in_err-size.ensures.reads c.from_residual-in_err-size.ensures.1
+    left_stop (λ w k. ask_region_variable w TEAM_SIZE_VAR k) (region_pair c.args.r) _ (asked_active g (goal.at.returns-in_err-size-clause-reads g c).In_ok-active) refl c.in_err-size.ensures.reads c.from_residual-in_err-size.ensures.1
 
 pub returns-in_err-enclosing-clause-reads : goal.returns-in_err-enclosing-clause-reads
 unfolding ask_row row_with
 returns-in_err-enclosing-clause-reads g c =
-    left_stop (λ w k. ask_enclosing w k) (region_pair c.args.r) _ (asked_size g (goal.at.returns-in_err-enclosing-clause-reads g c).In_ok-size) refl
-    c.in_err-enclosing.ensures.reads c.from_residual-in_err-enclosing.ensures.1
+    left_stop (λ w k. ask_enclosing w k) (region_pair c.args.r) _ (asked_size g (goal.at.returns-in_err-enclosing-clause-reads g c).In_ok-size) refl c.in_err-enclosing.ensures.reads c.from_residual-in_err-enclosing.ensures.1
 
 pub returns-in_err-members-clause-reads : goal.returns-in_err-members-clause-reads
 unfolding ask_row row_with members_of
 returns-in_err-members-clause-reads g c =
-    left_stop (λ w k. ask_each (ask_member w k) (range_with_len 0 c.bounded.result)) (region_pair c.args.r) _ (asked_bounded g (goal.at.returns-in_err-members-clause-reads g c).After-bounded) refl
-    c.in_err-members.ensures.reads c.from_residual-in_err-members.ensures.1
+    left_stop (λ w k. ask_each (ask_member w k) (range_with_len 0 c.bounded.result)) (region_pair c.args.r) _ (asked_bounded g (goal.at.returns-in_err-members-clause-reads g c).After-bounded) refl c.in_err-members.ensures.reads c.from_residual-in_err-members.ensures.1
 
 pub returns-clause-reads : goal.returns-clause-reads
 unfolding ask_row row_with members_of

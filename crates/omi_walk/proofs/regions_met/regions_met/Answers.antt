@@ -9,7 +9,7 @@ use Rattle.omi_walk.specs.declared.met.Met.{Met}
 use Rattle.omi_walk.specs.Objects.{IsMet}
 use Rattle.omi_walk.proofs.FoundLooks.{found_after}
 use Rattle.omi_walk.proofs.FoundTasks.{next_thread, no_thread, found_at}
-use Rattle.omi_walk.proofs.Steps.{EachSoFar, each_begins, each_next, each_stops, each_ends, leaves_then, look_unsaid, met_after}
+use Rattle.omi_walk.proofs.Steps.{leaves_same, EachSoFar, each_begins, each_next, each_stops, each_ends, leaves_then, look_unsaid, met_after}
 use Rattle.std.specs.Prelude.{Ok, Err}
 use Rattle.omi_walk.specs.declared.found.Found.{Found}
 use Rattle.omi_walk.specs.declared.fault.WalkFault.TheVariants.{OutOfMemory}
@@ -23,7 +23,7 @@ use Rattle.omi_walk.proofs.regions_met.regions_met.Goals as goal
 
 pub loop-at-init : goal.loop-at-init
 loop-at-init g c = record {
-  leaves = record { stays = record { table = record { same = refl; order = refl; to_host = refl }; layout = refl }; held = refl; later = omega arith; made = omega arith };
+  leaves = leaves_same g.C.Callbacks.told _ c.args.s.now;
   later = omega arith;
   bound = c.len-at-end.ensures;
   met = [];

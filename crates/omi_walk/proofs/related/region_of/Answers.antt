@@ -41,5 +41,4 @@ returns-in-Ok-clause-reads g c =
 
 pub returns-in-Err-clause-reads : goal.returns-in-Err-clause-reads
 returns-in-Err-clause-reads g c =
-    object_refused c.in-Err.ensures.answer (walked (get c.args.s.now.handles.held (task_pair c.args.k))) c.fault_of.result refl refl
-    (ap Err (c.fault_of.ensures ∙ ap (λ held. fault_of (get held (task_pair c.args.k)) c.in-Err.rc) c.in-Err.ensures.handles.keeps.held))
+    object_refused c.in-Err.ensures.answer (walked (get c.args.s.now.handles.held (task_pair c.args.k))) c.fault_of.result refl refl (ap Err (c.fault_of.ensures ∙ ap (λ held. fault_of (get held (task_pair c.args.k)) c.in-Err.rc) c.in-Err.ensures.handles.keeps.held))

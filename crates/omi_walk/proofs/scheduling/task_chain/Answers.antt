@@ -11,7 +11,7 @@ use Rattle.omi_layout.specs.Table.{records}
 use Rattle.omi_rep.specs.Look.{was_met}
 use Rattle.omi_walk.specs.Objects.{name_in}
 use Rattle.omi_walk.proofs.Chained.{met_more, met_in_address, goes_on}
-use Rattle.omi_walk.proofs.Steps.{leaves_then, look_unsaid}
+use Rattle.omi_walk.proofs.Steps.{leaves_same, leaves_then, look_unsaid}
 use Rattle.omi_walk.proofs.TaskChained.{TasksSoFar, tasks_begin, tasks_next, tasks_stop, tasks_end, tasks_cycle, now_met}
 use Rattle.std.specs.Prelude.{Ok, Err}
 use Rattle.omi_calls.specs.Told.{Told}
@@ -87,15 +87,7 @@ loop-init g c =
     let s = c.args.s.now in
     let count = c.task_count-end.ensures.value ∙ ap (λ w. records w tasks) (c.layout.ensures) in
     record {
-      leaves = record {
-        stays = record {
-          table = record { same = refl; order = refl; to_host = refl };
-          layout = refl;
-        };
-        held = refl;
-        later = omega arith;
-        made = omega arith;
-      };
+      leaves = leaves_same g.C.Callbacks.told _ c.args.s.now;
       later = omega arith;
       bound = count;
       few = c.task_count-end.ensures.few;

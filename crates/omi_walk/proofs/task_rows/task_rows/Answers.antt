@@ -6,7 +6,7 @@ use Rattle.omi_model.specs.declared.view.TaskRow.{TaskRow}
 use Rattle.omi_rep.specs.Look.{each}
 use Rattle.omi_rep.specs.LookView.{look_tasks}
 use Rattle.omi_walk.proofs.FoundTasks.{next_thread, no_thread, found_at, current_after}
-use Rattle.omi_walk.proofs.Steps.{EachSoFar, each_begins, each_next, each_stops, leaves_then, look_stops}
+use Rattle.omi_walk.proofs.Steps.{leaves_same, EachSoFar, each_begins, each_next, each_stops, leaves_then, look_stops}
 use Rattle.std.specs.Prelude.{All, Ok}
 use Rattle.std.specs.List.{flat_map}
 use Rattle.omi_walk.specs.declared.found.Found.{Found}
@@ -19,7 +19,7 @@ use Rattle.omi_walk.proofs.task_rows.task_rows.Goals as goal
 
 pub loop-at-init : goal.loop-at-init
 loop-at-init g c = record {
-  leaves = record { stays = record { table = record { same = refl; order = refl; to_host = refl }; layout = refl }; held = refl; later = omega arith; made = omega arith };
+  leaves = leaves_same g.C.Callbacks.told _ c.args.s.now;
   later = omega arith;
   bound = c.len-at-end.ensures;
   live =

@@ -44,32 +44,27 @@ module _ (g : Over) where
 pub returns-in_err-dyn_var-clause-reads : goal.returns-in_err-dyn_var-clause-reads
 unfolding ask_environment
 returns-in_err-dyn_var-clause-reads g c =
-    left_stop (λ w k. ask_task_variable w DYN_VAR k) (task_pair c.args.k) _ (left_first _ _ _ (ask_environment c.args.s.now.layout (get c.args.s.now.handles.held (task_pair c.args.k)))) refl
-    c.in_err-dyn_var.ensures.reads c.from_residual.ensures.1
+    left_stop (λ w k. ask_task_variable w DYN_VAR k) (task_pair c.args.k) _ (left_first _ _ _ (ask_environment c.args.s.now.layout (get c.args.s.now.handles.held (task_pair c.args.k)))) refl c.in_err-dyn_var.ensures.reads c.from_residual.ensures.1
 
 pub returns-in_err-nthreads-clause-reads : goal.returns-in_err-nthreads-clause-reads
 unfolding ask_environment
 returns-in_err-nthreads-clause-reads g c =
-    left_stop (λ w k. ask_nthreads w k) (task_pair c.args.k) _ (asked_dyn_var g (goal.at.returns-in_err-nthreads-clause-reads g c).In_ok-dyn_var) refl
-    c.in_err-nthreads.ensures.reads c.from_residual-in_err-nthreads.ensures.1
+    left_stop (λ w k. ask_nthreads w k) (task_pair c.args.k) _ (asked_dyn_var g (goal.at.returns-in_err-nthreads-clause-reads g c).In_ok-dyn_var) refl c.in_err-nthreads.ensures.reads c.from_residual-in_err-nthreads.ensures.1
 
 pub returns-in_err-sched-clause-reads : goal.returns-in_err-sched-clause-reads
 unfolding ask_environment
 returns-in_err-sched-clause-reads g c =
-    left_stop (λ w k. ask_task_variable w RUN_SCHED_VAR k) (task_pair c.args.k) _ (asked_nthreads g (goal.at.returns-in_err-sched-clause-reads g c).In_ok-nthreads) refl
-    c.in_err-sched.ensures.reads c.from_residual-in_err-sched.ensures.1
+    left_stop (λ w k. ask_task_variable w RUN_SCHED_VAR k) (task_pair c.args.k) _ (asked_nthreads g (goal.at.returns-in_err-sched-clause-reads g c).In_ok-nthreads) refl c.in_err-sched.ensures.reads c.from_residual-in_err-sched.ensures.1
 
 pub returns-in_err-device-clause-reads : goal.returns-in_err-device-clause-reads
 unfolding ask_environment
 returns-in_err-device-clause-reads g c =
-    left_stop (λ w k. ask_task_variable w DEFAULT_DEVICE_VAR k) (task_pair c.args.k) _ (asked_sched g (goal.at.returns-in_err-device-clause-reads g c).In_ok-sched) refl
-    c.in_err-device.ensures.reads c.from_residual-in_err-device.ensures.1
+    left_stop (λ w k. ask_task_variable w DEFAULT_DEVICE_VAR k) (task_pair c.args.k) _ (asked_sched g (goal.at.returns-in_err-device-clause-reads g c).In_ok-sched) refl c.in_err-device.ensures.reads c.from_residual-in_err-device.ensures.1
 
 pub returns-in_err-final_task-clause-reads : goal.returns-in_err-final_task-clause-reads
 unfolding ask_environment
 returns-in_err-final_task-clause-reads g c =
-    left_stop (λ w k. ask_task_variable w FINAL_TASK_VAR k) (task_pair c.args.k) _ (asked_device g (goal.at.returns-in_err-final_task-clause-reads g c).In_ok-device) refl
-    c.in_err-final_task.ensures.reads c.from_residual-in_err-final_task.ensures.1
+    left_stop (λ w k. ask_task_variable w FINAL_TASK_VAR k) (task_pair c.args.k) _ (asked_device g (goal.at.returns-in_err-final_task-clause-reads g c).In_ok-device) refl c.in_err-final_task.ensures.reads c.from_residual-in_err-final_task.ensures.1
 
 pub returns-clause-reads : goal.returns-clause-reads
 unfolding ask_environment

@@ -39,26 +39,22 @@ module _ (g : Over) where
 pub returns-in_err-seen-clause-reads : goal.returns-in_err-seen-clause-reads
 unfolding ask_link
 returns-in_err-seen-clause-reads g c =
-    left_stop (λ w k. ask_relations w (contains nat_cmp c.args.met.now) k) (task_pair c.args.k) _ (left_first _ _ _ (ask_link c.args.s.now.layout (contains nat_cmp c.args.met.now) c.args.thread c.args.task (get c.args.s.now.handles.held (task_pair c.args.k)))) refl
-    c.in_err-seen.ensures.reads c.from_residual.ensures.1
+    left_stop (λ w k. ask_relations w (contains nat_cmp c.args.met.now) k) (task_pair c.args.k) _ (left_first _ _ _ (ask_link c.args.s.now.layout (contains nat_cmp c.args.met.now) c.args.thread c.args.task (get c.args.s.now.handles.held (task_pair c.args.k)))) refl c.in_err-seen.ensures.reads c.from_residual.ensures.1
 
 pub returns-in_err-exit-clause-reads : goal.returns-in_err-exit-clause-reads
 unfolding ask_link
 returns-in_err-exit-clause-reads g c =
-    left_stop (λ w k. ask_frames w k) (task_pair c.args.k) _ (asked_seen g (goal.at.returns-in_err-exit-clause-reads g c).In_ok-seen) refl
-    c.in_err-exit.ensures.reads c.from_residual-in_err-exit.ensures.1
+    left_stop (λ w k. ask_frames w k) (task_pair c.args.k) _ (asked_seen g (goal.at.returns-in_err-exit-clause-reads g c).In_ok-seen) refl c.in_err-exit.ensures.reads c.from_residual-in_err-exit.ensures.1
 
 pub returns-in_err-tool-clause-reads : goal.returns-in_err-tool-clause-reads
 unfolding ask_link
 returns-in_err-tool-clause-reads g c =
-    left_stop (λ w k. ask_tool w k) (task_pair c.args.k) _ (asked_exit g (goal.at.returns-in_err-tool-clause-reads g c).In_ok-exit) refl
-    c.in_err-tool.ensures.reads c.from_residual-in_err-tool.ensures.1
+    left_stop (λ w k. ask_tool w k) (task_pair c.args.k) _ (asked_exit g (goal.at.returns-in_err-tool-clause-reads g c).In_ok-exit) refl c.in_err-tool.ensures.reads c.from_residual-in_err-tool.ensures.1
 
 pub returns-in_err-environment-clause-reads : goal.returns-in_err-environment-clause-reads
 unfolding ask_link
 returns-in_err-environment-clause-reads g c =
-    left_stop (λ w k. ask_environment w k) (task_pair c.args.k) _ (asked_tool g (goal.at.returns-in_err-environment-clause-reads g c).In_ok-tool) refl
-    c.in_err-environment.ensures.reads c.from_residual-in_err-environment.ensures.1
+    left_stop (λ w k. ask_environment w k) (task_pair c.args.k) _ (asked_tool g (goal.at.returns-in_err-environment-clause-reads g c).In_ok-tool) refl c.in_err-environment.ensures.reads c.from_residual-in_err-environment.ensures.1
 
 pub returns-clause-reads : goal.returns-clause-reads
 unfolding ask_link

@@ -47,32 +47,27 @@ module _ (g : Over) where
 pub returns-in_err-implicit-clause-reads : goal.returns-in_err-implicit-clause-reads
 unfolding ask_relations
 returns-in_err-implicit-clause-reads g c =
-    left_stop (λ w k. ask_task_variable w IMPLICIT_TASK_VAR k) (task_pair c.args.k) _ (left_first _ _ _ (ask_relations c.args.s.now.layout (contains nat_cmp c.args.met.now) (get c.args.s.now.handles.held (task_pair c.args.k)))) refl
-    c.in_err-implicit.ensures.reads c.from_residual.ensures.1
+    left_stop (λ w k. ask_task_variable w IMPLICIT_TASK_VAR k) (task_pair c.args.k) _ (left_first _ _ _ (ask_relations c.args.s.now.layout (contains nat_cmp c.args.met.now) (get c.args.s.now.handles.held (task_pair c.args.k)))) refl c.in_err-implicit.ensures.reads c.from_residual.ensures.1
 
 pub returns-in_err-region-clause-reads : goal.returns-in_err-region-clause-reads
 unfolding ask_relations
 returns-in_err-region-clause-reads g c =
-    left_stop (λ w k. ask_region_of w k) (task_pair c.args.k) _ (asked_implicit g (goal.at.returns-in_err-region-clause-reads g c).In_ok-implicit) refl
-    c.in_err-region.ensures.reads c.from_residual-in_err-region.ensures.1
+    left_stop (λ w k. ask_region_of w k) (task_pair c.args.k) _ (asked_implicit g (goal.at.returns-in_err-region-clause-reads g c).In_ok-implicit) refl c.in_err-region.ensures.reads c.from_residual-in_err-region.ensures.1
 
 pub returns-in_err-func-clause-reads : goal.returns-in_err-func-clause-reads
 unfolding ask_relations
 returns-in_err-func-clause-reads g c =
-    left_stop (λ w k. ask_function w k) (task_pair c.args.k) _ (asked_region g (goal.at.returns-in_err-func-clause-reads g c).In_ok-region) refl
-    c.in_err-func.ensures.reads c.from_residual-in_err-func.ensures.1
+    left_stop (λ w k. ask_function w k) (task_pair c.args.k) _ (asked_region g (goal.at.returns-in_err-func-clause-reads g c).In_ok-region) refl c.in_err-func.ensures.reads c.from_residual-in_err-func.ensures.1
 
 pub returns-in_err-generating-clause-reads : goal.returns-in_err-generating-clause-reads
 unfolding ask_relations
 returns-in_err-generating-clause-reads g c =
-    left_stop (λ w k. ask_generating w k) (task_pair c.args.k) _ (asked_func g (goal.at.returns-in_err-generating-clause-reads g c).In_ok-func) refl
-    c.in_err-generating.ensures.reads c.from_residual-in_err-generating.ensures.1
+    left_stop (λ w k. ask_generating w k) (task_pair c.args.k) _ (asked_func g (goal.at.returns-in_err-generating-clause-reads g c).In_ok-func) refl c.in_err-generating.ensures.reads c.from_residual-in_err-generating.ensures.1
 
 pub returns-in_err-next-clause-reads : goal.returns-in_err-next-clause-reads
 unfolding ask_relations
 returns-in_err-next-clause-reads g c =
-    left_stop (λ w k. ask_next w (contains nat_cmp c.args.met.now) k) (task_pair c.args.k) _ (asked_generating g (goal.at.returns-in_err-next-clause-reads g c).In_ok-generating) refl
-    c.in_err-next.ensures.reads c.from_residual-in_err-next.ensures.1
+    left_stop (λ w k. ask_next w (contains nat_cmp c.args.met.now) k) (task_pair c.args.k) _ (asked_generating g (goal.at.returns-in_err-next-clause-reads g c).In_ok-generating) refl c.in_err-next.ensures.reads c.from_residual-in_err-next.ensures.1
 
 pub returns-clause-reads : goal.returns-clause-reads
 unfolding ask_relations

@@ -1,12 +1,12 @@
-use Rattle.std.proofs.Common.{ℕ, List, refl, subst, sym, arith, ◌++◌, ◌∷◌, [], ◌∙◌, ap}
+use Rattle.std.proofs.Common.{◌≡◌, ℕ, List, refl, subst, sym, arith, ◌++◌, ◌∷◌, [], ◌∙◌, ap}
 use Rattle.std.proofs.Math.ListN.{drop_of_length-le}
 use Rattle.std.proofs.lemmas.List.Elements.{All-nil}
 use Rattle.std.proofs.lemmas.Result.{err_from_is_err_and}
 use Rattle.omi_rep.specs.LookView.{look_thread}
 use Rattle.omi_walk.proofs.FoundLooks.{found_few, found_all, next_left}
-use Rattle.omi_walk.proofs.Steps.{EachSoFar, each_begins, each_next, each_stops, each_ends, leaves_then, look_unsaid}
+use Rattle.omi_walk.proofs.Steps.{leaves_same, EachSoFar, each_begins, each_next, each_stops, each_ends, leaves_then, look_unsaid}
 use Rattle.std.proofs.lemmas.List.{map-append, flat_map_more}
-use Rattle.std.specs.Prelude.{Ok, Err}
+use Rattle.std.specs.Prelude.{Result, Ok, Err, IsErrAnd}
 use Rattle.omi_walk.specs.declared.threads.SeenThread.{SeenThread}
 use Rattle.omi_walk.specs.SeenThreads.{found_in}
 use Rattle.omi_walk.specs.AskThreads.{ask_thread, all_seen, ask_threads}
@@ -14,11 +14,15 @@ use Rattle.omi_walk.proofs.EachAsked.{EachGoes, asks_begin, asks_next, asks_stop
 use Rattle.omi_walk.proofs.Goes.{goes_unsaid, walks_ok, walks_err, walks_as, walks_unsaid}
 use Rattle.omi_walk.specs.declared.fault.WalkFault.TheVariants.{OutOfMemory}
 use Rattle.omi_walk.specs.Walks.{Walks}
+use Rattle.omi_walk.specs.declared.fault.WalkFault.{WalkFault}
+use Rattle.omi_walk.specs.declared.thread_rows.SeenThreads.{SeenThreads}
+use Rattle.omi_walk.proofs.thread_rows.thread_rows.Given.{Over}
+use Rattle.omi_walk.proofs.thread_rows.thread_rows.Goals.{In_ok-seen}
 use Rattle.omi_walk.proofs.thread_rows.thread_rows.Goals as goal
 
 pub loop-native-init : goal.loop-native-init
 loop-native-init g c = record {
-  leaves = record { stays = record { table = record { same = refl; order = refl; to_host = refl }; layout = refl }; held = refl; later = omega arith; made = omega arith };
+  leaves = leaves_same g.C.Callbacks.told _ c.args.s.now;
   later = omega arith;
   each = rw c.new-found.ensures (All-nil _);
   few = rw c.new-found.ensures (omega arith);
@@ -72,39 +76,31 @@ returns-in_err-seen-clause-reads g c =
     (walks_err told asked s c.thread_row.new.s all_seen c.in_err-seen.field-0.0 _
     (asks_stop told asked s (0, 0) (λ w k native. ask_thread w native) contexts c.loop-native.s c.thread_row.new.s c.loop-native.invariant.seen _ _ c.in_err-seen.field-0.0 (Err c.in_err-seen.field-0.0) so c.in_err-seen.ensures.reads refl)))
 
-pub returns-in_err-push-clause-reads : goal.returns-in_err-push-clause-reads
+-- memory runs out behind a thread
+unsaid : (g : Over) (c : In_ok-seen g) (r : Result SeenThreads WalkFault) → IsErrAnd r (λ why. why ≡ OutOfMemory)
+    → Walks g.C.Callbacks.told g.C.Callbacks.asked c.args.s.now c.thread_row.new.s r (ask_threads c.args.s.now.layout c.args.contexts.now)
 unfolding ask_threads
-returns-in_err-push-clause-reads g c =
+unsaid g c r is =
     let told = g.C.Callbacks.told in
     let asked = g.C.Callbacks.asked in
     let s = c.args.s.now in
     let contexts = c.as_slice-native-items.result.now in
     let so = subst (λ left. EachGoes told asked s (0, 0) (λ w k native. ask_thread w native) contexts c.loop-native.s c.loop-native.invariant.seen left)
     (next_left contexts c.loop-native.native-index c.loop-native-test.true) c.loop-native.invariant.goes in
-    let r = c.from_residual-in_err-push.result in
     subst
     (λ xs. Walks told asked s c.thread_row.new.s r (ask_threads s.layout xs)) c.as_slice-native-items.ensures
     (walks_unsaid told asked s c.thread_row.new.s all_seen (Err OutOfMemory) r _
     (goes_unsaid told asked s c.thread_row.new.s _ _ (Err OutOfMemory)
     (asks_next told asked s (0, 0) (λ w k native. ask_thread w native) contexts c.loop-native.s c.thread_row.new.s c.loop-native.invariant.seen _ _ _ c.in_ok-seen.seen so c.thread_row.ensures.leaves c.in_ok-seen.ensures.reads) refl)
-    c.from_residual-in_err-push.ensures.1)
+    is)
+
+pub returns-in_err-push-clause-reads : goal.returns-in_err-push-clause-reads
+returns-in_err-push-clause-reads g c =
+    unsaid g (goal.at.returns-in_err-push-clause-reads g c).In_ok-seen c.from_residual-in_err-push.result c.from_residual-in_err-push.ensures.1
 
 pub returns-in_err-add_found-clause-reads : goal.returns-in_err-add_found-clause-reads
-unfolding ask_threads
 returns-in_err-add_found-clause-reads g c =
-    let told = g.C.Callbacks.told in
-    let asked = g.C.Callbacks.asked in
-    let s = c.args.s.now in
-    let contexts = c.as_slice-native-items.result.now in
-    let so = subst (λ left. EachGoes told asked s (0, 0) (λ w k native. ask_thread w native) contexts c.loop-native.s c.loop-native.invariant.seen left)
-    (next_left contexts c.loop-native.native-index c.loop-native-test.true) c.loop-native.invariant.goes in
-    let r = c.from_residual-in_err-add_found.result in
-    subst
-    (λ xs. Walks told asked s c.thread_row.new.s r (ask_threads s.layout xs)) c.as_slice-native-items.ensures
-    (walks_unsaid told asked s c.thread_row.new.s all_seen (Err OutOfMemory) r _
-    (goes_unsaid told asked s c.thread_row.new.s _ _ (Err OutOfMemory)
-    (asks_next told asked s (0, 0) (λ w k native. ask_thread w native) contexts c.loop-native.s c.thread_row.new.s c.loop-native.invariant.seen _ _ _ c.in_ok-seen.seen so c.thread_row.ensures.leaves c.in_ok-seen.ensures.reads) refl)
-    c.from_residual-in_err-add_found.ensures.1)
+    unsaid g (goal.at.returns-in_err-add_found-clause-reads g c).In_ok-seen c.from_residual-in_err-add_found.result c.from_residual-in_err-add_found.ensures.1
 
 pub returns-clause-reads : goal.returns-clause-reads
 unfolding ask_threads

@@ -8,13 +8,12 @@ use Rattle.omi_walk.proofs.threads.part_of.Goals.{In_ok-state, In_ok-current, In
 use Rattle.omi_walk.proofs.threads.part_of.Goals as goal
 
 -- reads: what is left to ask behind each inquiry
-
 module _ (g : Over) where
   abbrev asked_state : (c : In_ok-state g)
       → Left g.C.Callbacks.told g.C.Callbacks.asked c.args.s.now c.state_of.new.s (ask_part c.args.s.now.layout c.args.thread (get c.args.s.now.handles.held (thread_pair c.args.t)))
   unfolding ask_part
   asked_state c =
-      left_on (λ w k. ask_state w k) (thread_pair c.args.t) _ (left_first _ _ _ _) refl c.state_of.ensures.leaves c.in_ok-state.ensures.reads
+      left_on (λ w k. ask_state w k) (thread_pair c.args.t) _ (left_first _ _ _ (ask_part c.args.s.now.layout c.args.thread (get c.args.s.now.handles.held (thread_pair c.args.t)))) refl c.state_of.ensures.leaves c.in_ok-state.ensures.reads
 
   abbrev asked_current : (c : In_ok-current g)
       → Left g.C.Callbacks.told g.C.Callbacks.asked c.args.s.now c.related_of.new.s (ask_part c.args.s.now.layout c.args.thread (get c.args.s.now.handles.held (thread_pair c.args.t)))
@@ -31,20 +30,17 @@ module _ (g : Over) where
 pub returns-in_err-state-clause-reads : goal.returns-in_err-state-clause-reads
 unfolding ask_part
 returns-in_err-state-clause-reads g c =
-    left_stop (λ w k. ask_state w k) (thread_pair c.args.t) _ (left_first _ _ _ (ask_part c.args.s.now.layout c.args.thread (get c.args.s.now.handles.held (thread_pair c.args.t)))) refl
-    c.in_err-state.ensures.reads c.from_residual.ensures.1
+    left_stop (λ w k. ask_state w k) (thread_pair c.args.t) _ (left_first _ _ _ (ask_part c.args.s.now.layout c.args.thread (get c.args.s.now.handles.held (thread_pair c.args.t)))) refl c.in_err-state.ensures.reads c.from_residual.ensures.1
 
 pub returns-in_err-current-clause-reads : goal.returns-in_err-current-clause-reads
 unfolding ask_part
 returns-in_err-current-clause-reads g c =
-    left_stop (λ w k. ask_current w k) (thread_pair c.args.t) _ (asked_state g (goal.at.returns-in_err-current-clause-reads g c).In_ok-state) refl
-    c.in_err-current.ensures.reads c.from_residual-in_err-current.ensures.1
+    left_stop (λ w k. ask_current w k) (thread_pair c.args.t) _ (asked_state g (goal.at.returns-in_err-current-clause-reads g c).In_ok-state) refl c.in_err-current.ensures.reads c.from_residual-in_err-current.ensures.1
 
 pub returns-in_err-number-clause-reads : goal.returns-in_err-number-clause-reads
 unfolding ask_part
 returns-in_err-number-clause-reads g c =
-    left_stop (λ w k. ask_number w k) (thread_pair c.args.t) _ (asked_current g (goal.at.returns-in_err-number-clause-reads g c).In_ok-current) refl
-    c.in_err-number.ensures.reads c.from_residual-in_err-number.ensures.1
+    left_stop (λ w k. ask_number w k) (thread_pair c.args.t) _ (asked_current g (goal.at.returns-in_err-number-clause-reads g c).In_ok-current) refl c.in_err-number.ensures.reads c.from_residual-in_err-number.ensures.1
 
 pub returns-clause-reads : goal.returns-clause-reads
 unfolding ask_part

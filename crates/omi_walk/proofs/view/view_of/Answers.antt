@@ -60,32 +60,27 @@ module _ (g : Over) where
 pub returns-in_err-head-clause-reads : goal.returns-in_err-head-clause-reads
 unfolding ask_view
 returns-in_err-head-clause-reads g c =
-    left_stop (λ w k. ask_head w) (0, 0) _ (left_first _ _ _ (ask_view c.args.s.now.layout c.args.contexts.now)) refl
-    c.in_err-head.ensures.reads c.from_residual.ensures.1
+    left_stop (λ w k. ask_head w) (0, 0) _ (left_first _ _ _ (ask_view c.args.s.now.layout c.args.contexts.now)) refl c.in_err-head.ensures.reads c.from_residual.ensures.1
 
 pub returns-in_err-rows-clause-reads : goal.returns-in_err-rows-clause-reads
 unfolding ask_view
 returns-in_err-rows-clause-reads g c =
-    left_stop (λ w k. ask_threads w c.args.contexts.now) (0, 0) _ (asked_head g (goal.at.returns-in_err-rows-clause-reads g c).In_ok-head) refl
-    c.in_err-rows.ensures.reads c.from_residual-in_err-rows.ensures.1
+    left_stop (λ w k. ask_threads w c.args.contexts.now) (0, 0) _ (asked_head g (goal.at.returns-in_err-rows-clause-reads g c).In_ok-head) refl c.in_err-rows.ensures.reads c.from_residual-in_err-rows.ensures.1
 
 pub returns-in_err-index-clause-reads : goal.returns-in_err-index-clause-reads
 unfolding ask_view
 returns-in_err-index-clause-reads g c =
-    left_stop (λ w k. ask_each (ask_regions w) c.in_ok-rows.field-0.found) (0, 0) _ (asked_rows g (goal.at.returns-in_err-index-clause-reads g c).In_ok-rows) refl
-    c.in_err-index.ensures.reads c.from_residual-in_err-index.ensures.1
+    left_stop (λ w k. ask_each (ask_regions w) c.in_ok-rows.field-0.found) (0, 0) _ (asked_rows g (goal.at.returns-in_err-index-clause-reads g c).In_ok-rows) refl c.in_err-index.ensures.reads c.from_residual-in_err-index.ensures.1
 
 pub returns-in_err-regions-clause-reads : goal.returns-in_err-regions-clause-reads
 unfolding ask_view
 returns-in_err-regions-clause-reads g c =
-    left_stop (λ w k. ask_rows w (flat_map (λ chain. chain) c.in_ok-index.ensures.reads.met)) (0, 0) _ (asked_index g (goal.at.returns-in_err-regions-clause-reads g c).In_ok-index) refl
-    (c.in_err-regions.ensures.reads (flat_map (λ chain. chain) c.in_ok-index.ensures.reads.met) c.in_ok-index.ensures.reads.first c.in_ok-index.ensures.reads.small) c.from_residual-in_err-regions.ensures.1
+    left_stop (λ w k. ask_rows w (flat_map (λ chain. chain) c.in_ok-index.ensures.reads.met)) (0, 0) _ (asked_index g (goal.at.returns-in_err-regions-clause-reads g c).In_ok-index) refl (c.in_err-regions.ensures.reads (flat_map (λ chain. chain) c.in_ok-index.ensures.reads.met) c.in_ok-index.ensures.reads.first c.in_ok-index.ensures.reads.small) c.from_residual-in_err-regions.ensures.1
 
 pub returns-in_err-tasks-clause-reads : goal.returns-in_err-tasks-clause-reads
 unfolding ask_view
 returns-in_err-tasks-clause-reads g c =
-    left_stop (λ w k. ask_all_tasks w c.in_ok-rows.field-0.found) (0, 0) _ (asked_regions g (goal.at.returns-in_err-tasks-clause-reads g c).In_ok-regions) refl
-    c.in_err-tasks.ensures.reads c.from_residual-in_err-tasks.ensures.1
+    left_stop (λ w k. ask_all_tasks w c.in_ok-rows.field-0.found) (0, 0) _ (asked_regions g (goal.at.returns-in_err-tasks-clause-reads g c).In_ok-regions) refl c.in_err-tasks.ensures.reads c.from_residual-in_err-tasks.ensures.1
 
 pub returns-clause-reads : goal.returns-clause-reads
 unfolding ask_view
@@ -96,36 +91,24 @@ returns-clause-reads g c =
 
 pub returns-in_err-head-clause-look : goal.returns-in_err-head-clause-look
 returns-in_err-head-clause-look g c =
-    looks_of_reads g.C.Callbacks.told g.C.Callbacks.asked c.args.s.now _ c.args.contexts.now _
-    (subst (λ w. IsValid w) c.layout-layout.ensures c.layout-layout.result.now.valid)
-    (returns-in_err-head-clause-reads g c)
+    looks_of_reads g.C.Callbacks.told g.C.Callbacks.asked c.args.s.now _ c.args.contexts.now _ (subst (λ w. IsValid w) c.layout-layout.ensures c.layout-layout.result.now.valid) (returns-in_err-head-clause-reads g c)
 
 pub returns-in_err-rows-clause-look : goal.returns-in_err-rows-clause-look
 returns-in_err-rows-clause-look g c =
-    looks_of_reads g.C.Callbacks.told g.C.Callbacks.asked c.args.s.now _ c.args.contexts.now _
-    (subst (λ w. IsValid w) c.layout-layout.ensures c.layout-layout.result.now.valid)
-    (returns-in_err-rows-clause-reads g c)
+    looks_of_reads g.C.Callbacks.told g.C.Callbacks.asked c.args.s.now _ c.args.contexts.now _ (subst (λ w. IsValid w) c.layout-layout.ensures c.layout-layout.result.now.valid) (returns-in_err-rows-clause-reads g c)
 
 pub returns-in_err-index-clause-look : goal.returns-in_err-index-clause-look
 returns-in_err-index-clause-look g c =
-    looks_of_reads g.C.Callbacks.told g.C.Callbacks.asked c.args.s.now _ c.args.contexts.now _
-    (subst (λ w. IsValid w) c.layout-layout.ensures c.layout-layout.result.now.valid)
-    (returns-in_err-index-clause-reads g c)
+    looks_of_reads g.C.Callbacks.told g.C.Callbacks.asked c.args.s.now _ c.args.contexts.now _ (subst (λ w. IsValid w) c.layout-layout.ensures c.layout-layout.result.now.valid) (returns-in_err-index-clause-reads g c)
 
 pub returns-in_err-regions-clause-look : goal.returns-in_err-regions-clause-look
 returns-in_err-regions-clause-look g c =
-    looks_of_reads g.C.Callbacks.told g.C.Callbacks.asked c.args.s.now _ c.args.contexts.now _
-    (subst (λ w. IsValid w) c.layout-layout.ensures c.layout-layout.result.now.valid)
-    (returns-in_err-regions-clause-reads g c)
+    looks_of_reads g.C.Callbacks.told g.C.Callbacks.asked c.args.s.now _ c.args.contexts.now _ (subst (λ w. IsValid w) c.layout-layout.ensures c.layout-layout.result.now.valid) (returns-in_err-regions-clause-reads g c)
 
 pub returns-in_err-tasks-clause-look : goal.returns-in_err-tasks-clause-look
 returns-in_err-tasks-clause-look g c =
-    looks_of_reads g.C.Callbacks.told g.C.Callbacks.asked c.args.s.now _ c.args.contexts.now _
-    (subst (λ w. IsValid w) c.layout-layout.ensures c.layout-layout.result.now.valid)
-    (returns-in_err-tasks-clause-reads g c)
+    looks_of_reads g.C.Callbacks.told g.C.Callbacks.asked c.args.s.now _ c.args.contexts.now _ (subst (λ w. IsValid w) c.layout-layout.ensures c.layout-layout.result.now.valid) (returns-in_err-tasks-clause-reads g c)
 
 pub returns-clause-look : goal.returns-clause-look
 returns-clause-look g c =
-    looks_of_reads g.C.Callbacks.told g.C.Callbacks.asked c.args.s.now _ c.args.contexts.now _
-    (subst (λ w. IsValid w) c.layout-layout.ensures c.layout-layout.result.now.valid)
-    (returns-clause-reads g c)
+    looks_of_reads g.C.Callbacks.told g.C.Callbacks.asked c.args.s.now _ c.args.contexts.now _ (subst (λ w. IsValid w) c.layout-layout.ensures c.layout-layout.result.now.valid) (returns-clause-reads g c)
