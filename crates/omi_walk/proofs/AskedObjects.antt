@@ -1,5 +1,5 @@
 -- The objects that inquiries find, as a walk meets them.
-use Rattle.std.proofs.Common.{◌≡◌, ◌≤◌, ◌&&◌, ◌==◌, ℕ, Bool, true, false, cond, nat_le, leb-true, List, Option, Some, refl, sym, ap, ◌∙◌, arith}
+use Rattle.std.proofs.Common.{◌≡◌, ◌≤◌, ◌&&◌, ℕ, Bool, true, false, cond, nat_le, leb-true, List, Option, Some, refl, sym, ap, ◌∙◌, arith}
 use Rattle.std.specs.Option.{option_map, option_map_or}
 use Rattle.std.specs.Prelude.{Result, Ok, Err}
 use Rattle.omi_word.specs.Words.{Words}
@@ -7,9 +7,6 @@ use Rattle.omi_handle.specs.declared.handle.Held.{Held}
 use Rattle.omi_icv.specs.declared.scoped.Scoped.TheVariants.{Parallel}
 use Rattle.omi_icv.specs.Icvs.{icv_from_scope}
 use Rattle.omi_icv.specs.Records.{record_of_handle}
-use Rattle.omi_icv.specs.Table.{variable_in}
-use Rattle.omi_icv.specs.Scopes.{scope_of}
-use Rattle.omi_icv.specs.Values.{number_in}
 use Rattle.omi_handle.specs.declared.handle.Kind.TheVariants as kind
 use Rattle.omi_layout.specs.declared.field.Field.TheVariants.{RegionSize}
 use Rattle.omi_layout.specs.Named.{number}
@@ -24,7 +21,6 @@ use Rattle.omi_session.specs.Handles.{name_of}
 use Rattle.omi_session.specs.Inquiry.{word_of, team_size, related, current_task}
 use Rattle.omi_session.specs.Reads.{ReadsOr, Reads, Answer, answer_on, after, then_reads}
 use Rattle.omi_session.proofs.Asked.{answer_then}
-use Rattle.omi_walk.specs.declared.fault.WalkFault.{WalkFault}
 use Rattle.omi_walk.specs.declared.met.Met.{Met}
 use Rattle.omi_walk.specs.declared.related.Relation.{Relation}
 use Rattle.omi_walk.specs.declared.related.Relation.TheVariants.{Current, Generating, Scheduling, Enclosing}

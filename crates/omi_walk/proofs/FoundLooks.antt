@@ -1,25 +1,20 @@
 -- The threads that were found for the rows so far, and the elements of a list that are left.
-use Rattle.std.proofs.Common.{◌≡◌, ◌≤◌, ◌<◌, ◌+◌, ℕ, suc, List, [], ◌∷◌, ◌++◌, Option, Some, None, drop, get_or, length, map, refl, sym, ap, ◌∙◌, arith}
+use Rattle.std.proofs.Common.{◌≡◌, ◌≤◌, ◌<◌, ◌+◌, ℕ, suc, List, [], ◌∷◌, ◌++◌, Option, Some, None, drop, get_or, length, ap, ◌∙◌, arith}
 use Rattle.std.proofs.Math.Seq.{drop-cons}
-use Rattle.std.proofs.lemmas.List.{map-append, length-append}
-use Rattle.std.proofs.lemmas.List.Elements.{filter_map-append, All-nil, All-cons, All-append, All-weaker}
-use Rattle.std.specs.List.{All, cons_option}
-use Rattle.std.specs.Option.{option_map}
-use Rattle.std.specs.Prelude.{Ok, IfSome}
-use Rattle.omi_word.specs.Words.{Words}
+use Rattle.std.proofs.lemmas.List.{length-append}
+use Rattle.std.proofs.lemmas.List.Elements.{All-nil, All-cons, All-append, All-weaker}
+use Rattle.std.specs.List.{All}
+use Rattle.std.specs.Prelude.{IfSome}
 use Rattle.omi_calls.specs.Told.{Told}
 use Rattle.omi_handle.specs.declared.handle.Kind.TheVariants.{Task}
 use Rattle.omi_model.specs.declared.view.ThreadPart.{ThreadPart}
-use Rattle.omi_model.specs.declared.view.ThreadRow.{ThreadRow}
-use Rattle.omi_rep.specs.LookView.{look_current, found_threads}
 use Rattle.omi_session.specs.Opened.{Opened, Stays}
 use Rattle.omi_walk.specs.declared.found.Found.{Found}
 use Rattle.omi_walk.specs.declared.met.Met.{Met}
 use Rattle.omi_walk.specs.FoundThreads.{IsFound}
-use Rattle.omi_walk.specs.Gives.{Looks}
-use Rattle.omi_walk.specs.Objects.{IsMet, name_in}
+use Rattle.omi_walk.specs.Objects.{IsMet}
 use Rattle.omi_walk.specs.SeenThreads.{found_in}
-use Rattle.omi_walk.proofs.Steps.{looks_after, met_after}
+use Rattle.omi_walk.proofs.Steps.{met_after}
 
 -- a row adds at most one thread
 count_in : (o : Option ThreadPart) (current : Option Met) → length (found_in o current) ≤ 1

@@ -1,25 +1,17 @@
 -- The chains of the threads that were found, one after the other.
 use Rattle.std.proofs.Common.{◌≡◌, ◌≤◌, ℕ, ◌+◌, List, [], ◌∷◌, Option, Some, None, length, map, drop, refl, ap, subst, ◌∙◌}
-use Rattle.std.specs.Prelude.{Result, Ok, IfSome, All, slice_get}
-use Rattle.std.specs.List.{flat_map}
+use Rattle.std.specs.Prelude.{IfSome, All, slice_get}
 use Rattle.std.proofs.lemmas.List.{drop_more, drop_all}
 use Rattle.std.proofs.lemmas.List.Elements.{All-get_or}
 use Rattle.std.proofs.lemmas.Option.{slice_get_within, get_or_from_slice_get}
 use Rattle.omi_calls.specs.Told.{Told}
 use Rattle.omi_handle.specs.declared.handle.Kind.TheVariants.{Task}
-use Rattle.omi_layout.specs.Field.{tasks}
-use Rattle.omi_layout.specs.Table.{records}
-use Rattle.omi_model.specs.declared.view.TaskRow.{TaskRow}
-use Rattle.omi_rep.specs.Look.{each, mapped}
-use Rattle.omi_rep.specs.LookView.{look_current, look_chain, look_tasks}
 use Rattle.omi_session.specs.Opened.{Opened, Stays}
-use Rattle.omi_walk.specs.declared.fault.WalkFault.{WalkFault}
 use Rattle.omi_walk.specs.declared.found.Found.{Found}
 use Rattle.omi_walk.specs.declared.met.Met.{Met}
 use Rattle.omi_walk.specs.FoundThreads.{IsFound}
-use Rattle.omi_walk.specs.Gives.{Looks}
-use Rattle.omi_walk.specs.Objects.{IsMet, name_in}
-use Rattle.omi_walk.proofs.Steps.{EachSoFar, each_ends, looks_after, look_is, look_then, met_after}
+use Rattle.omi_walk.specs.Objects.{IsMet}
+use Rattle.omi_walk.proofs.Steps.{met_after}
 
 -- the threads that are left begin with the next
 pub next_thread : (found : List Found) (at : ℕ) (f : Found) → slice_get found at ≡ Some f

@@ -1,5 +1,5 @@
 -- The regions of an index in the slots of a layout, and the first that was met in each.
-use Rattle.std.proofs.Common.{◌≡◌, ◌≤◌, ◌<◌, ◌+◌, ◌&&◌, ◌==◌, ℕ, zero, suc, Bool, true, false, cond, List, [], ◌∷◌, ◌++◌, find, Option, Some, None, map, refl, sym, ap, ◌∙◌, arith, length, drop}
+use Rattle.std.proofs.Common.{◌≡◌, ◌≤◌, ◌<◌, ◌+◌, ◌&&◌, ◌==◌, ℕ, zero, suc, Bool, true, false, cond, List, [], ◌∷◌, ◌++◌, find, Some, None, map, refl, sym, ap, ◌∙◌, arith, drop}
 use Rattle.std.specs.Prelude.{slice_get}
 use Rattle.std.specs.BTreeMap.{BTreeMap, get}
 use Rattle.std.specs.List.{All, flat_map, filter_map, cons_option, range_with_len}

@@ -1,30 +1,21 @@
 -- What the reads of a walk answer is what a look at the whole report gives; and the regions that are indexed live.
-use Rattle.std.proofs.Common.{◌≡◌, ◌==◌, ℕ, Bool, true, false, cond, List, [], ◌∷◌, find, Some, refl, sym, ap, subst, ◌∙◌}
+use Rattle.std.proofs.Common.{◌≡◌, ◌==◌, ℕ, Bool, true, false, cond, List, [], ◌∷◌, find, Some, sym, ap, subst, ◌∙◌}
 use Rattle.std.specs.Prelude.{◌≢◌, Result, Ok, Err, IfSome}
 use Rattle.std.specs.BTreeMap.{BTreeMap}
-use Rattle.std.specs.List.{All, flat_map, filter_map}
+use Rattle.std.specs.List.{All}
 use Rattle.std.proofs.lemmas.List.Elements.{All-head, All-tail}
-use Rattle.omi_word.specs.Words.{Words}
 use Rattle.omi_calls.specs.Told.{Told}
 use Rattle.omi_handle.specs.declared.handle.Kind.TheVariants.{Region}
-use Rattle.omi_layout.specs.Field.{regions}
-use Rattle.omi_model.specs.declared.id.Id.{Id}
-use Rattle.omi_model.specs.declared.view.HeadRow.{HeadRow}
-use Rattle.omi_model.specs.declared.view.RegionRow.{RegionRow}
-use Rattle.omi_model.specs.declared.view.TaskRow.{TaskRow}
-use Rattle.omi_model.specs.declared.view.ThreadRow.{ThreadRow}
 use Rattle.omi_model.specs.declared.view.View.{View}
-use Rattle.omi_rep.specs.Look.{Look, and_then, mapped, each, slot_list}
-use Rattle.omi_rep.specs.LookView.{look_head, look_thread, look_regions, look_region, look_tasks, look_view, met_in, found_threads}
-use Rattle.omi_session.specs.Opened.{Opened, Stays}
+use Rattle.omi_rep.specs.Look.{Look}
+use Rattle.omi_rep.specs.LookView.{look_view}
+use Rattle.omi_session.specs.Opened.{Opened}
 use Rattle.omi_walk.specs.declared.fault.WalkFault.{WalkFault}
 use Rattle.omi_walk.specs.declared.met.Met.{Met}
 use Rattle.omi_walk.specs.Gives.{Looks, Gives}
 use Rattle.omi_walk.specs.Index.{key_of, HasFirst}
 use Rattle.omi_walk.specs.Objects.{IsMet}
 use Rattle.omi_walk.specs.Regions.{AreLive}
-use Rattle.omi_walk.proofs.AddedRows.{looks_as}
-use Rattle.omi_walk.proofs.Steps.{look_then, look_stops, look_is}
 use Rattle.omi_layout.specs.Valid.{IsValid}
 use Rattle.omi_rep.specs.declared.fault.LookFault.TheVariants as plain
 use Rattle.omi_walk.specs.declared.fault.WalkFault.TheVariants.{Damaged, Cycle, Callback, OutOfMemory}

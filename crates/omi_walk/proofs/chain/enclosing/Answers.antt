@@ -1,17 +1,15 @@
 -- The regions from one on are asked for one after the other, each enclosed by the next.
-use Rattle.std.proofs.Common.{◌≡◌, ◌∷◌, ◌++◌, List, [], ℕ, ◌-◌, ◌+◌, suc, refl, ap, subst, ◌∙◌, arith, Bool, Option, Some, None}
+use Rattle.std.proofs.Common.{◌≡◌, ◌∷◌, ◌++◌, List, [], ℕ, ◌-◌, ◌+◌, suc, refl, ap, subst, ◌∙◌, arith, Bool, Option, Some}
 use Rattle.std.specs.Prelude.{IfSome, Result, Ok, Err, IsErrAnd}
 use Rattle.std.specs.Ordering.{nat_cmp}
 use Rattle.std.specs.BTreeSet.{contains}
 use Rattle.std.proofs.lemmas.List.Elements.{All-append, All-weaker, All-nil}
-use Rattle.std.proofs.lemmas.Result.{err_from_is_err_and}
 use Rattle.omi_handle.specs.declared.handle.Kind.TheVariants.{Region}
 use Rattle.omi_layout.specs.Field.{regions}
 use Rattle.omi_layout.specs.Table.{records}
-use Rattle.omi_rep.specs.Look.{was_met}
 use Rattle.omi_walk.specs.Objects.{IsMet}
 use Rattle.omi_walk.proofs.Chained.{one_met}
-use Rattle.omi_walk.proofs.Steps.{leaves_same, leaves_then, look_unsaid, met_after}
+use Rattle.omi_walk.proofs.Steps.{leaves_same, leaves_then, met_after}
 use Rattle.omi_calls.specs.Told.{Told}
 use Rattle.omi_session.specs.Opened.{Opened}
 use Rattle.omi_walk.specs.declared.met.Met.{Met}
@@ -78,12 +76,12 @@ loop-init g c =
     let s = c.args.s.now in
     let count = c.region_count-end.ensures.value ∙ ap (λ w. records w regions) (c.layout.ensures) in
     record {
+      current = c.requires.met;
+      chain = rw c.new-chain.ensures (All-nil (IsMet g.C.Callbacks.told s Region));
       leaves = leaves_same g.C.Callbacks.told _ c.args.s.now;
       later = omega arith;
       bound = count;
       few = c.region_count-end.ensures.few;
-      current = c.requires.met;
-      chain = rw c.new-chain.ensures (All-nil (IsMet g.C.Callbacks.told s Region));
       goes =
           chain_begin g.C.Callbacks.told g.C.Callbacks.asked s ask_enclosed (records s.layout regions)
           (Some c.args.first) c.new-chain.result (contains nat_cmp c.new-met.result)

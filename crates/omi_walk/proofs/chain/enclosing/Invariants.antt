@@ -7,7 +7,6 @@ use Rattle.omi_layout.specs.Field.{regions}
 use Rattle.omi_layout.specs.Table.{records}
 use Rattle.omi_walk.specs.Leaves.{Leaves}
 use Rattle.omi_walk.specs.Objects.{IsMet}
-use Rattle.omi_walk.proofs.Chained.{ChainSoFar}
 use Rattle.omi_walk.specs.AskRegions.{ask_enclosed}
 use Rattle.omi_walk.proofs.ChainAsked.{ChainGoes}
 use Rattle.omi_walk.proofs.chain.enclosing.Given as goal

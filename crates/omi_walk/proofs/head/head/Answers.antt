@@ -34,6 +34,13 @@ module _ (g : Over) where
   asked_max_active c =
       left_on (λ w k. ask_space w MAX_ACTIVE_LEVELS_VAR) (0, 0) _ (asked_procs (goal.at.In_ok-max_active g c).In_ok-procs) refl c.space_variable-3.ensures.leaves c.in_ok-max_active.ensures.reads
 
+pub returns-clause-reads : goal.returns-clause-reads
+unfolding ask_head
+returns-clause-reads g c =
+    left_end (asked_max_active g (goal.at.returns-clause-reads g c).In_ok-max_active) refl
+    (ap (λ threads. Ok (record { version = c.in_ok-version.version; threads = threads; debug = c.in_ok-debug.debug; procs = c.in_ok-procs.procs; max_active = c.in_ok-max_active.max_active }))
+    (c.threads.ensures ∙ ap thread_count c.layout.ensures ∙ ap thread_count (asked_max_active g (goal.at.returns-clause-reads g c).In_ok-max_active).goes.stays.layout))
+
 pub returns-in_err-version-clause-reads : goal.returns-in_err-version-clause-reads
 unfolding ask_head
 returns-in_err-version-clause-reads g c =
@@ -53,10 +60,3 @@ pub returns-in_err-max_active-clause-reads : goal.returns-in_err-max_active-clau
 unfolding ask_head
 returns-in_err-max_active-clause-reads g c =
     left_stop (λ w k. ask_space w MAX_ACTIVE_LEVELS_VAR) (0, 0) _ (asked_procs g (goal.at.returns-in_err-max_active-clause-reads g c).In_ok-procs) refl c.in_err-max_active.ensures.reads c.from_residual-in_err-max_active.ensures.1
-
-pub returns-clause-reads : goal.returns-clause-reads
-unfolding ask_head
-returns-clause-reads g c =
-    left_end (asked_max_active g (goal.at.returns-clause-reads g c).In_ok-max_active) refl
-    (ap (λ threads. Ok (record { version = c.in_ok-version.version; threads = threads; debug = c.in_ok-debug.debug; procs = c.in_ok-procs.procs; max_active = c.in_ok-max_active.max_active }))
-    (c.threads.ensures ∙ ap thread_count c.layout.ensures ∙ ap thread_count (asked_max_active g (goal.at.returns-clause-reads g c).In_ok-max_active).goes.stays.layout))

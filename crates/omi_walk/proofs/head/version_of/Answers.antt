@@ -1,8 +1,6 @@
 use Rattle.omi_layout.specs.declared.field.Field.TheVariants.{RuntimeVersion}
 use Rattle.omi_rep.specs.Records.{runtime_address}
 use Rattle.omi_session.specs.Inquiry.{word_of}
-use Rattle.omi_session.proofs.LookedLaws.{word_is_looked}
-use Rattle.omi_walk.proofs.WordLooks.{value_looks}
 use Rattle.std.proofs.Common.{None, refl}
 use Rattle.omi_walk.specs.Fault.{walked}
 use Rattle.omi_walk.proofs.Goes.{of_answers}

@@ -1,7 +1,4 @@
-use Rattle.std.proofs.lemmas.Result.{err_from_is_err_and}
-use Rattle.omi_handle.specs.declared.handle.Kind.TheVariants.{Region}
 use Rattle.omi_session.specs.Made.{region_pair}
-use Rattle.omi_walk.proofs.Steps.{look_then, look_stops, look_is, looks_after, stands_after}
 use Rattle.std.proofs.Common.{refl}
 use Rattle.std.specs.FinMap.{get}
 use Rattle.omi_walk.specs.AskRegions.{ask_member_task, ask_member_thread, ask_member}

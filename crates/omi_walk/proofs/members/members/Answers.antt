@@ -1,10 +1,7 @@
 use Rattle.std.proofs.Common.{◌≡◌, ◌-◌, ◌<◌, ℕ, List, refl, subst, arith}
-use Rattle.std.proofs.lemmas.Result.{err_from_is_err_and}
 use Rattle.std.specs.List.{range_with_len}
-use Rattle.omi_handle.specs.declared.handle.Kind.TheVariants.{Region}
-use Rattle.omi_rep.specs.LookView.{look_member}
 use Rattle.omi_session.specs.Made.{region_pair}
-use Rattle.omi_walk.proofs.Steps.{leaves_same, EachSoFar, each_begins, each_next, each_stops, each_ends, next_range, looks_after, stands_after, leaves_then, look_unsaid, no_more}
+use Rattle.omi_walk.proofs.Steps.{leaves_same, next_range, leaves_then, no_more}
 use Rattle.omi_walk.proofs.EachAsked.{EachGoes, asks_begin, asks_next, asks_stop, asks_end}
 use Rattle.omi_walk.proofs.Goes.{goes_unsaid}
 use Rattle.omi_walk.specs.AskRegions.{ask_member}

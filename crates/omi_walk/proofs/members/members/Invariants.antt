@@ -1,13 +1,7 @@
 use Rattle.std.proofs.Common.{◌≡◌, ◌≤◌, ◌*◌, ◌-◌}
 use Rattle.std.specs.List.{range_with_len}
-use Rattle.omi_handle.specs.declared.handle.Kind.TheVariants.{Region}
-use Rattle.omi_model.specs.declared.id.Id.{Id}
-use Rattle.omi_rep.specs.LookView.{look_member}
 use Rattle.omi_session.specs.Made.{region_pair}
 use Rattle.omi_walk.specs.Leaves.{Leaves}
-use Rattle.omi_walk.specs.Members.{HasSize}
-use Rattle.omi_walk.specs.Objects.{Stands}
-use Rattle.omi_walk.proofs.Steps.{EachSoFar}
 use Rattle.omi_walk.proofs.EachAsked.{EachGoes}
 use Rattle.omi_walk.specs.AskRegions.{ask_member}
 use Rattle.omi_walk.proofs.members.members.Given as goal

@@ -13,8 +13,6 @@ pub returns-in-Ok-clause-leaves : goal.returns-in-Ok-clause-leaves
 returns-in-Ok-clause-leaves g c =
     found_leaves g.C.Callbacks.told c.args.s.now c.get_thread_in_parallel.new.s c.let_go.new.s Thread _ c.in-Ok.ensures.handles c.get_thread_in_parallel.ensures.stays c.let_go.ensures.layout c.let_go.ensures.table c.let_go.ensures.removed c.let_go.ensures.made
 
--- reads: what was asked
-
 pub returns-in-Ok-clause-reads : goal.returns-in-Ok-clause-reads
 returns-in-Ok-clause-reads g c =
     object_found c.let_go.result c.in-Ok.ensures.answer c.let_go.ensures.object c.let_go.ensures.name c.get_thread_in_parallel.ensures.stays.layout c.let_go.ensures.table (of_member (get c.args.s.now.handles.held (region_pair c.args.r))) refl

@@ -1,12 +1,7 @@
 use Rattle.std.proofs.Common.{refl, ap, ◌∙◌}
-use Rattle.std.proofs.lemmas.Result.{err_from_is_err_and}
 use Rattle.std.specs.Prelude.{Ok, Err}
 use Rattle.std.specs.FinMap.{get}
 use Rattle.omi_session.specs.Made.{task_pair}
-use Rattle.omi_walk.specs.Gives.{Looks}
-use Rattle.omi_walk.proofs.Looked.{value_gives}
-use Rattle.omi_walk.proofs.NumberLooks.{numbers_of, nthreads_looked}
-use Rattle.omi_walk.proofs.Steps.{look_unsaid}
 use Rattle.omi_handle.specs.Ledger.{Ledger}
 use Rattle.omi_icv.specs.declared.icv_text.Value.{Value}
 use Rattle.omi_icv.specs.Icvs.{icv_value}

@@ -1,15 +1,9 @@
-use Rattle.std.proofs.Common.{◌≡◌, ◌++◌, ◌∷◌, [], List, Some, None, sym, ap, subst, ◌∙◌, refl, append-nil}
+use Rattle.std.proofs.Common.{◌≡◌, ◌∷◌, [], List, Some, None, sym, ap, subst, ◌∙◌, refl, append-nil}
 use Rattle.std.specs.Option.{option_copied}
 use Rattle.std.specs.Ordering.{nat_cmp}
 use Rattle.std.specs.BTreeMap.{get}
 use Rattle.std.proofs.lemmas.Result.{err_from_is_err_and}
-use Rattle.omi_model.specs.declared.id.Id.{Id}
-use Rattle.omi_rep.specs.LookView.{look_region}
-use Rattle.omi_walk.specs.Added.{Added}
 use Rattle.omi_walk.specs.Index.{slot_key}
-use Rattle.omi_walk.proofs.AddedRows.{at_each, added_none, added_one, one_stops}
-use Rattle.omi_walk.proofs.RegionSlots.{none_in, one_in}
-use Rattle.omi_walk.proofs.Steps.{look_unsaid}
 use Rattle.std.specs.Prelude.{Ok, Err}
 use Rattle.omi_walk.specs.declared.met.Met.{Met}
 use Rattle.omi_walk.specs.declared.fault.WalkFault.TheVariants.{OutOfMemory}

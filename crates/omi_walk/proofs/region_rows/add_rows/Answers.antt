@@ -1,20 +1,12 @@
 use Rattle.std.proofs.Common.{ℕ, ◌≡◌, ◌≤◌, ◌++◌, List, refl, sym, ap, subst, ◌∙◌, arith, ◌∷◌, [], append_assoc, append-nil, ◌-◌, map}
-use Rattle.std.specs.List.{flat_map, range_with_len, filter_map}
+use Rattle.std.specs.List.{range_with_len, filter_map}
 use Rattle.std.proofs.lemmas.Result.{err_from_is_err_and}
 use Rattle.omi_layout.proofs.Arenas.{regions_of_valid}
 use Rattle.omi_layout.specs.Field.{regions}
 use Rattle.omi_layout.specs.Table.{per_thread}
-use Rattle.omi_model.specs.declared.id.Id.{Id}
-use Rattle.omi_rep.specs.Look.{each}
-use Rattle.omi_rep.specs.LookView.{look_region}
-use Rattle.omi_walk.specs.Added.{Added}
-use Rattle.omi_walk.specs.Regions.{in_own_slots, met_in_slot, own_slots}
-use Rattle.omi_walk.proofs.AddedRows.{at_each, looks_as, added_none, added_as, added_then, added_stops}
-use Rattle.omi_walk.proofs.RegionSlots.{in_one, own_by_slot, parts_more, parts_behind}
+use Rattle.omi_walk.specs.Regions.{met_in_slot, own_slots}
 use Rattle.omi_walk.proofs.Steps.{leaves_same, leaves_then, next_range, no_more}
 use Rattle.std.specs.Prelude.{Err}
-use Rattle.omi_walk.specs.declared.met.Met.{Met}
-use Rattle.omi_model.specs.declared.view.RegionRow.{RegionRow}
 use Rattle.omi_walk.specs.AskRegions.{ask_region}
 use Rattle.omi_walk.proofs.SlotsAsked.{slot_next}
 use Rattle.omi_walk.proofs.EachAsked.{EachGoes, asks_begin, asks_part, part_stop, asks_end}

@@ -1,17 +1,12 @@
 -- The rows of regions are made thread by thread, each by the slots that are the thread's own.
-use Rattle.std.proofs.Common.{◌≡◌, ◌≤◌, ◌++◌, ◌<◌, ◌+◌, [], List, map, Ok, refl, sym, ap, subst, ◌∙◌, arith, ℕ, ◌-◌}
+use Rattle.std.proofs.Common.{◌≡◌, ◌≤◌, ◌++◌, ◌<◌, ◌+◌, [], List, Ok, refl, sym, ap, subst, ◌∙◌, arith, ℕ, ◌-◌}
 use Rattle.std.specs.List.{flat_map, filter_map, range_with_len}
 use Rattle.std.proofs.lemmas.Result.{err_from_is_err_and}
 use Rattle.omi_layout.proofs.Arenas.{threads_of_valid, regions_of_valid}
 use Rattle.omi_layout.specs.Field.{regions}
 use Rattle.omi_layout.specs.Table.{thread_count, per_thread}
-use Rattle.omi_model.specs.declared.id.Id.{Id}
-use Rattle.omi_rep.specs.Look.{each, slot_list}
-use Rattle.omi_rep.specs.LookView.{look_region, met_in}
-use Rattle.omi_walk.specs.Added.{Added}
-use Rattle.omi_walk.specs.Regions.{in_own_slots, met_in_slot, own_slots}
-use Rattle.omi_walk.proofs.AddedRows.{at_each, looks_as, added_none, added_as, added_then, added_stops, all_added}
-use Rattle.omi_walk.proofs.RegionSlots.{all_by_thread, met_in_slots, parts_more, parts_behind}
+use Rattle.omi_rep.specs.Look.{slot_list}
+use Rattle.omi_walk.specs.Regions.{met_in_slot, own_slots}
 use Rattle.omi_walk.proofs.Steps.{leaves_same, leaves_then, next_range, no_more}
 use Rattle.std.specs.Prelude.{Result, Ok, Err}
 use Rattle.omi_walk.specs.declared.met.Met.{Met}

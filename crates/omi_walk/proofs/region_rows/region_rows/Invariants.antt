@@ -1,13 +1,9 @@
-use Rattle.std.proofs.Common.{◌≡◌, ◌≤◌, ◌*◌, [], ◌-◌, List}
+use Rattle.std.proofs.Common.{◌≡◌, ◌≤◌, ◌*◌, ◌-◌}
 use Rattle.std.specs.List.{flat_map, range_with_len, filter_map}
 use Rattle.omi_layout.specs.Field.{regions}
 use Rattle.omi_layout.specs.Table.{thread_count, per_thread}
-use Rattle.omi_rep.specs.LookView.{look_region}
-use Rattle.omi_walk.specs.Added.{Added}
 use Rattle.omi_walk.specs.Leaves.{Leaves}
-use Rattle.omi_walk.specs.Regions.{in_own_slots, met_in_slot, own_slots}
-use Rattle.omi_walk.proofs.AddedRows.{at_each}
-use Rattle.omi_model.specs.declared.view.RegionRow.{RegionRow}
+use Rattle.omi_walk.specs.Regions.{met_in_slot, own_slots}
 use Rattle.omi_walk.specs.AskRegions.{ask_region}
 use Rattle.omi_rep.specs.Look.{slot_list}
 use Rattle.omi_walk.proofs.EachAsked.{EachGoes}

@@ -1,21 +1,13 @@
-use Rattle.std.proofs.Common.{◌≡◌, ℕ, Some, sym, ap, subst, ◌∙◌, None, Option, refl}
-use Rattle.omi_handle.specs.declared.handle.Kind.TheVariants.{Region}
+use Rattle.std.proofs.Common.{◌≡◌, Some, sym, ap, subst, ◌∙◌, None, Option, refl}
 use Rattle.omi_handle.specs.declared.handle.Held.{Held}
 use Rattle.omi_layout.specs.declared.field.Field.TheVariants.{RegionFunction}
-use Rattle.omi_rep.specs.Look.{look_word}
 use Rattle.omi_session.specs.Inquiry.{word_of}
-use Rattle.omi_session.specs.Looked.{IsLook}
 use Rattle.omi_session.specs.Made.{region_pair}
-use Rattle.omi_session.specs.Reads.{answer_on, Answer, then_reads, Answers}
-use Rattle.omi_session.proofs.LookedLaws.{word_is_looked}
-use Rattle.omi_walk.proofs.Looked.{stands_at}
-use Rattle.omi_walk.proofs.WordLooks.{value_looks}
+use Rattle.omi_session.specs.Reads.{Answer, then_reads}
 use Rattle.std.specs.FinMap.{get}
 use Rattle.omi_handle.specs.Ledger.{Ledger}
-use Rattle.std.specs.Option.{ok_or}
-use Rattle.std.specs.Prelude.{Ok, Err}
+use Rattle.std.specs.Prelude.{Err}
 use Rattle.omi_session.specs.declared.rc.Rc.TheVariants.{BadInput}
-use Rattle.omi_walk.specs.Asking.{answering}
 use Rattle.omi_walk.specs.AskWords.{ask_entry}
 use Rattle.omi_walk.specs.Fault.{walked, fault_of}
 use Rattle.omi_walk.specs.Walks.{Walks}

@@ -108,6 +108,11 @@ module _ (g : Over) where
   asked_members c =
       left_on (λ w k. ask_each (ask_member w k) (range_with_len 0 c.bounded.result)) (region_pair c.args.r) _ (asked_bounded (goal.at.In_ok-members g c).After-bounded) refl c.members.ensures.leaves c.in_ok-members.ensures.reads
 
+pub returns-clause-reads : goal.returns-clause-reads
+unfolding ask_row row_with members_of
+returns-clause-reads g c =
+    left_end (asked_members g (goal.at.returns-clause-reads g c).In_ok-members) refl (rw c.region_name.ensures refl)
+
 pub returns-in_err-func-clause-reads : goal.returns-in_err-func-clause-reads
 unfolding ask_row row_with
 returns-in_err-func-clause-reads g c =
@@ -137,8 +142,3 @@ pub returns-in_err-members-clause-reads : goal.returns-in_err-members-clause-rea
 unfolding ask_row row_with members_of
 returns-in_err-members-clause-reads g c =
     left_stop (λ w k. ask_each (ask_member w k) (range_with_len 0 c.bounded.result)) (region_pair c.args.r) _ (asked_bounded g (goal.at.returns-in_err-members-clause-reads g c).After-bounded) refl c.in_err-members.ensures.reads c.from_residual-in_err-members.ensures.1
-
-pub returns-clause-reads : goal.returns-clause-reads
-unfolding ask_row row_with members_of
-returns-clause-reads g c =
-    left_end (asked_members g (goal.at.returns-clause-reads g c).In_ok-members) refl (rw c.region_name.ensures refl)

@@ -1,16 +1,14 @@
-use Rattle.std.proofs.Common.{◌<◌, ◌++◌, ◌∷◌, [], ℕ, List, map, refl, ap, subst, ◌∙◌, arith, sym}
-use Rattle.std.proofs.lemmas.List.{map-append, flat_map_more, drop_all}
+use Rattle.std.proofs.Common.{◌<◌, ◌++◌, ◌∷◌, [], List, refl, ap, subst, ◌∙◌, arith, sym}
+use Rattle.std.proofs.lemmas.List.{flat_map_more, drop_all}
 use Rattle.std.proofs.lemmas.List.Elements.{All-append, All-nil, All-weaker}
 use Rattle.std.proofs.lemmas.Result.{err_from_is_err_and}
 use Rattle.omi_handle.specs.declared.handle.Kind.TheVariants.{Region}
-use Rattle.omi_model.specs.declared.id.Id.{Id}
-use Rattle.omi_rep.specs.LookView.{look_regions}
 use Rattle.omi_walk.specs.declared.met.Met.{Met}
 use Rattle.omi_walk.specs.Objects.{IsMet}
 use Rattle.omi_walk.proofs.FoundLooks.{found_after}
-use Rattle.omi_walk.proofs.FoundTasks.{next_thread, no_thread, found_at}
-use Rattle.omi_walk.proofs.Steps.{leaves_same, EachSoFar, each_begins, each_next, each_stops, each_ends, leaves_then, look_unsaid, met_after}
-use Rattle.std.specs.Prelude.{Ok, Err}
+use Rattle.omi_walk.proofs.FoundTasks.{found_at}
+use Rattle.omi_walk.proofs.Steps.{leaves_same, leaves_then, met_after}
+use Rattle.std.specs.Prelude.{Err}
 use Rattle.omi_walk.specs.declared.found.Found.{Found}
 use Rattle.omi_walk.specs.declared.fault.WalkFault.TheVariants.{OutOfMemory}
 use Rattle.omi_walk.specs.Index.{HasFirst, AreSmall}

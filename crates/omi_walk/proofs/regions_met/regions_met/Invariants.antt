@@ -1,13 +1,10 @@
-use Rattle.std.proofs.Common.{◌≡◌, ◌≤◌, ◌*◌, List, length, map, drop}
+use Rattle.std.proofs.Common.{◌≡◌, ◌≤◌, ◌*◌, List, length, drop}
 use Rattle.std.specs.List.{All, flat_map}
 use Rattle.omi_handle.specs.declared.handle.Kind.TheVariants.{Region}
-use Rattle.omi_model.specs.declared.id.Id.{Id}
-use Rattle.omi_rep.specs.LookView.{look_regions}
 use Rattle.omi_walk.specs.declared.met.Met.{Met}
 use Rattle.omi_walk.specs.Index.{HasFirst, AreSmall}
 use Rattle.omi_walk.specs.Leaves.{Leaves}
 use Rattle.omi_walk.specs.Objects.{IsMet}
-use Rattle.omi_walk.proofs.Steps.{EachSoFar}
 use Rattle.omi_walk.specs.AskRegions.{ask_regions}
 use Rattle.omi_walk.proofs.EachAsked.{EachGoes}
 use Rattle.omi_walk.proofs.regions_met.regions_met.Given as goal

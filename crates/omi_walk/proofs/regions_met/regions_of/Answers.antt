@@ -1,11 +1,4 @@
 use Rattle.std.proofs.Common.{Ok, subst, [], None, Some, ap, sym}
-use Rattle.std.proofs.lemmas.Result.{err_from_is_err_and}
-use Rattle.omi_rep.specs.LookView.{look_current}
-use Rattle.omi_walk.specs.Chains.{names_of}
-use Rattle.omi_walk.specs.Gives.{Looks}
-use Rattle.omi_walk.specs.Objects.{name_in}
-use Rattle.omi_walk.proofs.FoundRegions.{region_at, regions_at, no_regions, regions_from}
-use Rattle.omi_walk.proofs.Steps.{look_stops, look_then}
 use Rattle.omi_walk.specs.Walks.{Walks}
 use Rattle.omi_walk.specs.AskRegions.{ask_region_of, ask_outwards, ask_regions_of}
 use Rattle.omi_walk.proofs.Goes.{goes_begin, goes_on, goes_stop, goes_last, goes_end}

@@ -1,18 +1,13 @@
 -- The tasks of a thread are asked about one after the other, each by the link of the one before.
-use Rattle.std.proofs.Common.{append_assoc, append-nil, ◌≡◌, ◌∷◌, ◌++◌, List, [], ℕ, ◌-◌, ◌+◌, suc, refl, sym, ap, subst, ◌∙◌, arith, Bool, Option, Some, None, ◌≤◌, length}
+use Rattle.std.proofs.Common.{append_assoc, append-nil, ◌≡◌, ◌∷◌, ◌++◌, List, [], ℕ, ◌-◌, ◌+◌, suc, refl, sym, ap, ◌∙◌, arith, Bool, Option, Some, ◌≤◌, length}
 use Rattle.std.proofs.lemmas.List.{length-append, length_push}
 use Rattle.std.proofs.lemmas.List.Elements.{All-nil, All-push}
 use Rattle.std.specs.Ordering.{nat_cmp}
 use Rattle.std.specs.BTreeSet.{contains}
 use Rattle.std.proofs.lemmas.Result.{err_from_is_err_and}
-use Rattle.omi_handle.specs.declared.handle.Kind.TheVariants.{Task}
 use Rattle.omi_layout.specs.Field.{tasks}
 use Rattle.omi_layout.specs.Table.{records}
-use Rattle.omi_rep.specs.Look.{was_met}
-use Rattle.omi_walk.specs.Objects.{name_in}
-use Rattle.omi_walk.proofs.Chained.{met_more, met_in_address, goes_on}
-use Rattle.omi_walk.proofs.Steps.{leaves_same, leaves_then, look_unsaid}
-use Rattle.omi_walk.proofs.TaskChained.{TasksSoFar, tasks_begin, tasks_next, tasks_stop, tasks_end, tasks_cycle, now_met}
+use Rattle.omi_walk.proofs.Steps.{leaves_same, leaves_then}
 use Rattle.std.specs.Prelude.{Ok, Err}
 use Rattle.omi_calls.specs.Told.{Told}
 use Rattle.omi_session.specs.Opened.{Opened}

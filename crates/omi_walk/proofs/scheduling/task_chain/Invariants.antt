@@ -8,8 +8,7 @@ use Rattle.omi_layout.specs.Table.{records}
 use Rattle.omi_model.specs.declared.view.TaskRow.{TaskRow}
 use Rattle.omi_walk.specs.Kept.{IsLive}
 use Rattle.omi_walk.specs.Leaves.{Leaves}
-use Rattle.omi_walk.specs.Objects.{IsMet, name_in}
-use Rattle.omi_walk.proofs.TaskChained.{TasksSoFar}
+use Rattle.omi_walk.specs.Objects.{IsMet}
 use Rattle.omi_walk.specs.AskTasks.{ask_chained}
 use Rattle.omi_walk.proofs.ChainAsked.{ChainGoes}
 use Rattle.omi_walk.proofs.scheduling.task_chain.Given as goal

@@ -1,8 +1,4 @@
-use Rattle.std.proofs.lemmas.Result.{IfOk-weaker}
-use Rattle.omi_walk.specs.Kept.{Keeps}
-use Rattle.omi_walk.proofs.HandlesMade.{keeps_before}
 use Rattle.omi_walk.proofs.KeptLooks.{looks_kept, looks_refused, walks_kept, walks_refused, lives_kept}
-use Rattle.omi_walk.proofs.Steps.{stays_then}
 use Rattle.omi_walk.proofs.task_handles.kept.Goals as goal
 
 pub returns-in_err-view-clause-look : goal.returns-in_err-view-clause-look

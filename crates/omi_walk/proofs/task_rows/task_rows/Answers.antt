@@ -1,13 +1,10 @@
-use Rattle.std.proofs.Common.{◌++◌, ◌∷◌, [], ℕ, List, length, map, Err, refl, subst, sym, ap, ◌∙◌, arith}
+use Rattle.std.proofs.Common.{◌++◌, ◌∷◌, [], List, length, Err, refl, subst, sym, ap, ◌∙◌, arith}
 use Rattle.std.proofs.lemmas.List.{flat_map_more, drop_all}
 use Rattle.std.proofs.lemmas.List.Elements.{All-nil}
-use Rattle.std.proofs.lemmas.Result.{err_from_is_err_and}
 use Rattle.omi_model.specs.declared.view.TaskRow.{TaskRow}
-use Rattle.omi_rep.specs.Look.{each}
-use Rattle.omi_rep.specs.LookView.{look_tasks}
-use Rattle.omi_walk.proofs.FoundTasks.{next_thread, no_thread, found_at, current_after}
-use Rattle.omi_walk.proofs.Steps.{leaves_same, EachSoFar, each_begins, each_next, each_stops, leaves_then, look_stops}
-use Rattle.std.specs.Prelude.{All, Ok}
+use Rattle.omi_walk.proofs.FoundTasks.{found_at, current_after}
+use Rattle.omi_walk.proofs.Steps.{leaves_same, leaves_then}
+use Rattle.std.specs.Prelude.{All}
 use Rattle.std.specs.List.{flat_map}
 use Rattle.omi_walk.specs.declared.found.Found.{Found}
 use Rattle.omi_walk.specs.Kept.{IsLive}

@@ -1,11 +1,9 @@
-use Rattle.std.proofs.Common.{◌≡◌, ◌≤◌, ◌*◌, List, length, map, drop}
+use Rattle.std.proofs.Common.{◌≡◌, ◌≤◌, ◌*◌, List, length, drop}
 use Rattle.std.specs.List.{flat_map}
 use Rattle.std.specs.Prelude.{All}
 use Rattle.omi_model.specs.declared.view.TaskRow.{TaskRow}
-use Rattle.omi_rep.specs.LookView.{look_tasks}
 use Rattle.omi_walk.specs.Kept.{IsLive}
 use Rattle.omi_walk.specs.Leaves.{Leaves}
-use Rattle.omi_walk.proofs.Steps.{EachSoFar}
 use Rattle.omi_walk.specs.AskTasks.{ask_tasks}
 use Rattle.omi_walk.proofs.EachAsked.{EachGoes}
 use Rattle.omi_walk.proofs.task_rows.task_rows.Given as goal

@@ -41,6 +41,11 @@ module _ (g : Over) where
   asked_final_task c =
       left_on (λ w k. ask_task_variable w FINAL_TASK_VAR k) (task_pair c.args.k) _ (asked_device (goal.at.In_ok-final_task g c).In_ok-device) refl c.task_variable-4.ensures.leaves c.in_ok-final_task.ensures.reads
 
+pub returns-clause-reads : goal.returns-clause-reads
+unfolding ask_environment
+returns-clause-reads g c =
+    left_end (asked_final_task g (goal.at.returns-clause-reads g c).In_ok-final_task) refl refl
+
 pub returns-in_err-dyn_var-clause-reads : goal.returns-in_err-dyn_var-clause-reads
 unfolding ask_environment
 returns-in_err-dyn_var-clause-reads g c =
@@ -65,8 +70,3 @@ pub returns-in_err-final_task-clause-reads : goal.returns-in_err-final_task-clau
 unfolding ask_environment
 returns-in_err-final_task-clause-reads g c =
     left_stop (λ w k. ask_task_variable w FINAL_TASK_VAR k) (task_pair c.args.k) _ (asked_device g (goal.at.returns-in_err-final_task-clause-reads g c).In_ok-device) refl c.in_err-final_task.ensures.reads c.from_residual-in_err-final_task.ensures.1
-
-pub returns-clause-reads : goal.returns-clause-reads
-unfolding ask_environment
-returns-clause-reads g c =
-    left_end (asked_final_task g (goal.at.returns-clause-reads g c).In_ok-final_task) refl refl

@@ -36,6 +36,11 @@ module _ (g : Over) where
   asked_environment c =
       left_on (λ w k. ask_environment w k) (task_pair c.args.k) _ (asked_tool (goal.at.In_ok-environment g c).In_ok-tool) refl c.environment_of.ensures.leaves c.in_ok-environment.ensures.reads
 
+pub returns-clause-reads : goal.returns-clause-reads
+unfolding ask_link
+returns-clause-reads g c =
+    left_end (asked_environment g (goal.at.returns-clause-reads g c).In_ok-environment) refl refl
+
 pub returns-in_err-seen-clause-reads : goal.returns-in_err-seen-clause-reads
 unfolding ask_link
 returns-in_err-seen-clause-reads g c =
@@ -55,8 +60,3 @@ pub returns-in_err-environment-clause-reads : goal.returns-in_err-environment-cl
 unfolding ask_link
 returns-in_err-environment-clause-reads g c =
     left_stop (λ w k. ask_environment w k) (task_pair c.args.k) _ (asked_tool g (goal.at.returns-in_err-environment-clause-reads g c).In_ok-tool) refl c.in_err-environment.ensures.reads c.from_residual-in_err-environment.ensures.1
-
-pub returns-clause-reads : goal.returns-clause-reads
-unfolding ask_link
-returns-clause-reads g c =
-    left_end (asked_environment g (goal.at.returns-clause-reads g c).In_ok-environment) refl refl

@@ -1,11 +1,5 @@
 use Rattle.std.specs.Ordering.{nat_cmp}
 use Rattle.std.specs.BTreeSet.{contains}
-use Rattle.std.proofs.lemmas.Result.{err_from_is_err_and}
-use Rattle.omi_handle.specs.declared.handle.Kind.TheVariants.{Task}
-use Rattle.omi_layout.specs.Field.{tasks}
-use Rattle.omi_walk.specs.Gives.{Looks}
-use Rattle.omi_walk.proofs.Chained.{onward_gives, met_in_address}
-use Rattle.omi_walk.proofs.Steps.{look_stops}
 use Rattle.std.specs.FinMap.{get}
 use Rattle.omi_session.specs.Made.{task_pair}
 use Rattle.omi_walk.specs.Chains.{unmet}

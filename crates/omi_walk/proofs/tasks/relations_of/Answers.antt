@@ -44,6 +44,11 @@ module _ (g : Over) where
   asked_next c =
       left_on (λ w k. ask_next w (contains nat_cmp c.args.met.now) k) (task_pair c.args.k) _ (asked_generating (goal.at.In_ok-next g c).In_ok-generating) refl c.next_of.ensures.leaves c.in_ok-next.ensures.reads
 
+pub returns-clause-reads : goal.returns-clause-reads
+unfolding ask_relations
+returns-clause-reads g c =
+    left_end (asked_next g (goal.at.returns-clause-reads g c).In_ok-next) refl (rw (c.task_name.ensures, c.task_name-2.ensures) refl)
+
 pub returns-in_err-implicit-clause-reads : goal.returns-in_err-implicit-clause-reads
 unfolding ask_relations
 returns-in_err-implicit-clause-reads g c =
@@ -68,8 +73,3 @@ pub returns-in_err-next-clause-reads : goal.returns-in_err-next-clause-reads
 unfolding ask_relations
 returns-in_err-next-clause-reads g c =
     left_stop (λ w k. ask_next w (contains nat_cmp c.args.met.now) k) (task_pair c.args.k) _ (asked_generating g (goal.at.returns-in_err-next-clause-reads g c).In_ok-generating) refl c.in_err-next.ensures.reads c.from_residual-in_err-next.ensures.1
-
-pub returns-clause-reads : goal.returns-clause-reads
-unfolding ask_relations
-returns-clause-reads g c =
-    left_end (asked_next g (goal.at.returns-clause-reads g c).In_ok-next) refl (rw (c.task_name.ensures, c.task_name-2.ensures) refl)

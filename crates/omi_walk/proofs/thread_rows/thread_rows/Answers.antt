@@ -1,10 +1,8 @@
 use Rattle.std.proofs.Common.{◌≡◌, ℕ, List, refl, subst, sym, arith, ◌++◌, ◌∷◌, [], ◌∙◌, ap}
 use Rattle.std.proofs.Math.ListN.{drop_of_length-le}
 use Rattle.std.proofs.lemmas.List.Elements.{All-nil}
-use Rattle.std.proofs.lemmas.Result.{err_from_is_err_and}
-use Rattle.omi_rep.specs.LookView.{look_thread}
 use Rattle.omi_walk.proofs.FoundLooks.{found_few, found_all, next_left}
-use Rattle.omi_walk.proofs.Steps.{leaves_same, EachSoFar, each_begins, each_next, each_stops, each_ends, leaves_then, look_unsaid}
+use Rattle.omi_walk.proofs.Steps.{leaves_same, leaves_then}
 use Rattle.std.proofs.lemmas.List.{map-append, flat_map_more}
 use Rattle.std.specs.Prelude.{Result, Ok, Err, IsErrAnd}
 use Rattle.omi_walk.specs.declared.threads.SeenThread.{SeenThread}

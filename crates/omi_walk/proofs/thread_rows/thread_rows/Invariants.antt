@@ -1,10 +1,7 @@
-use Rattle.std.proofs.Common.{◌≡◌, ◌≤◌, ◌*◌, ℕ, List, drop, length, map}
+use Rattle.std.proofs.Common.{◌≡◌, ◌≤◌, ◌*◌, List, drop, length, map}
 use Rattle.std.specs.List.{All, flat_map}
-use Rattle.omi_word.specs.Words.{Words}
-use Rattle.omi_rep.specs.LookView.{look_thread, found_threads}
 use Rattle.omi_walk.specs.FoundThreads.{IsFound}
 use Rattle.omi_walk.specs.Leaves.{Leaves}
-use Rattle.omi_walk.proofs.Steps.{EachSoFar}
 use Rattle.omi_walk.specs.declared.threads.SeenThread.{SeenThread}
 use Rattle.omi_walk.specs.SeenThreads.{found_in}
 use Rattle.omi_walk.specs.AskThreads.{ask_thread}

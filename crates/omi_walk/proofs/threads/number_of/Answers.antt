@@ -1,8 +1,6 @@
 use Rattle.std.proofs.Common.{refl, Some, ap, ◌∙◌}
 use Rattle.std.specs.FinMap.{get}
 use Rattle.omi_session.specs.Made.{thread_pair}
-use Rattle.omi_walk.specs.Gives.{Looks}
-use Rattle.omi_walk.proofs.ThreadLooks.{number_looked, maybe_ok, absent_maybe}
 use Rattle.std.specs.Prelude.{Ok, Err}
 use Rattle.omi_handle.specs.Ledger.{Ledger}
 use Rattle.omi_walk.proofs.Goes.{of_answers}

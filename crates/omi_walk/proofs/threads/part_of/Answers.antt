@@ -27,6 +27,11 @@ module _ (g : Over) where
   asked_number c =
       left_on (λ w k. ask_number w k) (thread_pair c.args.t) _ (asked_current (goal.at.In_ok-number g c).In_ok-current) refl c.number_of.ensures.leaves c.in_ok-number.ensures.reads
 
+pub returns-clause-reads : goal.returns-clause-reads
+unfolding ask_part
+returns-clause-reads g c =
+    left_end (asked_number g (goal.at.returns-clause-reads g c).In_ok-number) refl (rw c.task_name.ensures refl)
+
 pub returns-in_err-state-clause-reads : goal.returns-in_err-state-clause-reads
 unfolding ask_part
 returns-in_err-state-clause-reads g c =
@@ -41,8 +46,3 @@ pub returns-in_err-number-clause-reads : goal.returns-in_err-number-clause-reads
 unfolding ask_part
 returns-in_err-number-clause-reads g c =
     left_stop (λ w k. ask_number w k) (thread_pair c.args.t) _ (asked_current g (goal.at.returns-in_err-number-clause-reads g c).In_ok-current) refl c.in_err-number.ensures.reads c.from_residual-in_err-number.ensures.1
-
-pub returns-clause-reads : goal.returns-clause-reads
-unfolding ask_part
-returns-clause-reads g c =
-    left_end (asked_number g (goal.at.returns-clause-reads g c).In_ok-number) refl (rw c.task_name.ensures refl)

@@ -1,7 +1,5 @@
 use Rattle.std.specs.FinMap.{get}
 use Rattle.omi_session.specs.Made.{thread_pair}
-use Rattle.omi_walk.specs.Gives.{Looks}
-use Rattle.omi_walk.proofs.ThreadLooks.{state_looked, maybe_ok, untracked_maybe}
 use Rattle.std.proofs.Common.{Some, refl, ap, ◌∙◌}
 use Rattle.std.specs.Prelude.{Ok, Err}
 use Rattle.omi_handle.specs.Ledger.{Ledger}

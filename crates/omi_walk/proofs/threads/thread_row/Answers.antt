@@ -1,16 +1,8 @@
 use Rattle.std.proofs.Common.{Some, None, refl, subst, arith}
-use Rattle.std.specs.List.{range_with_len}
-use Rattle.std.specs.Prelude.{Ok, IfSome}
-use Rattle.std.proofs.lemmas.Result.{err_from_is_err_and}
-use Rattle.omi_layout.specs.Table.{thread_count}
-use Rattle.omi_rep.specs.LookView.{look_for}
-use Rattle.omi_walk.specs.Gives.{Looks}
-use Rattle.omi_walk.specs.Objects.{IsMet}
-use Rattle.omi_walk.specs.Threads.{number_met}
+use Rattle.std.specs.Prelude.{Ok}
 use Rattle.omi_walk.proofs.Lent.{lent_leaves}
-use Rattle.omi_walk.proofs.Steps.{look_then, look_stops, look_is, look_unsaid, looks_before, stays_then, leaves_then}
+use Rattle.omi_walk.proofs.Steps.{leaves_then}
 use Rattle.omi_walk.specs.declared.threads.SeenPart.{SeenPart}
-use Rattle.omi_walk.specs.declared.threads.SeenThread.{SeenThread}
 use Rattle.omi_walk.specs.Walks.{Walks}
 use Rattle.omi_walk.specs.Asking.{with_answer}
 use Rattle.omi_walk.specs.AskThreads.{ask_thread_with, ask_part, ask_found, ask_thread}

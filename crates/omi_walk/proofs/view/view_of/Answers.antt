@@ -57,6 +57,11 @@ module _ (g : Over) where
   asked_tasks c =
       left_on (λ w k. ask_all_tasks w c.in_ok-rows.field-0.found) (0, 0) _ (asked_regions (goal.at.In_ok-tasks g c).In_ok-regions) refl c.task_rows.ensures.leaves c.in_ok-tasks.ensures.reads
 
+pub returns-clause-reads : goal.returns-clause-reads
+unfolding ask_view
+returns-clause-reads g c =
+    left_end (asked_tasks g (goal.at.returns-clause-reads g c).In_ok-tasks) refl refl
+
 pub returns-in_err-head-clause-reads : goal.returns-in_err-head-clause-reads
 unfolding ask_view
 returns-in_err-head-clause-reads g c =
@@ -81,11 +86,6 @@ pub returns-in_err-tasks-clause-reads : goal.returns-in_err-tasks-clause-reads
 unfolding ask_view
 returns-in_err-tasks-clause-reads g c =
     left_stop (λ w k. ask_all_tasks w c.in_ok-rows.field-0.found) (0, 0) _ (asked_regions g (goal.at.returns-in_err-tasks-clause-reads g c).In_ok-regions) refl c.in_err-tasks.ensures.reads c.from_residual-in_err-tasks.ensures.1
-
-pub returns-clause-reads : goal.returns-clause-reads
-unfolding ask_view
-returns-clause-reads g c =
-    left_end (asked_tasks g (goal.at.returns-clause-reads g c).In_ok-tasks) refl refl
 
 -- look: the answer of these reads is that of the look
 

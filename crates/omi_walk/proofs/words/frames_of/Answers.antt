@@ -2,9 +2,6 @@ use Rattle.std.proofs.Common.{ap, refl, ◌∙◌}
 use Rattle.std.specs.Prelude.{Ok, Err}
 use Rattle.std.specs.FinMap.{get}
 use Rattle.omi_session.specs.Made.{task_pair}
-use Rattle.omi_walk.specs.Gives.{Looks}
-use Rattle.omi_walk.proofs.Looked.{value_gives}
-use Rattle.omi_walk.proofs.WordLooks.{as_places, frames_looked}
 use Rattle.omi_handle.specs.Ledger.{Ledger}
 use Rattle.omi_asktask.specs.declared.words.Frames.{Frames}
 use Rattle.omi_asktask.specs.TaskWords.{frames}

@@ -1,10 +1,6 @@
 use Rattle.std.specs.FinMap.{get}
-use Rattle.omi_handle.specs.declared.handle.Kind.TheVariants.{Task}
-use Rattle.omi_layout.specs.declared.field.Field.TheVariants.{TaskFunction}
 use Rattle.omi_session.specs.Made.{task_pair}
 use Rattle.omi_asktask.specs.TaskWords.{function}
-use Rattle.omi_walk.proofs.Looked.{word_looked}
-use Rattle.omi_walk.proofs.WordLooks.{value_looks}
 use Rattle.std.proofs.Common.{refl, ap, ◌∙◌}
 use Rattle.omi_handle.specs.Ledger.{Ledger}
 use Rattle.omi_walk.specs.Fault.{walked}

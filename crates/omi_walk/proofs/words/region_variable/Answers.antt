@@ -1,7 +1,6 @@
 use Rattle.std.specs.FinMap.{get}
 use Rattle.omi_icv.specs.declared.scoped.Scoped.TheVariants as scoped
 use Rattle.omi_icv.specs.Icvs.{icv_from_scope}
-use Rattle.omi_walk.proofs.WordLooks.{value_looks, region_variable_looked}
 use Rattle.std.proofs.Common.{refl, ap, ◌∙◌}
 use Rattle.omi_handle.specs.Ledger.{Ledger}
 use Rattle.omi_session.specs.Made.{region_pair}
@@ -15,11 +14,8 @@ use Rattle.omi_walk.proofs.words.region_variable.Goals as goal
 pub returns-clause-reads : goal.returns-clause-reads
 unfolding ask_region_variable icv_from_scope
 returns-clause-reads g c =
-    let told = g.C.Callbacks.told in
-    let asked = g.C.Callbacks.asked in
     let s = c.args.s.now in
     let pair = region_pair c.args.r in
-    of_answers told asked s _ c.get_icv_from_scope-answer.result _ (walked (get s.handles.held pair))
-    (icv_from_scope s.layout (get s.handles.held) (scoped.Parallel c.args.r) c.args.icv)
-    refl
+    of_answers g.C.Callbacks.told g.C.Callbacks.asked s _ c.get_icv_from_scope-answer.result _ (walked (get s.handles.held pair))
+    (icv_from_scope s.layout (get s.handles.held) (scoped.Parallel c.args.r) c.args.icv) refl
     (c.walked.ensures ∙ ap (λ (l : Ledger). walked (get l.held pair) c.get_icv_from_scope-answer.result) c.get_icv_from_scope-answer.ensures.same.handles) c.get_icv_from_scope-answer.ensures.answer

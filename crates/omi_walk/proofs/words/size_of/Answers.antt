@@ -2,7 +2,6 @@ use Rattle.std.specs.FinMap.{get}
 use Rattle.omi_icv.specs.declared.scoped.Scoped.TheVariants as scoped
 use Rattle.omi_icv.specs.Icvs.{icv_from_scope}
 use Rattle.std.proofs.Common.{refl, ap, ◌∙◌}
-use Rattle.omi_walk.proofs.WordLooks.{value_looks, region_size_looked}
 use Rattle.omi_handle.specs.Ledger.{Ledger}
 use Rattle.omi_session.specs.Made.{region_pair}
 use Rattle.omi_walk.specs.Fault.{walked}

@@ -1,7 +1,6 @@
 use Rattle.std.specs.FinMap.{get}
 use Rattle.omi_icv.specs.declared.scoped.Scoped.TheVariants as scoped
 use Rattle.omi_icv.specs.Icvs.{icv_from_scope}
-use Rattle.omi_walk.proofs.WordLooks.{value_looks, space_variable_looked}
 use Rattle.std.proofs.Common.{None, refl}
 use Rattle.omi_walk.specs.Fault.{walked}
 use Rattle.omi_walk.proofs.Goes.{of_answers}

@@ -1,7 +1,6 @@
 use Rattle.std.specs.FinMap.{get}
 use Rattle.omi_icv.specs.declared.scoped.Scoped.TheVariants as scoped
 use Rattle.omi_icv.specs.StateWords.{tool_data}
-use Rattle.omi_walk.proofs.WordLooks.{value_looks, tool_looked}
 use Rattle.std.proofs.Common.{refl, ap, ◌∙◌}
 use Rattle.omi_handle.specs.Ledger.{Ledger}
 use Rattle.omi_session.specs.Made.{task_pair}
