@@ -7,17 +7,11 @@ use Rattle.omi_ask.proofs.ids.region_id.Goals as goal
 
 pub returns-in_err-name-clause-shown : goal.returns-in_err-name-clause-shown
 returns-in_err-name-clause-shown g c = λ s shown r.
-    let clash =
-    name_told c.args.s.now.layout shown.valid Region r.name.0
-    (region_slot c.args.s.now.layout shown.memory shown.valid s shown.shows r.name r.seen) _ r.is
-    (Err c.in_err-name.field-0.0) c.in_err-name.ensures in
+    let clash = name_told c.args.s.now.layout shown.valid Region r.name.0 (region_slot c.args.s.now.layout shown.memory shown.valid s shown.shows r.name r.seen) _ r.is (Err c.in_err-name.field-0.0) c.in_err-name.ensures in
     absurd (cc clash)
 
 pub returns-clause-shown : goal.returns-clause-shown
 returns-clause-shown g c = λ s shown r.
-    let same =
-    name_told c.args.s.now.layout shown.valid Region r.name.0
-    (region_slot c.args.s.now.layout shown.memory shown.valid s shown.shows r.name r.seen) _ r.is
-    (Ok c.in_ok-name.field-0) c.in_ok-name.ensures in
+    let same = name_told c.args.s.now.layout shown.valid Region r.name.0 (region_slot c.args.s.now.layout shown.memory shown.valid s shown.shows r.name r.seen) _ r.is (Ok c.in_ok-name.field-0) c.in_ok-name.ensures in
     let is : c.in_ok-name.field-0 ≡ r.name.0 = cc same in
     λ i. Ok (record { 0 = is i })

@@ -7,17 +7,11 @@ use Rattle.omi_asktask.proofs.ids.task_id.Goals as goal
 
 pub returns-in_err-name-clause-shown : goal.returns-in_err-name-clause-shown
 returns-in_err-name-clause-shown g c = λ s shown t.
-    let clash =
-    name_told c.args.s.now.layout shown.valid Task t.name.0
-    (task_slot c.args.s.now.layout shown.memory shown.valid s shown.shows t.name t.seen) _ t.is
-    (Err c.in_err-name.field-0.0) c.in_err-name.ensures in
+    let clash = name_told c.args.s.now.layout shown.valid Task t.name.0 (task_slot c.args.s.now.layout shown.memory shown.valid s shown.shows t.name t.seen) _ t.is (Err c.in_err-name.field-0.0) c.in_err-name.ensures in
     absurd (cc clash)
 
 pub returns-clause-shown : goal.returns-clause-shown
 returns-clause-shown g c = λ s shown t.
-    let same =
-    name_told c.args.s.now.layout shown.valid Task t.name.0
-    (task_slot c.args.s.now.layout shown.memory shown.valid s shown.shows t.name t.seen) _ t.is
-    (Ok c.in_ok-name.field-0) c.in_ok-name.ensures in
+    let same = name_told c.args.s.now.layout shown.valid Task t.name.0 (task_slot c.args.s.now.layout shown.memory shown.valid s shown.shows t.name t.seen) _ t.is (Ok c.in_ok-name.field-0) c.in_ok-name.ensures in
     let is : c.in_ok-name.field-0 ≡ t.name.0 = cc same in
     λ i. Ok (record { 0 = is i })
