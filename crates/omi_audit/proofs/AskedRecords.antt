@@ -16,10 +16,10 @@ use Rattle.omi_audit.specs.declared.judging.Found.{Found}
 use Rattle.omi_audit.specs.declared.search.Search.{Search}
 use Rattle.omi_audit.specs.Search.{Place, places_of, elements_of, named_at, thread_places}
 use Rattle.omi_audit.specs.Verdicts.{refused_at}
-use Rattle.omi_audit.specs.Judged.{OverKept, Asks, IsFine, IsFound, IsJudged, has_begun, place_at, refused_among}
+use Rattle.omi_audit.specs.Judged.{OverKept, Asks, all_places, IsFine, IsFound, IsJudged, has_begun, place_at, refused_among}
 use Rattle.omi_audit.proofs.Asking.{asks_front, asks_on, asks_then}
 use Rattle.omi_audit.proofs.JudgedPlaces.{AreFine, named_next}
-use Rattle.omi_audit.proofs.JudgedRecords.{knows_then, all_places, begun_places, both_fine, first_places, one_fine, places_by}
+use Rattle.omi_audit.proofs.JudgedRecords.{knows_then, begun_places, both_fine, first_places, one_fine, places_by}
 use Rattle.omi_audit.proofs.NamedWords.{still_knows_named}
 
 -- places of places

@@ -21,7 +21,7 @@ use Rattle.omi_audit.specs.declared.stop.Stop.{Stop}
 use Rattle.omi_audit.specs.Found.{count_with}
 use Rattle.omi_audit.specs.Search.{Place, places_of, elements_of, word_at, number_in, named_at, is_region, thread_places, region_places, task_places, record_places}
 use Rattle.omi_audit.specs.Verdicts.{refused_at, chain_field}
-use Rattle.omi_audit.specs.Judged.{OverKept, place_at, said_by, has_begun, lives, refused_among, refused_thread, refused_record, named_by_thread, Grows, Knows, Meets, MeetsNamed, Judges, IsFine, IsFirst, IsFound, IsJudged, IsLinked, IsThread, AreThreads, IsRecord}
+use Rattle.omi_audit.specs.Judged.{OverKept, all_places, place_at, said_by, has_begun, lives, refused_among, refused_thread, refused_record, named_by_thread, Grows, Knows, Meets, MeetsNamed, Judges, IsFine, IsFirst, IsFound, IsJudged, IsLinked, IsThread, AreThreads, IsRecord}
 use Rattle.omi_audit.proofs.FirstOnes.{has, or_cases, has_with_all, with_all_then}
 use Rattle.omi_audit.proofs.Reaches.{each_named, places_live}
 use Rattle.omi_audit.proofs.Rounds.{take_one}
@@ -69,12 +69,9 @@ module _ (w : List ℕ) (words : Words) (i : ℕ) where
 
 -- the fields of a record, and the elements behind them
 module _ (w : List ℕ) (words : Words) (address : ℕ) (fields : List Field) (last : Field) where
-  abbrev pub all_places : List Place
-  all_places = places_of address fields ++ elements_of address last (said_by w words count_with address fields)
-
   pub whole_fine : (a b c : Search) (found : Found)
       → IsFine (refused_among w words 0 (places_of address fields)) (IsFound w words address fields a b found)
-      → AreFine w words 0 (elements_of address last found.count) b c → AreFine w words 0 all_places a c
+      → AreFine w words 0 (elements_of address last found.count) b c → AreFine w words 0 (all_places w words address fields last) a c
   whole_fine a b c found front behind =
       fine_then w words 0 (places_of address fields) (elements_of address last (said_by w words count_with address fields)) a b c
       (record { none = front.none; known = front.known.meets })
@@ -83,7 +80,7 @@ module _ (w : List ℕ) (words : Words) (address : ℕ) (fields : List Field) (l
   pub whole_stops : (a b : Search) (found : Found) (stop : Stop)
       → IsFine (refused_among w words 0 (places_of address fields)) (IsFound w words address fields a b found)
       → IsFirst (refused_among w words 0 (elements_of address last found.count)) stop
-      → IsFirst (refused_among w words 0 all_places) stop
+      → IsFirst (refused_among w words 0 (all_places w words address fields last)) stop
   whole_stops a b found stop front behind =
       stops_then w words 0 (places_of address fields) (elements_of address last (said_by w words count_with address fields)) stop front.none
       (subst (λ n. IsFirst (refused_among w words 0 (elements_of address last n)) stop) front.known.count behind)

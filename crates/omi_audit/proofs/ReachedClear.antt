@@ -75,6 +75,28 @@ module _ (w : List ℕ) (words : Words) (valid : IsValid w) (p : Program) (event
   count : s.count ≡ thread_count w
   count = shows.within.count
 
+  -- ---- chains
+
+  -- a chain of records ends where that of what they stand for does
+  module _ {N : Type 0} (Seen : N → Type 0) (address : N → ℕ) (step : N → Option N) (onward : (n : N) → Seen n → Option N)
+      (leads : (n : N) (seen : Seen n) → step n ≡ onward n seen)
+      (each : (n : N) (seen : Seen n) (q : N) → onward n seen ≡ Some q → Seen q)
+      (next : (n : N) (seen : Seen n) → next_in_chain w words (address n) ≡ option_map address (onward n seen)) where
+    chain_ends : (m : ℕ) (n : N) (seen : Seen n) → along step m (onward n seen) ≡ None
+        → (d : ℕ) × EndsIn w words d (address n)
+    chain_ends zero n seen none = (0, next n seen ∙ ap (option_map address) none)
+    chain_ends (suc m) n seen none = go (onward n seen) refl (each n seen) (chain_ends m) (next n seen) none
+      where
+        go : (o : Option N) → onward n seen ≡ o → ((q : N) → onward n seen ≡ Some q → Seen q)
+            → ((q : N) (there : Seen q) → along step m (onward q there) ≡ None → (d : ℕ) × EndsIn w words d (address q))
+            → next_in_chain w words (address n) ≡ option_map address (onward n seen) → along step (suc m) (onward n seen) ≡ None
+            → (d : ℕ) × EndsIn w words d (address n)
+        go None e each more next ends = (0, next ∙ ap (option_map address) e)
+        go (Some q) e each more next ends =
+            let there = each q e in
+            let rest = more q there (ap (along step m) (sym (leads q there)) ∙ ap (along step (suc m)) (sym e) ∙ ends) in
+            (suc rest.0, (address q, next ∙ ap (option_map address) e, rest.1))
+
   -- ---- a visible region
 
   module _ (n : Rid) (seen : IsVisibleRegion s n) where
@@ -200,21 +222,10 @@ module _ (w : List ℕ) (words : Words) (valid : IsValid w) (p : Program) (event
 
   region_ends : (m : ℕ) (n : Rid) (seen : IsVisibleRegion s n) → along (enclosing_of s) m seen.region.enclosing ≡ None
       → (d : ℕ) × EndsIn w words d (region_address w n)
-  region_ends zero n seen none = (0, next_region n seen ∙ ap (option_map (region_address w)) none)
-  region_ends (suc m) n seen none =
-      go seen.region.enclosing refl (((formed w words valid p events s reaches_it shows).regions n seen).enclosing) (region_ends m) (next_region n seen) none
-    where
-      go : (o : Option Rid) → seen.region.enclosing ≡ o → ((q : Rid) → seen.region.enclosing ≡ Some q → IsVisibleRegion s q)
-          → ((q : Rid) (there : IsVisibleRegion s q) → along (enclosing_of s) m there.region.enclosing ≡ None → (d : ℕ) × EndsIn w words d (region_address w q))
-          → next_in_chain w words (region_address w n) ≡ option_map (region_address w) seen.region.enclosing
-          → along (enclosing_of s) (suc m) seen.region.enclosing ≡ None
-          → (d : ℕ) × EndsIn w words d (region_address w n)
-      go None e each more next ends = (0, next ∙ ap (option_map (region_address w)) e)
-      go (Some q) e each more next ends =
-          let there = each q e in
-          let rest = more q there
-          (ap (along (enclosing_of s) m) (sym (ap (option_and_then (λ r. r.enclosing)) there.live)) ∙ ap (along (enclosing_of s) (suc m)) (sym e) ∙ ends) in
-          (suc rest.0, (region_address w q, next ∙ ap (option_map (region_address w)) e, rest.1))
+  region_ends =
+      chain_ends (IsVisibleRegion s) (region_address w) (enclosing_of s) (λ n seen. seen.region.enclosing)
+      (λ n seen. ap (option_and_then (λ r. r.enclosing)) seen.live)
+      (λ n seen. ((formed w words valid p events s reaches_it shows).regions n seen).enclosing) next_region
 
   -- ---- a visible task
 
@@ -492,21 +503,10 @@ module _ (w : List ℕ) (words : Words) (valid : IsValid w) (p : Program) (event
 
   task_ends : (m : ℕ) (k : Tid) (seen : IsVisibleTask s k) → along (scheduling_of s) m seen.task.scheduling ≡ None
       → (d : ℕ) × EndsIn w words d (task_address w k)
-  task_ends zero k seen none = (0, next_task k seen ∙ ap (option_map (task_address w)) none)
-  task_ends (suc m) k seen none =
-      go seen.task.scheduling refl (((formed w words valid p events s reaches_it shows).tasks k seen).scheduling) (task_ends m) (next_task k seen) none
-    where
-      go : (o : Option Tid) → seen.task.scheduling ≡ o → ((q : Tid) → seen.task.scheduling ≡ Some q → IsVisibleTask s q)
-          → ((q : Tid) (there : IsVisibleTask s q) → along (scheduling_of s) m there.task.scheduling ≡ None → (d : ℕ) × EndsIn w words d (task_address w q))
-          → next_in_chain w words (task_address w k) ≡ option_map (task_address w) seen.task.scheduling
-          → along (scheduling_of s) (suc m) seen.task.scheduling ≡ None
-          → (d : ℕ) × EndsIn w words d (task_address w k)
-      go None e each more next ends = (0, next ∙ ap (option_map (task_address w)) e)
-      go (Some q) e each more next ends =
-          let there = each q e in
-          let rest = more q there
-          (ap (along (scheduling_of s) m) (sym (ap (option_and_then (λ t. t.scheduling)) there.live)) ∙ ap (along (scheduling_of s) (suc m)) (sym e) ∙ ends) in
-          (suc rest.0, (task_address w q, next ∙ ap (option_map (task_address w)) e, rest.1))
+  task_ends =
+      chain_ends (IsVisibleTask s) (task_address w) (scheduling_of s) (λ k seen. seen.task.scheduling)
+      (λ k seen. ap (option_and_then (λ t. t.scheduling)) seen.live)
+      (λ k seen. ((formed w words valid p events s reaches_it shows).tasks k seen).scheduling) next_task
 
   -- ---- threads
 

@@ -24,7 +24,7 @@ use Rattle.omi_audit.specs.declared.verdict.Verdict.{Verdict}
 use Rattle.omi_audit.specs.declared.verdict.Verdict.TheVariants.{Yes, No}
 use Rattle.omi_audit.specs.Clauses.{leads_to, led_to, failing}
 use Rattle.omi_audit.specs.Found.{next_with, count_with}
-use Rattle.omi_audit.specs.Search.{Place, places_of, word_at, number_in, named_at, thread_places, record_places, named_by, first_ones, current_tasks, reached}
+use Rattle.omi_audit.specs.Search.{Place, places_of, elements_of, word_at, number_in, named_at, thread_places, record_places, named_by, first_ones, current_tasks, reached}
 use Rattle.omi_audit.specs.Verdicts.{chain_field, next_in_chain, refused_at}
 
 -- ---- the first refusal
@@ -128,6 +128,11 @@ module _ (w : List ℕ) (words : Words) where
   abbrev pub said_by : (ℕ → Field → ℕ → ℕ) → ℕ → List Field → ℕ
   said_by say address fields =
       fold (λ said f. say said f (number_in w words address f)) 0 fields
+
+  -- their first words, and then as many elements of another field as they say
+  abbrev pub all_places : ℕ → List Field → Field → List Place
+  all_places address fields last =
+      places_of address fields ++ elements_of address last (said_by count_with address fields)
 
   -- what they say of what is behind them. What they name is met
   pub record IsFound (address : ℕ) (fields : List Field) (old new : Search) (found : Found) : Type 0 where

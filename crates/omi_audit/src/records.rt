@@ -4,10 +4,12 @@ ghost use Rattle.omi_session.specs.Opened.{StaysWhole};
 ghost use Rattle.omi_outside.specs.Outside.{HasCause};
 ghost use Rattle.std.specs.Prelude.{◌≡◌, ◌+◌, ◌≤◌, ◌<◌, Err, OnOk, [], length};
 ghost use Rattle.std.specs.List.{flat_map, range_with_len};
-ghost use Rattle.omi_audit.specs.Judged.{OverKept, Asks, AsksFor, Judges, KnowsThreads, MeetsNamed, IsLinked, IsThread, AreThreads, IsRecord, Starts, IsSearched, one_if_stopped, refused_among, refused_thread, refused_record};
-ghost use Rattle.omi_audit.specs.Search.{runtime_places, thread_places, region_places, value_places, group_places, task_places, record_places, reached};
+ghost use Rattle.omi_audit.specs.Judged.{OverKept, Asks, AsksFor, Judges, KnowsThreads, MeetsNamed, IsLinked, IsThread, AreThreads, IsRecord, Starts, IsSearched, all_places, one_if_stopped, refused_among, said_by, refused_thread, refused_record};
+ghost use Rattle.omi_audit.specs.Search.{number_in, runtime_places, thread_places, group_places, task_places, record_places, reached};
+ghost use Rattle.omi_audit.specs.Found.{next_with};
 ghost use Rattle.omi_audit.specs.Verdicts.{chain_field};
-ghost use Rattle.omi_layout.specs.declared.field.Field.TheVariants.{RegionEnclosing, TaskScheduling};
+ghost use Rattle.omi_layout.specs.declared.field.Field.{Field};
+ghost use Rattle.omi_layout.specs.declared.field.Field.TheVariants.{TaskScheduling};
 ghost use Rattle.omi_layout.specs.Field.{regions, tasks};
 ghost use Rattle.omi_layout.specs.Table.{thread_count, records};
 ghost use Rattle.omi_layout.specs.Valid.{IsValid};
@@ -97,51 +99,34 @@ pub fn judge_threads<C: Callbacks, F: ToHost>(
     Ok(())
 }
 
-/// Judges the record of a region, and answers the region that encloses it, or 0.
-fn judge_region<C: Callbacks, F: ToHost>(
+/// Judges the first words of these fields of a record, and then as many elements of another field as they say. Answers the next record of
+/// its chain, or 0.
+fn judge_parts<C: Callbacks, F: ToHost>(
     s: &mut Session<C, F>,
     search: &mut Search,
     addr: u64,
+    fields: &[Field],
+    elements: Field,
 ) -> Result<u64, Stop>
     requires low { addr ≤ LAST_END }
     requires begun { KnowsThreads s.old.layout search.old }
-    ensures judged { OverKept C.told s.old search.old (λ memory.
-        Judges (refused_among s.old.layout memory 0 (region_places s.old.layout memory addr))
-        (IsLinked s.old.layout memory addr RegionEnclosing
-        (region_places s.old.layout memory addr) search.old search.new) result) }
+    ensures judged { OverKept C.told s.old search.old (λ memory. (chain : Field)
+        → said_by s.old.layout memory next_with addr fields.now
+        ≡ number_in s.old.layout memory addr chain
+        → Judges (refused_among s.old.layout memory 0
+        (all_places s.old.layout memory addr fields.now elements))
+        (IsLinked s.old.layout memory addr chain
+        (all_places s.old.layout memory addr fields.now elements) search.old search.new) result) }
     ensures asks { AsksFor C.told C.asked s.old s.new search.old
-        (λ memory. region_places s.old.layout memory addr) (one_if_stopped result) }
+        (λ memory. all_places s.old.layout memory addr fields.now elements)
+        (one_if_stopped result) }
     ensures begun { search.new.begun.items ≡ search.old.begun.items }
     ensures same { StaysWhole C.told s.old s.new }
     ensures cause { HasCause (C.faults s.old.table.calls) (C.faults s.new.table.calls)
         (result ≡ Err (Stop.Fault AuditFault.Callback)) }
 {
-    let found = judge_fields(s, search, 0, addr, &REGION_FIELDS)?;
-    judge_elements(s, search, addr, Field::RegionTeam, found.count)?;
-    Ok(found.next)
-}
-
-/// Judges the values of a task, and answers the task from which it was scheduled, or 0.
-fn judge_values<C: Callbacks, F: ToHost>(
-    s: &mut Session<C, F>,
-    search: &mut Search,
-    addr: u64,
-) -> Result<u64, Stop>
-    requires low { addr ≤ LAST_END }
-    requires begun { KnowsThreads s.old.layout search.old }
-    ensures judged { OverKept C.told s.old search.old (λ memory.
-        Judges (refused_among s.old.layout memory 0 (value_places s.old.layout memory addr))
-        (IsLinked s.old.layout memory addr TaskScheduling
-        (value_places s.old.layout memory addr) search.old search.new) result) }
-    ensures asks { AsksFor C.told C.asked s.old s.new search.old
-        (λ memory. value_places s.old.layout memory addr) (one_if_stopped result) }
-    ensures begun { search.new.begun.items ≡ search.old.begun.items }
-    ensures same { StaysWhole C.told s.old s.new }
-    ensures cause { HasCause (C.faults s.old.table.calls) (C.faults s.new.table.calls)
-        (result ≡ Err (Stop.Fault AuditFault.Callback)) }
-{
-    let found = judge_fields(s, search, 0, addr, &TASK_FIELDS)?;
-    judge_elements(s, search, addr, Field::TaskNthreads, found.count)?;
+    let found = judge_fields(s, search, 0, addr, fields)?;
+    judge_elements(s, search, addr, elements, found.count)?;
     Ok(found.next)
 }
 
@@ -190,7 +175,7 @@ fn judge_task<C: Callbacks, F: ToHost>(
     ensures cause { HasCause (C.faults s.old.table.calls) (C.faults s.new.table.calls)
         (result ≡ Err (Stop.Fault AuditFault.Callback)) }
 {
-    let next = judge_values(s, search, addr)?;
+    let next = judge_parts(s, search, addr, &TASK_FIELDS, Field::TaskNthreads)?;
     judge_groups(s, search, addr)?;
     Ok(next)
 }
@@ -215,7 +200,7 @@ fn judge_either<C: Callbacks, F: ToHost>(
         (result ≡ Err (Stop.Fault AuditFault.Callback)) }
 {
     if s.layout().region_of(addr).is_some() {
-        judge_region(s, search, addr)
+        judge_parts(s, search, addr, &REGION_FIELDS, Field::RegionTeam)
     } else {
         judge_task(s, search, addr)
     }

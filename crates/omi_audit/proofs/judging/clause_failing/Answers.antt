@@ -12,8 +12,12 @@ use Rattle.omi_rep.specs.Look.{live_at}
 use Rattle.omi_session.specs.Named.{record_kind}
 use Rattle.omi_audit.specs.Clauses.{leads_to, led_to, may_be_none, clause_4, clause_5, clause_6}
 use Rattle.omi_audit.specs.Found.{counts}
-use Rattle.omi_audit.specs.Judged.{named_of}
+use Rattle.omi_audit.specs.Judged.{Knows, named_of}
 use Rattle.omi_audit.proofs.NamedWords.{pointer_passes, pointer_refused, clause_of}
+use Rattle.omi_word.specs.Words.{Words}
+use Rattle.omi_session.specs.Tells.{Tells}
+use Rattle.omi_audit.proofs.judging.clause_failing.Given.{Over}
+use Rattle.omi_audit.proofs.judging.clause_failing.Goals.{In_ok-led}
 use Rattle.omi_audit.proofs.judging.clause_failing.Goals as goal
 
 -- a size or a length that passes is small
@@ -32,23 +36,33 @@ returns-in_default-clause-few g c = λ passes counted.
     few_counted c.layout.result.now.table c.layout.result.now.valid c.args.field c.args.at c.args.word counted
     (c.failing.ensures.region none) (c.failing.ensures.task none)
 
+-- of a word of a field that points to a record, by whether it names one
+module _ (g : Over) (c : In_ok-led g) where
+  abbrev kind : ℕ
+  kind = record_kind c.in-Some.kind
+
+  leads : leads_to c.args.field c.args.at ≡ Some kind
+  leads = sym c.in-Some.ensures
+
+  passes : (memory : Words) → Tells (g.C.Callbacks.told c.args.s.now.table.calls) memory → Knows c.args.s.now.layout memory c.args.search.now
+      → clause_4 c.args.s.now.layout memory c.args.field c.args.at c.args.word ≡ ((may_be_none c.args.field && c.args.word == 0) || c.in_ok-led.led)
+  passes memory tells known =
+      clause_of c.args.s.now.layout memory 0 c.args.field c.args.at kind c.args.word leads
+      ∙ ap (λ x. (may_be_none c.args.field && c.args.word == 0) || is_some (live_at c.args.s.now.layout memory kind x)) (sym c.led_to.ensures)
+      ∙ ap (λ b. (may_be_none c.args.field && c.args.word == 0) || b) (sym (c.in_ok-led.ensures.led memory tells known).is)
+
 pub returns-then-may_stand-clause-failing : goal.returns-then-may_stand-clause-failing
 returns-then-may_stand-clause-failing g c = λ memory tells known.
     let w = c.args.s.now.layout in
-    let kind = record_kind c.in-Some.kind in
     let led = c.in_ok-led.ensures.led memory tells known in
-    let leads : leads_to c.args.field c.args.at ≡ Some kind = sym c.in-Some.ensures in
-    let holds : clause_4 w memory c.args.field c.args.at c.args.word ≡ true =
-    clause_of w memory 0 c.args.field c.args.at kind c.args.word leads
-    ∙ ap (λ x. (may_be_none c.args.field && c.args.word == 0) || is_some (live_at w memory kind x)) (sym c.led_to.ensures)
-    ∙ ap (λ b. (may_be_none c.args.field && c.args.word == 0) || b) (sym led.is)
-    ∙ sym c.may_stand.ensures ∙ c.if-may_stand.true in
+    let here = (goal.at.returns-then-may_stand-clause-failing g c).In_ok-led in
+    let holds = passes g here memory tells known ∙ sym c.may_stand.ensures ∙ c.if-may_stand.true in
     record {
-      is = sym (pointer_passes w memory c.args.thread c.args.field c.args.at kind c.args.word leads holds);
+      is = sym (pointer_passes w memory c.args.thread c.args.field c.args.at (kind g here) c.args.word (leads g here) holds);
       meets = λ _. record {
         met = led.meets.met
-            ∙ ap (λ x. insert_all nat_eq c.args.search.now.met.keys (named_of w memory kind x)) c.led_to.ensures
-            ∙ ap (λ o. insert_all nat_eq c.args.search.now.met.keys (option_map_or (λ k. named_of w memory k (led_to c.args.field c.args.word)) o [])) (sym leads);
+            ∙ ap (λ x. insert_all nat_eq c.args.search.now.met.keys (named_of w memory (kind g here) x)) c.led_to.ensures
+            ∙ ap (λ o. insert_all nat_eq c.args.search.now.met.keys (option_map_or (λ k. named_of w memory k (led_to c.args.field c.args.word)) o [])) (sym (leads g here));
         links = led.meets.links;
         begun = led.meets.begun;
       };
@@ -56,16 +70,9 @@ returns-then-may_stand-clause-failing g c = λ memory tells known.
 
 pub returns-else-may_stand-clause-failing : goal.returns-else-may_stand-clause-failing
 returns-else-may_stand-clause-failing g c = λ memory tells known.
-    let w = c.args.s.now.layout in
-    let kind = record_kind c.in-Some.kind in
-    let led = c.in_ok-led.ensures.led memory tells known in
-    let leads : leads_to c.args.field c.args.at ≡ Some kind = sym c.in-Some.ensures in
-    let fails : clause_4 w memory c.args.field c.args.at c.args.word ≡ false =
-    clause_of w memory 0 c.args.field c.args.at kind c.args.word leads
-    ∙ ap (λ x. (may_be_none c.args.field && c.args.word == 0) || is_some (live_at w memory kind x)) (sym c.led_to.ensures)
-    ∙ ap (λ b. (may_be_none c.args.field && c.args.word == 0) || b) (sym led.is)
-    ∙ sym c.may_stand.ensures ∙ c.if-may_stand.false in
+    let here = (goal.at.returns-else-may_stand-clause-failing g c).In_ok-led in
+    let fails = passes g here memory tells known ∙ sym c.may_stand.ensures ∙ c.if-may_stand.false in
     record {
-      is = ap (λ (n : ℕ). Some n) c.pointer_clause.ensures ∙ sym (pointer_refused w memory c.args.thread c.args.field c.args.at kind c.args.word leads fails);
+      is = ap (λ (n : ℕ). Some n) c.pointer_clause.ensures ∙ sym (pointer_refused c.args.s.now.layout memory c.args.thread c.args.field c.args.at (kind g here) c.args.word (leads g here) fails);
       meets = λ is. absurd (cc);
     }

@@ -7,11 +7,13 @@ use Rattle.omi_layout.specs.Named.{number}
 use Rattle.omi_layout.specs.Table.{offset}
 use Rattle.omi_session.specs.declared.rc.Rc.TheVariants.{CallbackError}
 use Rattle.omi_audit.specs.declared.stop.Stop.TheVariants.{Fails}
-use Rattle.omi_audit.specs.Judged.{place_at, AsksNaming, IsFailing, named_by_word, one_if_failing}
+use Rattle.omi_audit.specs.Judged.{place_at, Asks, AsksNaming, OverKept, IsFailing, named_by_word, one_if_failing}
 use Rattle.omi_audit.proofs.KeptOn.{kept_on}
 use Rattle.omi_audit.proofs.Leads.{word_ok, word_err}
 use Rattle.omi_audit.proofs.NamedWords.{judged_unmapped, judged_refused, judged_fine}
 use Rattle.omi_audit.proofs.Asking.{named_one, no_fewer, stopped_one, word_reads}
+use Rattle.omi_audit.proofs.judging.judge.Given.{Over}
+use Rattle.omi_audit.proofs.judging.judge.Goals.{In-Ok}
 use Rattle.omi_audit.proofs.judging.judge.Goals as goal
 
 pub returns-in-Err-clause-judged : goal.returns-in-Err-clause-judged
@@ -70,8 +72,11 @@ returns-in-Err-clause-asks g c = λ memory tells known.
     let fewer = no_fewer c.args.search.now.met.keys (flat_map (named_at w memory) (place_at c.args.addr c.args.field c.args.at ∷ [])) in
     omega (arith, reads, one, fewer)
 
-pub returns-in_err-clause_failing-clause-asks : goal.returns-in_err-clause_failing-clause-asks
-returns-in_err-clause_failing-clause-asks g c = λ memory tells known.
+-- behind the word what it names is asked for
+behind : (g : Over) (c : In-Ok g) (last more : ℕ)
+    → OverKept g.C.Callbacks.told c.word.new.s c.args.search.now (λ m. AsksNaming (g.C.Callbacks.asked c.word.new.s.table.calls) last c.args.search.now (named_by_word c.word.new.s.layout m c.args.field c.args.at c.in-Ok.found) more)
+    → OverKept g.C.Callbacks.told c.args.s.now c.args.search.now (λ m. Asks c.args.s.now.layout m (g.C.Callbacks.asked c.args.s.now.table.calls) last c.args.search.now (place_at c.args.addr c.args.field c.args.at ∷ []) more)
+behind g c last more naming memory tells known =
     let w = c.args.s.now.layout in
     let read = c.in-Ok.ensures in
     let p = place_at c.args.addr c.args.field c.args.at in
@@ -80,40 +85,28 @@ returns-in_err-clause_failing-clause-asks g c = λ memory tells known.
     let one = word_reads w memory c.args.addr c.args.field c.args.at in
     let asks =
     kept_on g.C.Callbacks.told c.args.s.now c.word.new.s c.args.search.now
-    (λ l m. AsksNaming (g.C.Callbacks.asked c.word.new.s.table.calls) (g.C.Callbacks.asked c.clause_failing.new.s.table.calls) c.args.search.now
-    (named_by_word l m c.args.field c.args.at c.in-Ok.found) 1) read.same c.in_err-clause_failing.ensures.asks memory tells known in
+    (λ l m. AsksNaming (g.C.Callbacks.asked c.word.new.s.table.calls) last c.args.search.now (named_by_word l m c.args.field c.args.at c.in-Ok.found) more)
+    read.same naming memory tells known in
     let named = ap (λ l. length (insert_all nat_eq c.args.search.now.met.keys l)) (named_one w memory p c.in-Ok.found word) in
+    omega (arith, reads, one, asks, named)
+
+pub returns-in_err-clause_failing-clause-asks : goal.returns-in_err-clause_failing-clause-asks
+returns-in_err-clause_failing-clause-asks g c = λ memory tells known.
+    let read = (goal.at.returns-in_err-clause_failing-clause-asks g c).In-Ok in
+    let asks = behind g read (g.C.Callbacks.asked c.clause_failing.new.s.table.calls) 1 c.in_err-clause_failing.ensures.asks memory tells known in
     let stopped = stopped_one c.from_residual-in_err-clause_failing.result c.in_err-clause_failing.field-0.0 c.from_residual-in_err-clause_failing.ensures.1 in
-    omega (arith, reads, one, asks, named, stopped)
+    omega (arith, asks, stopped)
 
 pub returns-in-None-clause-asks : goal.returns-in-None-clause-asks
 returns-in-None-clause-asks g c = λ memory tells known.
-    let w = c.args.s.now.layout in
-    let read = c.in-Ok.ensures in
-    let p = place_at c.args.addr c.args.field c.args.at in
-    let word = word_ok w memory c.args.addr c.args.field c.args.at c.in-Ok.found (read.answer.is memory tells (λ e. (cc))) in
-    let reads = read.answer.most memory tells in
-    let one = word_reads w memory c.args.addr c.args.field c.args.at in
-    let asks =
-    kept_on g.C.Callbacks.told c.args.s.now c.word.new.s c.args.search.now
-    (λ l m. AsksNaming (g.C.Callbacks.asked c.word.new.s.table.calls) (g.C.Callbacks.asked c.clause_failing.new.s.table.calls) c.args.search.now
-    (named_by_word l m c.args.field c.args.at c.in-Ok.found) (one_if_failing (Ok c.in_ok-clause_failing.field-0))) read.same c.in_ok-clause_failing.ensures.asks memory tells known in
+    let read = (goal.at.returns-in-None-clause-asks g c).In-Ok in
+    let asks = behind g read (g.C.Callbacks.asked c.clause_failing.new.s.table.calls) (one_if_failing (Ok c.in_ok-clause_failing.field-0)) c.in_ok-clause_failing.ensures.asks memory tells known in
     let none = ap (λ o. one_if_failing (Ok o)) c.in-None.is in
-    let named = ap (λ l. length (insert_all nat_eq c.args.search.now.met.keys l)) (named_one w memory p c.in-Ok.found word) in
-    omega (arith, reads, one, asks, named, none)
+    omega (arith, asks, none)
 
 pub returns-in-Some-clause-asks : goal.returns-in-Some-clause-asks
 returns-in-Some-clause-asks g c = λ memory tells known.
-    let w = c.args.s.now.layout in
-    let read = c.in-Ok.ensures in
-    let p = place_at c.args.addr c.args.field c.args.at in
-    let word = word_ok w memory c.args.addr c.args.field c.args.at c.in-Ok.found (read.answer.is memory tells (λ e. (cc))) in
-    let reads = read.answer.most memory tells in
-    let one = word_reads w memory c.args.addr c.args.field c.args.at in
-    let asks =
-    kept_on g.C.Callbacks.told c.args.s.now c.word.new.s c.args.search.now
-    (λ l m. AsksNaming (g.C.Callbacks.asked c.word.new.s.table.calls) (g.C.Callbacks.asked c.clause_failing.new.s.table.calls) c.args.search.now
-    (named_by_word l m c.args.field c.args.at c.in-Ok.found) (one_if_failing (Ok c.in_ok-clause_failing.field-0))) read.same c.in_ok-clause_failing.ensures.asks memory tells known in
+    let read = (goal.at.returns-in-Some-clause-asks g c).In-Ok in
+    let asks = behind g read (g.C.Callbacks.asked c.clause_failing.new.s.table.calls) (one_if_failing (Ok c.in_ok-clause_failing.field-0)) c.in_ok-clause_failing.ensures.asks memory tells known in
     let some = ap (λ o. one_if_failing (Ok o)) c.in-Some.is in
-    let named = ap (λ l. length (insert_all nat_eq c.args.search.now.met.keys l)) (named_one w memory p c.in-Ok.found word) in
-    omega (arith, reads, one, asks, named, some)
+    omega (arith, asks, some)

@@ -78,7 +78,6 @@ returns-in_err-judge-clause-judged g c = λ memory tells known.
     let places = elements_of c.args.addr c.args.field c.args.count in
     let before = c.loop-at.invariant in
     let fine = before.judged memory tells known in
-    let within : k < c.args.count = omega arith in
     let knows = still_knows_named w memory c.args.search.now c.loop-at.search (take k places) known fine.known in
     let first =
     kept_on g.C.Callbacks.told c.args.s.now c.loop-at.s c.loop-at.search
@@ -86,7 +85,7 @@ returns-in_err-judge-clause-judged g c = λ memory tells known.
     before.same c.in_err-judge.ensures.judged memory tells knows in
     let stopped = err_from_is_err_and {Q = λ stop. stop ≡ c.in_err-judge.field-0.0} c.from_residual.result c.from_residual.ensures.1 in
     rw (stopped.1, stopped.2)
-    (fine_stop w memory 0 places k p (element_at c.args.addr c.args.field c.args.count k within) c.in_err-judge.field-0.0 fine.none first)
+    (fine_stop w memory 0 places k p (element_at c.args.addr c.args.field c.args.count k (omega arith)) c.in_err-judge.field-0.0 fine.none first)
 
 pub returns-clause-asks : goal.returns-clause-asks
 returns-clause-asks g c = λ memory tells known.
@@ -101,13 +100,12 @@ returns-in_err-judge-clause-asks g c = λ memory tells known.
     let places = elements_of c.args.addr c.args.field c.args.count in
     let before = c.loop-at.invariant in
     let fine = before.judged memory tells known in
-    let within : k < c.args.count = omega arith in
     let knows = still_knows_named w memory c.args.search.now c.loop-at.search (take k places) known fine.known in
     let stopped = stopped_one c.from_residual.result c.in_err-judge.field-0.0 c.from_residual.ensures.1 in
     subst (Asks w memory (g.C.Callbacks.asked c.args.s.now.table.calls) (g.C.Callbacks.asked c.judge.new.s.table.calls) c.args.search.now places) (sym stopped)
     (asks_whole w memory (g.C.Callbacks.asked c.args.s.now.table.calls) (g.C.Callbacks.asked c.judge.new.s.table.calls) c.args.search.now (suc k) places 1
     (asks_next w memory (g.C.Callbacks.asked c.args.s.now.table.calls) (g.C.Callbacks.asked c.loop-at.s.table.calls) (g.C.Callbacks.asked c.judge.new.s.table.calls)
-    c.args.search.now c.loop-at.search places k p 1 (element_at c.args.addr c.args.field c.args.count k within) (before.asks memory tells known) fine.known
+    c.args.search.now c.loop-at.search places k p 1 (element_at c.args.addr c.args.field c.args.count k (omega arith)) (before.asks memory tells known) fine.known
     (kept_on g.C.Callbacks.told c.args.s.now c.loop-at.s c.loop-at.search
     (λ l m. Asks l m (g.C.Callbacks.asked c.loop-at.s.table.calls) (g.C.Callbacks.asked c.judge.new.s.table.calls) c.loop-at.search (p ∷ []) 1)
     before.same c.in_err-judge.ensures.asks memory tells knows)))

@@ -1,4 +1,4 @@
-use Rattle.std.proofs.Common.{sym, subst}
+use Rattle.std.proofs.Common.{refl, sym, subst}
 use Rattle.omi_layout.specs.declared.field.Field.TheVariants.{TaskScheduling}
 use Rattle.omi_audit.specs.Judged.{Asks, IsLinked, refused_among}
 use Rattle.omi_audit.specs.Search.{group_places, task_places, value_places}
@@ -13,13 +13,13 @@ returns-clause-judged g c = λ memory tells known.
     let front = c.in_ok-next.ensures in
     let a = c.args.addr in
     let fine =
-    fine_both g.C.Callbacks.told c.args.s.now c.judge_values.new.s front.same c.args.search.now c.judge_values.new.search c.judge_groups.new.search
+    fine_both g.C.Callbacks.told c.args.s.now c.judge_parts.new.s front.same c.args.search.now c.judge_parts.new.search c.judge_groups.new.search
     (λ w m. value_places w m a) (λ w m. group_places w m a)
-    (λ m t k. let f = front.judged m t k in record { none = f.none; known = f.known.meets })
+    (λ m t k. let f = front.judged m t k TaskScheduling refl in record { none = f.none; known = f.known.meets })
     c.in_ok-judge_groups.ensures.judged memory tells known in
     record {
       none = fine.none;
-      known = record { next = (front.judged memory tells known).known.next; meets = fine.known };
+      known = record { next = (front.judged memory tells known TaskScheduling refl).known.next; meets = fine.known };
     }
 
 pub returns-in_err-next-clause-judged : goal.returns-in_err-next-clause-judged
@@ -27,9 +27,9 @@ returns-in_err-next-clause-judged g c = λ memory tells known.
     let w = c.args.s.now.layout in
     let stop = c.in_err-next.field-0.0 in
     judges_stop (refused_among w memory 0 (task_places w memory c.args.addr))
-    (IsLinked w memory c.args.addr TaskScheduling (task_places w memory c.args.addr) c.args.search.now c.judge_values.new.search)
+    (IsLinked w memory c.args.addr TaskScheduling (task_places w memory c.args.addr) c.args.search.now c.judge_parts.new.search)
     c.from_residual.result stop c.from_residual.ensures.1
-    (stops_first w memory 0 (value_places w memory c.args.addr) (group_places w memory c.args.addr) stop (c.in_err-next.ensures.judged memory tells known))
+    (stops_first w memory 0 (value_places w memory c.args.addr) (group_places w memory c.args.addr) stop (c.in_err-next.ensures.judged memory tells known TaskScheduling refl))
 
 pub returns-in_err-judge_groups-clause-judged : goal.returns-in_err-judge_groups-clause-judged
 returns-in_err-judge_groups-clause-judged g c = λ memory tells known.
@@ -40,18 +40,18 @@ returns-in_err-judge_groups-clause-judged g c = λ memory tells known.
     judges_stop (refused_among w memory 0 (task_places w memory a))
     (IsLinked w memory a TaskScheduling (task_places w memory a) c.args.search.now c.judge_groups.new.search)
     c.from_residual-in_err-judge_groups.result stop c.from_residual-in_err-judge_groups.ensures.1
-    (stops_both g.C.Callbacks.told c.args.s.now c.judge_values.new.s front.same c.args.search.now c.judge_values.new.search c.judge_groups.new.search
+    (stops_both g.C.Callbacks.told c.args.s.now c.judge_parts.new.s front.same c.args.search.now c.judge_parts.new.search c.judge_groups.new.search
     (λ w m. value_places w m a) (λ w m. group_places w m a)
-    (λ m t k. let f = front.judged m t k in record { none = f.none; known = f.known.meets })
+    (λ m t k. let f = front.judged m t k TaskScheduling refl in record { none = f.none; known = f.known.meets })
     stop c.in_err-judge_groups.ensures.judged memory tells known)
 
 pub returns-clause-asks : goal.returns-clause-asks
 returns-clause-asks g c =
     let front = c.in_ok-next.ensures in
     let a = c.args.addr in
-    asks_both g.C.Callbacks.told g.C.Callbacks.asked c.args.s.now c.judge_values.new.s c.judge_groups.new.s front.same c.args.search.now c.judge_values.new.search
+    asks_both g.C.Callbacks.told g.C.Callbacks.asked c.args.s.now c.judge_parts.new.s c.judge_groups.new.s front.same c.args.search.now c.judge_parts.new.search
     (λ w m. value_places w m a) (λ w m. group_places w m a)
-    (λ m t k. let f = front.judged m t k in record { none = f.none; known = f.known.meets })
+    (λ m t k. let f = front.judged m t k TaskScheduling refl in record { none = f.none; known = f.known.meets })
     0 front.asks c.in_ok-judge_groups.ensures.asks
 
 pub returns-in_err-next-clause-asks : goal.returns-in_err-next-clause-asks
@@ -59,8 +59,8 @@ returns-in_err-next-clause-asks g c = λ memory tells known.
     let w = c.args.s.now.layout in
     let a = c.args.addr in
     let stopped = stopped_one c.from_residual.result c.in_err-next.field-0.0 c.from_residual.ensures.1 in
-    subst (Asks w memory (g.C.Callbacks.asked c.args.s.now.table.calls) (g.C.Callbacks.asked c.judge_values.new.s.table.calls) c.args.search.now (task_places w memory a)) (sym stopped)
-    (asks_front w memory (g.C.Callbacks.asked c.args.s.now.table.calls) (g.C.Callbacks.asked c.judge_values.new.s.table.calls) c.args.search.now
+    subst (Asks w memory (g.C.Callbacks.asked c.args.s.now.table.calls) (g.C.Callbacks.asked c.judge_parts.new.s.table.calls) c.args.search.now (task_places w memory a)) (sym stopped)
+    (asks_front w memory (g.C.Callbacks.asked c.args.s.now.table.calls) (g.C.Callbacks.asked c.judge_parts.new.s.table.calls) c.args.search.now
     (value_places w memory a) (group_places w memory a) 1 (c.in_err-next.ensures.asks memory tells known))
 
 pub returns-in_err-judge_groups-clause-asks : goal.returns-in_err-judge_groups-clause-asks
@@ -70,7 +70,7 @@ returns-in_err-judge_groups-clause-asks g c = λ memory tells known.
     let front = c.in_ok-next.ensures in
     let stopped = stopped_one c.from_residual-in_err-judge_groups.result c.in_err-judge_groups.field-0.0 c.from_residual-in_err-judge_groups.ensures.1 in
     subst (Asks w memory (g.C.Callbacks.asked c.args.s.now.table.calls) (g.C.Callbacks.asked c.judge_groups.new.s.table.calls) c.args.search.now (task_places w memory a)) (sym stopped)
-    (asks_both g.C.Callbacks.told g.C.Callbacks.asked c.args.s.now c.judge_values.new.s c.judge_groups.new.s front.same c.args.search.now c.judge_values.new.search
+    (asks_both g.C.Callbacks.told g.C.Callbacks.asked c.args.s.now c.judge_parts.new.s c.judge_groups.new.s front.same c.args.search.now c.judge_parts.new.search
     (λ w m. value_places w m a) (λ w m. group_places w m a)
-    (λ m t k. let f = front.judged m t k in record { none = f.none; known = f.known.meets })
+    (λ m t k. let f = front.judged m t k TaskScheduling refl in record { none = f.none; known = f.known.meets })
     1 front.asks c.in_err-judge_groups.ensures.asks memory tells known)

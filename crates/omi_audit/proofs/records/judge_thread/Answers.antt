@@ -172,8 +172,7 @@ returns-in_err-judge_fields-clause-asks g c = λ memory tells known.
     let k = c.args.search.now in
     let life = c.in_ok-life.ensures in
     let native = c.in_ok-judge.ensures in
-    let one : c.in_ok-life.life ≡ 1 = omega arith in
-    let begun = begun_by w memory i a there c.in_ok-life.life (life.judged memory tells known).known.word ∙ eq-eqb c.in_ok-life.life 1 one in
+    let begun = begun_by w memory i a there c.in_ok-life.life (life.judged memory tells known).known.word ∙ eq-eqb c.in_ok-life.life 1 (let e : c.in_ok-life.life ≡ 1 = omega arith in e) in
     let stopped = stopped_is c.from_residual-in_err-judge_fields.result c.from_residual-in_err-judge_fields.ensures.0 in
     subst (Asks w memory (g.C.Callbacks.asked c.args.s.now.table.calls) (g.C.Callbacks.asked c.judge_fields.new.s.table.calls) k (thread_places w memory i)) (sym stopped)
     (thread_asks w memory i a there (g.C.Callbacks.asked c.args.s.now.table.calls) (g.C.Callbacks.asked c.judge_fields.new.s.table.calls) k true 1 begun
@@ -189,8 +188,7 @@ returns-clause-asks g c = λ memory tells known.
     let k = c.args.search.now in
     let life = c.in_ok-life.ensures in
     let native = c.in_ok-judge.ensures in
-    let one : c.in_ok-life.life ≡ 1 = omega arith in
-    let begun = begun_by w memory i a there c.in_ok-life.life (life.judged memory tells known).known.word ∙ eq-eqb c.in_ok-life.life 1 one in
+    let begun = begun_by w memory i a there c.in_ok-life.life (life.judged memory tells known).known.word ∙ eq-eqb c.in_ok-life.life 1 (let e : c.in_ok-life.life ≡ 1 = omega arith in e) in
     thread_asks w memory i a there (g.C.Callbacks.asked c.args.s.now.table.calls) (g.C.Callbacks.asked c.judge_fields.new.s.table.calls) k true 0 begun
     (all_ask g.C.Callbacks.told g.C.Callbacks.asked c.args.s.now c.judge.new.s life.same i a k c.judge.new.search c.in_ok-life.life life.judged life.asks c.judge-2.new.s c.judge-2.new.search
     native.same c.in_ok-judge.field-0 native.judged native.asks c.judge_fields.new.s (places_of a BEGUN_FIELDS) 0 c.in_ok-judge_fields.ensures.asks memory tells known)
@@ -204,8 +202,7 @@ returns-in_err-push-2-clause-asks g c = λ memory tells known.
     let k = c.args.search.now in
     let life = c.in_ok-life.ensures in
     let native = c.in_ok-judge.ensures in
-    let one : c.in_ok-life.life ≡ 1 = omega arith in
-    let begun = begun_by w memory i a there c.in_ok-life.life (life.judged memory tells known).known.word ∙ eq-eqb c.in_ok-life.life 1 one in
+    let begun = begun_by w memory i a there c.in_ok-life.life (life.judged memory tells known).known.word ∙ eq-eqb c.in_ok-life.life 1 (let e : c.in_ok-life.life ≡ 1 = omega arith in e) in
     let stopped = stopped_is c.from_residual-in_err-push-2.result c.from_residual-in_err-push-2.ensures.0 in
     subst (Asks w memory (g.C.Callbacks.asked c.args.s.now.table.calls) (g.C.Callbacks.asked c.judge_fields.new.s.table.calls) k (thread_places w memory i)) (sym stopped)
     (asks_spare w memory (g.C.Callbacks.asked c.args.s.now.table.calls) (g.C.Callbacks.asked c.judge_fields.new.s.table.calls) k (thread_places w memory i)
