@@ -7,6 +7,6 @@ mod numbers;
 mod text;
 
 pub use line::{Line, LineError, split};
-pub use numbers::number;
+pub use numbers::{number, number_of};
 pub use omi_list::OutOfMemory;
 pub use text::{Text, TextList};

@@ -29,7 +29,13 @@ fn is_numeral(bytes: &[u8]) -> bool
 pub fn number(t: &Text, least: u64, most: u64) -> Option<u64>
     ensures { result ≡ number_between t.now least most }
 {
-    let bytes = t.bytes();
+    number_of(t.bytes(), least, most)
+}
+
+/// The number that bytes write, as `number` of a text.
+pub fn number_of(bytes: &[u8], least: u64, most: u64) -> Option<u64>
+    ensures { result ≡ number_between bytes.now least most }
+{
     if !is_numeral(bytes) {
         return None;
     }

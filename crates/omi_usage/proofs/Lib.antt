@@ -1,0 +1,5 @@
+pub mod Words
+pub mod Parts
+pub mod Options
+pub mod Places
+pub mod Silent
