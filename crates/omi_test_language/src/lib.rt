@@ -1,4 +1,4 @@
-//! Tests of omi_script and omi_line: texts of programs and command lines, at each rule and limit.
+//! Tests of omi_script, omi_line and omi_usage: texts of programs and command lines, at each rule and limit.
 #![tactic(auto)]
 
 #[cfg(test)]
@@ -7,3 +7,5 @@ mod line_tests;
 mod row_tests;
 #[cfg(test)]
 mod tests;
+#[cfg(test)]
+mod usage_tests;

@@ -1,7 +1,7 @@
 -- The parts of a word between its commas.
-use Rattle.std.proofs.Common.{◌≡◌, ◌∙◌, ◌<◌, ◌≤◌, ◌+◌, ◌-◌, ◌==◌, ◌&&◌, ℕ, zero, suc, Bool, true, false, cond, refl, sym, ap, List, [], ◌∷◌, Option, Some, None, Bor, length, arith, lit<}
+use Rattle.std.proofs.Common.{◌≡◌, ◌∙◌, ◌<◌, ◌+◌, ◌-◌, ◌==◌, ◌&&◌, ℕ, suc, Bool, true, false, refl, sym, ap, List, [], ◌∷◌, Option, Some, None, Bor, length, arith, lit<}
 use Rattle.std.specs.Prelude.{is_some, nat_le}
-use Rattle.std.specs.List.{after_first, list_all, onto_first, position_or_len, slice_split}
+use Rattle.std.specs.List.{after_first, onto_first, position_or_len, slice_split}
 use Rattle.std.proofs.Math.Dec.{leb-suc-suc}
 use Rattle.std.proofs.lemmas.List.Splits.{length-slice_split, slice_split-cons_no, slice_split_first}
 use Rattle.std.proofs.lemmas.Bool.{lt-leb}

@@ -1,6 +1,6 @@
 -- There is no complaint exactly where the words are a command of the form.
 use Rattle.std.proofs.Common.{◌≡◌, ◌∙◌, ◌+◌, ◌&&◌, ℕ, Bool, true, false, cond, refl, sym, ap, subst, List, [], ◌∷◌, ◌++◌, Option, Some, None, is_some}
-use Rattle.std.specs.Prelude.{option_and_then, Result, Ok, Err}
+use Rattle.std.specs.Prelude.{option_and_then, Ok, Err}
 use Rattle.std.specs.Option.{is_none, option_map_or}
 use Rattle.std.proofs.lemmas.List.{append-nil, append_assoc}
 use Rattle.omi_line.specs.Word.{OptionName, Kind, Seed, Break, Count, Layout, Positional, Rest, Given, Named, RefusedWord, begins_with_hyphen, word_kind}

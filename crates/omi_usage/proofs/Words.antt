@@ -1,10 +1,10 @@
 -- What a word is, by what stands at its front and round its first `=`.
-use Rattle.std.proofs.Common.{◌≡◌, ◌≢◌, ◌∙◌, ◌<◌, ◌+◌, ◌==◌, ◌||◌, ℕ, zero, suc, Bool, true, false, cond, refl, sym, ap, List, [], ◌∷◌, Option, Some, None, Bor, length, take, arith, lit<, codes}
+use Rattle.std.proofs.Common.{◌≡◌, ◌≢◌, ◌∙◌, ◌<◌, ◌+◌, ◌==◌, ◌||◌, ℕ, suc, Bool, true, false, cond, refl, sym, ap, List, [], ◌∷◌, Option, Some, None, Bor, length, take, arith, lit<}
 use Rattle.std.specs.List.{list_any, after_first, before_first, position_or_len}
 use Rattle.std.proofs.Math.Seq.{take-length}
 use Rattle.std.proofs.lemmas.Str.Pattern.{IsSplitOnceResult, split_once_first}
 use borrow.Author.Tests.{eqb-true}
-use Rattle.omi_line.specs.Word.{OptionName, Kind, Positional, Given, Named, RefusedWord, hyphen_kind, is_equals, word_kind, long_kind, option_kind, option_named}
+use Rattle.omi_line.specs.Word.{OptionName, Positional, Given, Named, RefusedWord, hyphen_kind, is_equals, word_kind, long_kind, option_kind, option_named}
 
 -- a word that doesn't begin with a hyphen
 pub no_hyphen : (word : List ℕ) → ((rest : List ℕ) → word ≢ 45 ∷ rest) → Positional ≡ word_kind word

@@ -1,12 +1,10 @@
 -- What each word of a command is to be, and which lines have the form of a command.
 use Rattle.std.specs.Prelude.{◌==◌, ◌&&◌, ℕ, Bool, true, false, not, List, [], ◌∷◌, Option, Some, None, length, map, nat_le, is_some, if◌then◌else◌}
-use Rattle.std.specs.Borrow.{Bor}
 use Rattle.std.specs.List.{list_all, list_any, slice_split}
 use Rattle.std.specs.Option.{option_map, option_map_or}
 use Rattle.std.specs.Str.{bytes_eq}
 use Rattle.omi_line.specs.Number.{number_between}
 use Rattle.omi_line.specs.Word.{OptionName, Seed, Break, Count, Layout}
-use Rattle.omi_line.specs.Line.{value_in}
 use Rattle.omi_line.specs.declared.line.Line.{Line}
 use Rattle.omi_usage.specs.declared.complaint.LineOption.{LineOption}
 use Rattle.omi_usage.specs.declared.complaint.LineOption.TheVariants as option

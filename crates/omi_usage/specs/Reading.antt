@@ -1,5 +1,5 @@
 -- How the words are read, one after the other, until one is refused.
-use Rattle.std.specs.Prelude.{◌+◌, ℕ, Bool, true, false, List, [], ◌∷◌, Option, Some, None, Result, Ok, Err, is_some, if◌then◌else◌, map}
+use Rattle.std.specs.Prelude.{◌+◌, ℕ, List, [], ◌∷◌, Option, Some, None, Result, Ok, Err, if◌then◌else◌, map}
 use Rattle.std.specs.Option.{option_map_or}
 use Rattle.omi_line.specs.Word.{Kind, Positional, Rest, Given, Named, RefusedWord, begins_with_hyphen, word_kind}
 use Rattle.omi_usage.specs.Form.{Want, Verb, NoVerb, File, Number, OneOf, Numbers, CommandForm, fits, form_of_verb, name_of, no_form, option_of, value_wanted, want_of}

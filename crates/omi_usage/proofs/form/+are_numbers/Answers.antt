@@ -1,5 +1,5 @@
-use Rattle.std.proofs.Common.{◌≡◌, ◌∙◌, ◌<◌, ap, arith, List, ℕ, sym}
-use Rattle.std.specs.Prelude.{Option, is_some}
+use Rattle.std.proofs.Common.{◌∙◌, ap, arith, List, ℕ, sym}
+use Rattle.std.specs.Prelude.{is_some}
 use Rattle.omi_line.specs.Number.{number_between}
 use Rattle.omi_usage.proofs.Parts.{last_part, more_no, more_yes, no_room}
 use Rattle.omi_usage.proofs.form.+are_numbers.Goals as goal

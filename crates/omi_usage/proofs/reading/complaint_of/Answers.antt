@@ -1,7 +1,7 @@
-use Rattle.std.proofs.Common.{◌≡◌, ◌∙◌, ap, map, string_bytes}
+use Rattle.std.proofs.Common.{◌∙◌, ap, map, string_bytes}
 use Rattle.std.specs.Option.{is_none}
 use Rattle.omi_usage.specs.Form.{CommandForm, form_of}
-use Rattle.omi_usage.specs.Reading.{complaint_about, form_in}
+use Rattle.omi_usage.specs.Reading.{complaint_about}
 use Rattle.omi_usage.proofs.Silent.{silent_of}
 use Rattle.omi_usage.proofs.reading.complaint_of.Goals as goal
 

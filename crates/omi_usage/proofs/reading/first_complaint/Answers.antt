@@ -1,7 +1,7 @@
-use Rattle.std.proofs.Common.{◌≡◌, ◌∙◌, ◌+◌, ap, rules, sym, ℕ}
-use Rattle.std.specs.Prelude.{Result, Option, Some, None, Ok, Err, string_bytes}
+use Rattle.std.proofs.Common.{◌∙◌, ◌+◌, ap, rules, sym, ℕ}
+use Rattle.std.specs.Prelude.{string_bytes}
 use Rattle.omi_usage.specs.Form.{form_of}
-use Rattle.omi_usage.specs.Reading.{State, end_of, state_of, step_of}
+use Rattle.omi_usage.specs.Reading.{end_of, state_of, step_of}
 use Rattle.omi_usage.proofs.Places.{continued, ended, stopped}
 use Rattle.omi_usage.proofs.reading.first_complaint.Goals as goal
 

@@ -1,5 +1,5 @@
-use Rattle.std.proofs.Common.{◌≡◌, ◌∙◌, ap, rules, sym, List, ℕ}
-use Rattle.std.specs.Prelude.{Option, Some, None}
+use Rattle.std.proofs.Common.{◌∙◌, ap, rules, sym}
+use Rattle.std.specs.Prelude.{Some}
 use Rattle.omi_usage.specs.Reading.{mode_after}
 use Rattle.omi_usage.proofs.Places.{first_here, first_later, first_none}
 use Rattle.omi_usage.proofs.reading.first_of.Goals as goal
