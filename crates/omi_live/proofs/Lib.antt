@@ -7,3 +7,4 @@ pub mod Going
 pub mod Joining
 pub mod Ending
 pub mod Left
+pub mod Forms

@@ -4,6 +4,7 @@ pub mod Accesses
 pub mod Live
 -- What a command line asks for, a run of threads by a plan, and the verb of a command
 pub mod Command
+pub mod Forms
 pub mod Run
 pub mod Answer
 -- The rule of the table of words, and what an operation on it tells a seat

@@ -7,8 +7,10 @@ mod rule;
 mod run;
 mod threads;
 mod top;
+mod usage;
 mod worker;
 
 pub use omi_seat::MOST_BUDGET;
 pub use threads::{LiveEnd, live};
 pub use top::live_top;
+pub use usage::{live_complaint, live_form};

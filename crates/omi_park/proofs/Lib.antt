@@ -16,3 +16,4 @@ pub mod Asking
 pub mod Taken
 pub mod Showing
 pub mod Left
+pub mod Forms

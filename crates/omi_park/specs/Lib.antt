@@ -4,6 +4,7 @@ pub mod Acknowledged
 pub mod Parked
 -- What a command line asks for, what is printed of a stop and of a run with stops, and the verb of a command
 pub mod Command
+pub mod Forms
 pub mod Lines
 pub mod Shown
 pub mod Answer

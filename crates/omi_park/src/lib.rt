@@ -16,9 +16,11 @@ mod stopped;
 mod table;
 mod threads;
 mod top;
+mod usage;
 mod worker;
 
 pub use limits::{INSPECTOR, MOST_STOPS};
 pub use stopped::{StopList, Stopped};
 pub use threads::{ParkEnd, park, park_within};
 pub use top::park_top;
+pub use usage::{park_complaint, park_form};

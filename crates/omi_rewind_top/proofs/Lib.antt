@@ -7,3 +7,4 @@ pub mod Turned
 -- What a command's verb gave, and what a call leaves.
 pub mod Performing
 pub mod Left
+pub mod Forms

@@ -8,6 +8,8 @@ mod lines;
 mod steps_word;
 mod top;
 mod turns;
+mod usage;
 mod when;
 
 pub use top::rewind_top;
+pub use usage::{rewind_complaint, rewind_forms};

@@ -27,3 +27,4 @@ pub mod RunAnswers
 pub mod LeftByRun
 pub mod Promised
 pub mod EachCommand
+pub mod Forms

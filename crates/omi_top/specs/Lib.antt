@@ -4,6 +4,7 @@
 pub mod Promise
 pub mod Plan
 pub mod Command
+pub mod Forms
 pub mod Files
 pub mod Cores
 pub mod Questions

@@ -19,6 +19,8 @@ mod run_and_show;
 mod show;
 mod stop;
 mod top;
+mod usage;
 
 pub use laws::{files_show_alike, recoded_shows_alike, runs_are_determined};
 pub use top::run_top;
+pub use usage::{run_complaint, run_forms};

@@ -8,3 +8,4 @@ pub mod FateLines
 pub mod Current
 pub mod Lengths
 pub mod Imaged
+pub mod Forms

@@ -1,5 +1,6 @@
 -- The definitions to believe, in reading order: the options, the core that a run leaves, and the lines of events and threads
 pub mod Options
+pub mod Forms
 pub mod Cores
 pub mod EventLines
 pub mod RunLines

@@ -11,6 +11,7 @@ pub mod limits;
 mod lines;
 mod options;
 mod run_lines;
+mod usage;
 
 pub use cores::{contexts_of, write_core};
 pub use event_lines::push_event_lines;
@@ -20,3 +21,4 @@ pub use kept_tasks::{KeptTasks, fates};
 pub use lines::Lines;
 pub use options::{break_named, has_option, layout_of};
 pub use run_lines::{push_steps_line, runs_text};
+pub use usage::{breakpoint_wanted, layout_wanted};

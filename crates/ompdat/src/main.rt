@@ -3,7 +3,8 @@
 
 use omi_frame::words_of;
 use omi_outside::{DiskFiles, Status, StdSink, hold_standard};
-use omi_rewind_top::rewind_top;
+use omi_rewind_top::{rewind_complaint, rewind_forms, rewind_top};
+use omi_usage::{Program, explain};
 use std::process::ExitCode;
 
 fn main(rt: HostRuntime) -> ExitCode {
@@ -15,5 +16,12 @@ fn main(rt: HostRuntime) -> ExitCode {
     let mut files = DiskFiles::new(&rt);
     let mut out = StdSink::new(&rt);
     let status = rewind_top(rt.alloc(), &words, &mut files, &mut out);
+    if status == Status::Usage {
+        let program = Program {
+            name: "ompdat",
+            forms: &rewind_forms(),
+        };
+        explain(&rt, program, &words, rewind_complaint(&words));
+    }
     ExitCode::from(status.code())
 }

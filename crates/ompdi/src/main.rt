@@ -3,7 +3,8 @@
 
 use omi_frame::{handed_over, words_of};
 use omi_outside::{DiskFiles, Status, StdSink, hold_standard};
-use omi_top::run_top;
+use omi_top::{run_complaint, run_forms, run_top};
+use omi_usage::{Program, explain};
 use std::process::ExitCode;
 
 fn main(rt: HostRuntime) -> ExitCode {
@@ -16,5 +17,12 @@ fn main(rt: HostRuntime) -> ExitCode {
     let mut dest = DiskFiles::new(&rt);
     let mut out = StdSink::new(&rt);
     let status = run_top(rt.alloc(), &words, &mut files, &mut dest, &mut out);
+    if status == Status::Usage {
+        let program = Program {
+            name: "ompdi",
+            forms: &run_forms(),
+        };
+        explain(&rt, program, &words, run_complaint(&words));
+    }
     ExitCode::from(handed_over(status, &mut dest).code())
 }

@@ -2,9 +2,10 @@
 #![tactic(auto)]
 
 use omi_frame::{handed_over, words_of};
-use omi_live::live_top;
+use omi_live::{live_complaint, live_form, live_top};
 use omi_outside::{DiskFiles, Status, StdSink, hold_standard};
 use omi_seat::{MOST_TURNS, StartGate};
+use omi_usage::{Program, explain};
 use std::process::ExitCode;
 
 fn main(rt: HostRuntime) -> ExitCode {
@@ -23,5 +24,12 @@ fn main(rt: HostRuntime) -> ExitCode {
         &mut out,
         &StartGate::of(MOST_TURNS),
     );
+    if status == Status::Usage {
+        let program = Program {
+            name: "ompdlive",
+            forms: &[live_form()],
+        };
+        explain(&rt, program, &words, live_complaint(&words));
+    }
     ExitCode::from(handed_over(status, &mut files).code())
 }

@@ -3,8 +3,9 @@
 
 use omi_frame::{handed_over, words_of};
 use omi_outside::{DiskFiles, Status, StdSink, hold_standard};
-use omi_park::park_top;
+use omi_park::{park_complaint, park_form, park_top};
 use omi_seat::{MOST_TURNS, StartGate};
+use omi_usage::{Program, explain};
 use std::process::ExitCode;
 
 fn main(rt: HostRuntime) -> ExitCode {
@@ -23,5 +24,12 @@ fn main(rt: HostRuntime) -> ExitCode {
         &mut out,
         &StartGate::of(MOST_TURNS),
     );
+    if status == Status::Usage {
+        let program = Program {
+            name: "ompdpark",
+            forms: &[park_form()],
+        };
+        explain(&rt, program, &words, park_complaint(&words));
+    }
     ExitCode::from(handed_over(status, &mut files).code())
 }
