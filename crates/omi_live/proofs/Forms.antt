@@ -6,9 +6,9 @@ use Rattle.omi_line.specs.Number.{number_between}
 use Rattle.omi_line.specs.declared.line.Line.{Line}
 use Rattle.omi_seat.specs.declared.limits.TheConstants.{MOST_BUDGET}
 use Rattle.omi_usage.specs.Form.{fits_form, is_command, options_fit, value_fits}
-use Rattle.omi_verbs.specs.Options.{break_named, layout_of}
-use Rattle.omi_verbs.specs.Forms.{a_breakpoint, a_layout}
-use Rattle.omi_verbs.proofs.Forms.{breakpoint_fits, layout_fits}
+use Rattle.omi_commands.specs.Options.{break_named, layout_of}
+use Rattle.omi_commands.specs.Forms.{a_breakpoint, a_layout}
+use Rattle.omi_commands.proofs.Forms.{breakpoint_fits, layout_fits}
 use Rattle.omi_live.specs.Command.{LiveCommand, live_break_of, live_command_by, live_command_of, live_command_with, live_plan_of, live_plan_with}
 use Rattle.omi_live.specs.Forms.{live_form}
 use Rattle.omi_live.specs.declared.command.LivePlan.{LivePlan}

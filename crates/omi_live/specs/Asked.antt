@@ -1,6 +1,6 @@
 -- A request of the program as a command.
 use Rattle.std.specs.Prelude.{◌≤◌}
-use Rattle.omi_verbs.specs.declared.limits.TheConstants.{MOST_LAYOUT}
+use Rattle.omi_commands.specs.declared.limits.TheConstants.{MOST_LAYOUT}
 use Rattle.omi_seat.specs.declared.limits.TheConstants.{MOST_BUDGET}
 use Rattle.omi_live.specs.Command.{LiveCommand}
 use Rattle.omi_live.specs.declared.command.LivePlan.{LivePlan}

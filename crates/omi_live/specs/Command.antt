@@ -6,7 +6,7 @@ use Rattle.omi_line.specs.Line.{split_of}
 use Rattle.omi_line.specs.Number.{number_between}
 use Rattle.omi_line.specs.declared.line.Line.{Line}
 use Rattle.omi_seat.specs.declared.limits.TheConstants.{MOST_BUDGET}
-use Rattle.omi_verbs.specs.Options.{break_named, layout_of}
+use Rattle.omi_commands.specs.Options.{break_named, layout_of}
 use Rattle.omi_live.specs.declared.command.LivePlan.{LivePlan}
 
 -- a run of the threads of a script, and the name of the core that it leaves

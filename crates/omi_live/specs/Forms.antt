@@ -2,7 +2,7 @@
 use Rattle.std.specs.Prelude.{[], ◌∷◌, Some, None}
 use Rattle.omi_seat.specs.declared.limits.TheConstants.{MOST_BUDGET}
 use Rattle.omi_usage.specs.Form.{CommandForm, File, Number}
-use Rattle.omi_verbs.specs.Forms.{a_breakpoint, a_layout}
+use Rattle.omi_commands.specs.Forms.{a_breakpoint, a_layout}
 
 -- `BUDGET SCRIPT CORE`, with `--break NAME` and `--layout K`
 abbrev pub live_form : CommandForm

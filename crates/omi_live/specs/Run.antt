@@ -11,8 +11,8 @@ use Rattle.omi_rep.specs.Shows.{Shows}
 use Rattle.omi_core.specs.declared.thread_run.ThreadRun.{ThreadRun}
 use Rattle.omi_corefile.specs.Spelling.{core_bytes}
 use Rattle.omi_live.specs.Live.{IsLive}
-use Rattle.omi_verbs.specs.Cores.{IsReachedCore, thread_ids}
-use Rattle.omi_verbs.specs.RunLines.{live_text}
+use Rattle.omi_commands.specs.Cores.{IsReachedCore, thread_ids}
+use Rattle.omi_commands.specs.RunLines.{live_text}
 use Rattle.omi_live.specs.declared.command.LivePlan.{LivePlan}
 
 -- each state that these words show has the report of this state

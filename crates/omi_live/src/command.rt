@@ -8,11 +8,11 @@ ghost use Rattle.omi_live.specs.Answer.{live_verb};
 ghost use Rattle.omi_live.specs.Command.{live_break_of, live_command_by, live_plan_of};
 ghost use Rattle.omi_frame.specs.Refusal.{named};
 
+use omi_commands::{break_named, layout_of};
 use omi_core::Break;
 use omi_frame::{Names, text_of};
 use omi_line::{Line, Text, number};
 use omi_seat::MOST_BUDGET;
-use omi_verbs::{break_named, layout_of};
 
 /// What a run of threads is to be.
 #[derive(Clone, Copy)]

@@ -8,12 +8,12 @@ ghost use Rattle.omi_live.specs.Run.{IsLiveRun};
 
 use crate::command::LivePlan;
 use crate::threads::{LiveEnd, live};
+use omi_commands::{contexts_of, runs_text};
 use omi_corefile::image_makes_a_core;
 use omi_layout::Layout;
 use omi_outside::Gate;
 use omi_rep::{families_suit, words_fix_the_report};
 use omi_script::Program;
-use omi_verbs::{contexts_of, runs_text};
 use omi_word::{Image, Natives, OutOfMemory};
 use std::alloc::Global;
 use std::thread::Threads;

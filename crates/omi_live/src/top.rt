@@ -16,9 +16,9 @@ ghost use Rattle.omi_live.specs.Run.{IsLiveRun};
 
 use crate::command::{Request, request_of};
 use crate::run::run_of;
+use omi_commands::write_core;
 use omi_frame::{Refusal, end_with, line_in, program_of, refuse_words, room_for};
 use omi_outside::{Files, Gate, Sink, Status};
-use omi_verbs::write_core;
 use std::alloc::Global;
 use std::thread::Threads;
 

@@ -7,9 +7,9 @@ ghost use Rattle.omi_usage.specs.Reading.{complaint_about};
 ghost use Rattle.omi_live.specs.Command.{live_command_in};
 ghost use Rattle.omi_live.specs.Forms.{live_form};
 
+use omi_commands::{breakpoint_wanted, layout_wanted};
 use omi_seat::MOST_BUDGET;
 use omi_usage::{Complaint, Form, Wanted, complaint_of_one};
-use omi_verbs::{breakpoint_wanted, layout_wanted};
 
 /// The form of the program's command.
 pub fn live_form() -> Form

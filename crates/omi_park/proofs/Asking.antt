@@ -25,10 +25,10 @@ use Rattle.omi_session.specs.Opening.{RefusesOver}
 use Rattle.omi_session.specs.Tells.{Tells}
 use Rattle.omi_session.specs.declared.rc.Rc.{Rc}
 use Rattle.omi_session.specs.declared.rc.Rc.TheVariants as code
-use Rattle.omi_verbs.proofs.Current.{fates_known, image_records}
-use Rattle.omi_verbs.proofs.Imaged.{not_refused, viewed}
-use Rattle.omi_verbs.specs.Fates.{AreLines, HoldsEach}
-use Rattle.omi_verbs.specs.declared.kept_tasks.KeptTasks.{KeptTasks}
+use Rattle.omi_commands.proofs.Current.{fates_known, image_records}
+use Rattle.omi_commands.proofs.Imaged.{not_refused, viewed}
+use Rattle.omi_commands.specs.Fates.{AreLines, HoldsEach}
+use Rattle.omi_commands.specs.declared.kept_tasks.KeptTasks.{KeptTasks}
 use Rattle.omi_frame.specs.declared.refusal.Input.TheVariants as input
 use Rattle.omi_frame.specs.declared.refusal.Refusal.{Refusal}
 use Rattle.omi_frame.specs.declared.refusal.Refusal.TheVariants as refusal

@@ -5,8 +5,8 @@ use Rattle.omi_line.specs.Number.{number_between}
 use Rattle.omi_line.specs.declared.line.Line.{Line}
 use Rattle.omi_seat.specs.declared.limits.TheConstants.{MOST_BUDGET}
 use Rattle.omi_usage.specs.Form.{fits_form, is_command, words_fit}
-use Rattle.omi_verbs.specs.Options.{has_option}
-use Rattle.omi_verbs.proofs.Forms.{no_options, unless_has}
+use Rattle.omi_commands.specs.Options.{has_option}
+use Rattle.omi_commands.proofs.Forms.{no_options, unless_has}
 use Rattle.omi_park.specs.Command.{park_command_by, park_command_of, park_command_with, park_plan_with}
 use Rattle.omi_park.specs.Forms.{park_form}
 use Rattle.omi_park.specs.declared.limits.TheConstants.{MOST_STOPS}

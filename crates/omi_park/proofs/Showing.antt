@@ -18,11 +18,11 @@ use Rattle.omi_core.specs.Steps.{events_behind, steps_of}
 use Rattle.omi_core.specs.declared.thread_run.ThreadRun.{ThreadRun}
 use Rattle.omi_seat.specs.Known.{own_steps}
 use Rattle.omi_session.proofs.NamesReached.{reached_are_names}
-use Rattle.omi_verbs.proofs.Lengths.{steps_long}
-use Rattle.omi_verbs.specs.Cores.{thread_ids}
-use Rattle.omi_verbs.specs.Fates.{look_fates}
+use Rattle.omi_commands.proofs.Lengths.{steps_long}
+use Rattle.omi_commands.specs.Cores.{thread_ids}
+use Rattle.omi_commands.specs.Fates.{look_fates}
 use Rattle.omi_walk.specs.Kept.{task_names}
-use Rattle.omi_verbs.specs.declared.kept_tasks.KeptTasks.{KeptTasks}
+use Rattle.omi_commands.specs.declared.kept_tasks.KeptTasks.{KeptTasks}
 use Rattle.omi_park.specs.Kept.{AreCopies, AreStopsLooked, HoldsTasks, IsCopy, IsStopLooked, IsStopPushed}
 use Rattle.omi_park.specs.Lines.{stop_text}
 use Rattle.omi_park.specs.Parked.{AreStops, IsStop}

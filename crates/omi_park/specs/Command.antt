@@ -5,7 +5,7 @@ use Rattle.omi_line.specs.Line.{split_of}
 use Rattle.omi_line.specs.Number.{number_between}
 use Rattle.omi_line.specs.declared.line.Line.{Line}
 use Rattle.omi_seat.specs.declared.limits.TheConstants.{MOST_BUDGET}
-use Rattle.omi_verbs.specs.Options.{has_option}
+use Rattle.omi_commands.specs.Options.{has_option}
 use Rattle.omi_park.specs.declared.command.ParkPlan.{ParkPlan}
 use Rattle.omi_park.specs.declared.limits.TheConstants.{MOST_STOPS}
 

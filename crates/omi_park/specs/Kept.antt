@@ -8,9 +8,9 @@ use Rattle.omi_layout.specs.Valid.{IsValid}
 use Rattle.omi_model.specs.declared.id.Tid.{Tid}
 use Rattle.omi_model.specs.declared.view.View.{View}
 use Rattle.omi_rep.specs.LookView.{look_view}
-use Rattle.omi_verbs.specs.Fates.{HoldsEach, look_fates}
-use Rattle.omi_verbs.specs.Imaged.{ShowsSome}
-use Rattle.omi_verbs.specs.declared.kept_tasks.KeptTasks.{KeptTasks}
+use Rattle.omi_commands.specs.Fates.{HoldsEach, look_fates}
+use Rattle.omi_commands.specs.Imaged.{ShowsSome}
+use Rattle.omi_commands.specs.declared.kept_tasks.KeptTasks.{KeptTasks}
 use Rattle.omi_walk.specs.Kept.{task_names}
 use Rattle.omi_word.specs.Words.{words_of}
 use Rattle.omi_park.specs.Lines.{stop_text}

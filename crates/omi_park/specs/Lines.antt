@@ -3,7 +3,7 @@ use Rattle.std.specs.Prelude.{ℕ, List, [], ◌∷◌, ◌++◌, ◌+◌, codes
 use Rattle.std.specs.Fmt.{decimal}
 use Rattle.omi_model.specs.declared.view.View.{View}
 use Rattle.omi_text.specs.Report.{report}
-use Rattle.omi_verbs.specs.RunLines.{steps_line}
+use Rattle.omi_commands.specs.RunLines.{steps_line}
 
 -- the line of the stop of a number
 abbrev pub stop_line : ℕ → List ℕ

@@ -12,9 +12,9 @@ use Rattle.omi_core.specs.declared.entry.Entry.{Entry}
 use Rattle.omi_core.specs.declared.thread_run.ThreadRun.{ThreadRun}
 use Rattle.omi_core.specs.Runs.{events_in}
 use Rattle.omi_core.specs.Steps.{events_behind}
-use Rattle.omi_verbs.specs.Cores.{thread_ids}
-use Rattle.omi_verbs.specs.Fates.{look_fates}
-use Rattle.omi_verbs.specs.RunLines.{live_text}
+use Rattle.omi_commands.specs.Cores.{thread_ids}
+use Rattle.omi_commands.specs.Fates.{look_fates}
+use Rattle.omi_commands.specs.RunLines.{live_text}
 use Rattle.omi_walk.specs.Kept.{task_names}
 use Rattle.omi_park.specs.Lines.{stop_text}
 use Rattle.omi_park.specs.Parked.{IsParked, IsStop, TakesFirst}

@@ -9,10 +9,10 @@ ghost use Rattle.omi_park.specs.Command.{park_command_by, park_plan_of};
 ghost use Rattle.omi_frame.specs.Refusal.{named};
 
 use crate::limits::MOST_STOPS;
+use omi_commands::has_option;
 use omi_frame::{Names, text_of};
 use omi_line::{Line, Text, number};
 use omi_seat::MOST_BUDGET;
-use omi_verbs::has_option;
 
 /// What a run of threads with stops is to be.
 #[derive(Clone, Copy)]

@@ -7,16 +7,16 @@ ghost use Rattle.omi_corefile.specs.Limits.{rises_from};
 ghost use Rattle.omi_model.specs.declared.id.Tid.{Tid};
 ghost use Rattle.omi_model.specs.declared.view.View.{View};
 ghost use Rattle.omi_rep.specs.LookView.{look_view};
-ghost use Rattle.omi_verbs.specs.Fates.{look_fates};
+ghost use Rattle.omi_commands.specs.Fates.{look_fates};
 ghost use Rattle.omi_walk.specs.Kept.{task_names};
 ghost use Rattle.omi_word.specs.Words.{words_of};
 ghost use Rattle.omi_park.specs.Kept.{HoldsTasks, IsCopy};
 
 use omi::session_over;
 use omi_calls::{CoreCalls, Table, ToHost};
+use omi_commands::{KeptTasks, fates};
 use omi_corefile::core_of;
 use omi_frame::Refusal;
-use omi_verbs::{KeptTasks, fates};
 use omi_walk::{WalkFault, kept};
 use omi_word::{Image, Natives, OutOfMemory};
 use std::alloc::{AllocError, Global};

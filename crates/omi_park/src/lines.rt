@@ -3,8 +3,8 @@
 ghost use Rattle.std.specs.Prelude.{◌≡◌, ◌++◌, IfOk, OnOk, string_bytes};
 ghost use Rattle.omi_park.specs.Lines.{steps_lines, stop_head};
 
+use omi_commands::push_steps_line;
 use omi_script::NumList;
-use omi_verbs::push_steps_line;
 use omi_word::OutOfMemory;
 use std::alloc::{AllocError, Global};
 use std::fmt::Write;

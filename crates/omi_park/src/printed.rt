@@ -3,16 +3,16 @@
 ghost use Rattle.std.specs.Prelude.{◌≡◌, ◌≤◌, ℕ, [], List, IfOk, IsTrue, length, Ok, string_bytes};
 ghost use Rattle.omi_corefile.specs.Limits.{rises_from};
 ghost use Rattle.omi_model.specs.declared.id.Tid.{Tid};
-ghost use Rattle.omi_verbs.specs.Cores.{thread_ids};
-ghost use Rattle.omi_verbs.specs.Fates.{look_fates};
+ghost use Rattle.omi_commands.specs.Cores.{thread_ids};
+ghost use Rattle.omi_commands.specs.Fates.{look_fates};
 ghost use Rattle.omi_word.specs.Words.{words_of};
 ghost use Rattle.omi_park.specs.Kept.{AreCopies, AreStopsLooked, HoldsBefore, IsCopy, IsStopPushed};
 
 use crate::copies::{fates_of, tasks_of};
 use crate::lines::head_of;
 use crate::stopped::{StopList, Stopped};
+use omi_commands::{KeptTasks, contexts_of, view_of};
 use omi_text::report_text;
-use omi_verbs::{KeptTasks, contexts_of, view_of};
 use omi_word::{Image, Natives, OutOfMemory};
 use std::alloc::Global;
 

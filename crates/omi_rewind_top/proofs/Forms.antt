@@ -9,8 +9,8 @@ use Rattle.omi_numbers.specs.Names.{number_in}
 use Rattle.omi_numbers.specs.States.{states}
 use Rattle.omi_rewind.specs.declared.limits.TheConstants.{LAST_STEP}
 use Rattle.omi_usage.specs.Form.{Want, File, Number, Numbers, OneOf, are_numbers, bare_form, fits, fits_form, fits_one, is_command_of, is_comma, is_one_of, no_form, options_fit, words_fit}
-use Rattle.omi_verbs.specs.Options.{has_option}
-use Rattle.omi_verbs.proofs.Forms.{no_options, unless_has}
+use Rattle.omi_commands.specs.Options.{has_option}
+use Rattle.omi_commands.proofs.Forms.{no_options, unless_has}
 use Rattle.omi_rewind_top.specs.Command.{FindState, GoTo, RewindCommand, at_of, command_by, numbers_in, steps_of, verb_of, when_of}
 use Rattle.omi_rewind_top.specs.Forms.{at_form, rewind_forms, when_form}
 use Rattle.omi_rewind_top.specs.declared.limits.TheConstants.{MOST_JUMPS, MOST_NUMBER}

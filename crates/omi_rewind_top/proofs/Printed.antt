@@ -26,7 +26,7 @@ use Rattle.omi_rewind.specs.declared.rewind.At.TheVariants.{Here, Done}
 use Rattle.omi_script.specs.declared.program.Program.{Program}
 use Rattle.omi_session.proofs.NamesReached.{reached_are_names}
 use Rattle.omi_text.specs.Report.{report}
-use Rattle.omi_verbs.specs.Cores.{thread_ids}
+use Rattle.omi_commands.specs.Cores.{thread_ids}
 use Rattle.omi_word.specs.Words.{words_of}
 use Rattle.omi_rewind_top.specs.Lines.{place_line, step_line}
 use Rattle.omi_rewind_top.specs.Looked.{AreStepsLooked, IsInTurn, IsStepLooked, StandsAt}

@@ -21,10 +21,10 @@ use Rattle.omi_rewind.specs.declared.test.Test.{Test}
 use Rattle.omi_rewind.specs.declared.test.Test.TheVariants.{State}
 use Rattle.omi_script.specs.declared.program.Program.{Program}
 use Rattle.omi_session.proofs.NamesReached.{reached_are_names}
-use Rattle.omi_verbs.specs.Cores.{thread_ids}
+use Rattle.omi_commands.specs.Cores.{thread_ids}
 use Rattle.omi_word.specs.Memory.{IsWordOf, word_at}
 use Rattle.omi_word.specs.declared.op.Op.TheVariants.{Load}
-use Rattle.omi_verbs.specs.Imaged.{ShowsSome}
+use Rattle.omi_commands.specs.Imaged.{ShowsSome}
 use Rattle.omi_rewind_top.specs.Looked.{IsInTurn}
 use Rattle.omi_rewind_top.specs.Turns.{IsTurned, IsWhenText}
 use Rattle.omi_rewind_top.specs.Lines.{first_line}

@@ -8,7 +8,7 @@ use Rattle.omi_line.specs.declared.line.Line.{Line}
 use Rattle.omi_numbers.specs.Names.{number_in}
 use Rattle.omi_numbers.specs.States.{states}
 use Rattle.omi_rewind.specs.declared.limits.TheConstants.{LAST_STEP}
-use Rattle.omi_verbs.specs.Options.{has_option}
+use Rattle.omi_commands.specs.Options.{has_option}
 use Rattle.omi_rewind_top.specs.declared.limits.TheConstants.{MOST_JUMPS, MOST_NUMBER}
 
 -- the steps to go to, or a thread, its state and the last step at which it is looked for; and the name of the script

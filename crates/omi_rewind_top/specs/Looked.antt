@@ -8,7 +8,7 @@ use Rattle.omi_rewind.specs.Rewound.{Rewound, done_in, steps_in, words_at}
 use Rattle.omi_rewind.specs.declared.rewind.At.{At}
 use Rattle.omi_rewind.specs.declared.rewind.At.TheVariants.{Here, Done}
 use Rattle.omi_text.specs.Report.{report}
-use Rattle.omi_verbs.specs.Cores.{thread_ids}
+use Rattle.omi_commands.specs.Cores.{thread_ids}
 use Rattle.omi_word.specs.Words.{words_of}
 use Rattle.omi_rewind_top.specs.Lines.{place_line}
 

@@ -11,7 +11,7 @@ use Rattle.omi_rewind.specs.Rewound.{IsRewound, Rewound, ShowsReached, done_in}
 use Rattle.omi_rewind.specs.declared.test.Test.{Test}
 use Rattle.omi_script.specs.declared.program.Program.{Program}
 use Rattle.omi_text.specs.Report.{report}
-use Rattle.omi_verbs.specs.Cores.{thread_ids}
+use Rattle.omi_commands.specs.Cores.{thread_ids}
 use Rattle.omi_rewind_top.specs.Lines.{first_line, step_line}
 
 -- a rewind of the program in the layout of family 0, whose threads step in turn, from thread 0 on

@@ -11,16 +11,16 @@ ghost use Rattle.omi_rewind.specs.declared.limits.TheConstants.{LAST_STEP};
 ghost use Rattle.omi_rewind_top.specs.Looked.{AreStepsLooked, IsInTurn, IsStepLooked};
 ghost use Rattle.omi_rewind_top.specs.Turns.{IsAtText};
 ghost use Rattle.omi_text.specs.Report.{report};
-ghost use Rattle.omi_verbs.specs.Cores.{thread_ids};
+ghost use Rattle.omi_commands.specs.Cores.{thread_ids};
 ghost use Rattle.omi_word.specs.Words.{words_of};
 
 use crate::lines::place_line;
 use crate::turns::rewind_of;
+use omi_commands::{contexts_of, view_of};
 use omi_layout::Layout;
 use omi_rewind::Rewind;
 use omi_script::Program;
 use omi_text::report_text;
-use omi_verbs::{contexts_of, view_of};
 use omi_word::{Natives, OutOfMemory};
 use std::alloc::Global;
 

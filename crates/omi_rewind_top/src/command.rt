@@ -14,6 +14,7 @@ ghost use Rattle.omi_frame.specs.Refusal.{named};
 
 use crate::limits::MOST_NUMBER;
 use crate::steps_word::steps_of;
+use omi_commands::has_option;
 use omi_frame::{Names, text_of};
 use omi_line::{Line, Text, number};
 use omi_numbers::{
@@ -21,7 +22,6 @@ use omi_numbers::{
     WAIT_TASKGROUP, WAIT_TASKWAIT, WORK_PARALLEL, WORK_SERIAL,
 };
 use omi_rewind::LAST_STEP;
-use omi_verbs::has_option;
 use omi_word::OutOfMemory;
 use std::alloc::Global;
 

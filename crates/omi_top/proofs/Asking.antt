@@ -22,7 +22,7 @@ use Rattle.omi_top.proofs.Files.{begins_front, front_stands}
 use Rattle.omi_top.specs.Files.{Holds, IsKind, IsRefusalBy}
 use Rattle.omi_top.specs.declared.limits.TheConstants.{ELF_FRONT}
 use Rattle.omi_top.specs.Questions.{ComesOfFile, IsAnswerBy, IsAnswerOf, refusal_of_page}
-use Rattle.omi_verbs.specs.Inquiries.{ComesOfWords}
+use Rattle.omi_commands.specs.Inquiries.{ComesOfWords}
 use Rattle.omi_frame.specs.Refusal.{IsReadFault, IsUnread, refusal_of_elf, status_of}
 use Rattle.omi_frame.specs.declared.refusal.Input.TheVariants as input
 use Rattle.omi_frame.specs.declared.refusal.Refusal.{Refusal}

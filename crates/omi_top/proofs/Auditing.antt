@@ -15,7 +15,7 @@ use Rattle.omi_top.specs.Audit.{IsJudged, audit_line, judged}
 use Rattle.omi_top.specs.Command.{Audit}
 use Rattle.omi_top.specs.Cores.{words_of_core}
 use Rattle.omi_top.specs.Questions.{IsAnswerOf, IsUnopened}
-use Rattle.omi_verbs.specs.Inquiries.{ComesOfWords}
+use Rattle.omi_commands.specs.Inquiries.{ComesOfWords}
 use Rattle.omi_frame.specs.Refusal.{IsReadFault, IsUnread}
 use Rattle.omi_frame.specs.declared.refusal.Input.TheVariants as input
 use Rattle.omi_frame.specs.declared.refusal.Refusal.{Refusal}

@@ -44,9 +44,9 @@ use Rattle.omi_top.specs.Between.{AreStops, fates_after, gives_back, is_given_ba
 use Rattle.omi_session.proofs.NamesReached.{reached_are_names}
 use Rattle.omi_top.specs.Cores.{IsLooked, ShowsState, words_of_core}
 use Rattle.omi_top.specs.Follow.{IsFollowed}
-use Rattle.omi_verbs.specs.Fates.{HasRecords, fate_line, is_current, look_fates}
-use Rattle.omi_verbs.proofs.Current.{by_life, found_at, life, told_current, told_stale}
-use Rattle.omi_verbs.proofs.FateLines.{fates_on}
+use Rattle.omi_commands.specs.Fates.{HasRecords, fate_line, is_current, look_fates}
+use Rattle.omi_commands.proofs.Current.{by_life, found_at, life, told_current, told_stale}
+use Rattle.omi_commands.proofs.FateLines.{fates_on}
 use Rattle.omi_top.proofs.LeftByShow.{shown_looked}
 
 -- ---- the events between

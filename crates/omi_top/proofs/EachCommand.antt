@@ -24,7 +24,7 @@ use Rattle.omi_top.specs.Follow.{IsLaterRefusal}
 use Rattle.omi_top.specs.Questions.{refusal_of_layout}
 use Rattle.omi_top.specs.Recode.{IsRecodedCopy}
 use Rattle.omi_top.proofs.Files.{told_holds}
-use Rattle.omi_verbs.specs.Inquiries.{refusal_of_look}
+use Rattle.omi_commands.specs.Inquiries.{refusal_of_look}
 use Rattle.omi_frame.specs.declared.refusal.Refusal.{Refusal}
 use Rattle.omi_frame.specs.declared.refusal.Refusal.TheVariants as refusal
 use Rattle.omi_outside.specs.declared.status.Status.{Status}

@@ -11,9 +11,9 @@ use Rattle.omi_frame.specs.Verb.{Gives}
 use Rattle.omi_top.specs.verbs.Follow.{IsFollowAnswer, IsFollowRefusal}
 use Rattle.omi_top.specs.Cores.{IsLooked, words_of_core}
 use Rattle.omi_top.specs.Follow.{AreUnlike, IsFollowed, IsLaterRefusal, IsUnfollowed}
-use Rattle.omi_verbs.specs.Fates.{look_fates}
+use Rattle.omi_commands.specs.Fates.{look_fates}
 use Rattle.omi_top.specs.Questions.{refusal_of_layout}
-use Rattle.omi_verbs.specs.Inquiries.{refusal_of_look}
+use Rattle.omi_commands.specs.Inquiries.{refusal_of_look}
 use Rattle.omi_top.proofs.Files.{file_not_refused, file_unique, one_told}
 use Rattle.omi_top.proofs.ShowVerdicts.{one_refusal, one_view, report_not_refused}
 use Rattle.omi_frame.specs.declared.refusal.Refusal.{Refusal}

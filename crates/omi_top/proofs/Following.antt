@@ -26,7 +26,7 @@ use Rattle.omi_session.specs.Tells.{Tells}
 use Rattle.omi_session.specs.declared.rc.Rc.{Rc}
 use Rattle.omi_session.specs.declared.rc.Rc.TheVariants as code
 use Rattle.omi_top.proofs.Asking.{IsOfCommand}
-use Rattle.omi_verbs.proofs.FateLines.{names}
+use Rattle.omi_commands.proofs.FateLines.{names}
 use Rattle.omi_top.proofs.Files.{told_as}
 use Rattle.omi_top.proofs.Opening.{cause_refusal, tells_core}
 use Rattle.omi_frame.specs.Left.{IsAnswered, IsEarly}
@@ -34,10 +34,10 @@ use Rattle.omi_top.specs.Command.{Follow}
 use Rattle.omi_top.specs.Cores.{IsLooked, words_of_core}
 use Rattle.omi_top.specs.Files.{IsFileOf, IsFileRefusal}
 use Rattle.omi_top.specs.Follow.{AreFates, AreFatesOf, IsFollowed, IsKept, IsLaterRefusal, KeepsTasks, of_later, kept_in}
-use Rattle.omi_verbs.specs.Fates.{AreLines, HoldsEach, look_fates}
+use Rattle.omi_commands.specs.Fates.{AreLines, HoldsEach, look_fates}
 use Rattle.omi_top.specs.Questions.{IsAnswerOf, refusal_of_layout}
-use Rattle.omi_verbs.specs.Inquiries.{ComesOfWords, refusal_of_code, refusal_of_look}
-use Rattle.omi_verbs.specs.declared.kept_tasks.KeptTasks.{KeptTasks}
+use Rattle.omi_commands.specs.Inquiries.{ComesOfWords, refusal_of_code, refusal_of_look}
+use Rattle.omi_commands.specs.declared.kept_tasks.KeptTasks.{KeptTasks}
 use Rattle.omi_frame.specs.Refusal.{IsReadFault, IsUnread}
 use Rattle.omi_frame.specs.declared.refusal.Input.TheVariants as input
 use Rattle.omi_frame.specs.declared.refusal.Refusal.{Refusal}

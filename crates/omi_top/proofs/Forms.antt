@@ -7,9 +7,9 @@ use Rattle.omi_core.specs.declared.stop.Break.{Break}
 use Rattle.omi_line.specs.Number.{number_between}
 use Rattle.omi_line.specs.declared.line.Line.{Line}
 use Rattle.omi_usage.specs.Form.{CommandForm, File, Number, Want, bare_form, fits_form, fits_one, is_command_of, no_form, options_fit, stand_together, value_fits, words_fit}
-use Rattle.omi_verbs.specs.Options.{break_named, layout_of}
-use Rattle.omi_verbs.specs.Forms.{a_breakpoint, a_layout}
-use Rattle.omi_verbs.proofs.Forms.{breakpoint_fits, layout_fits, no_options}
+use Rattle.omi_commands.specs.Options.{break_named, layout_of}
+use Rattle.omi_commands.specs.Forms.{a_breakpoint, a_layout}
+use Rattle.omi_commands.proofs.Forms.{breakpoint_fits, layout_fits, no_options}
 use Rattle.omi_top.specs.Command.{Audit, Command, Elf, Faulty, Follow, Make, Recode, Run, Show, Stop, and_shown, audit_by, command_by, elf_by, follow_by, has_option, make_by, recode_by, run_by, show_by, stop_by, verb_by}
 use Rattle.omi_top.specs.Plan.{break_of, plan_of, plan_with, seed_of}
 use Rattle.omi_top.specs.Forms.{audit_form, elf_form, follow_form, is_asked, make_form, recode_form, run_form, run_forms, show_form, stop_form, with_options}

@@ -20,7 +20,7 @@ use Rattle.omi_top.proofs.Files.{core_is_file}
 use Rattle.omi_top.proofs.FollowVerdicts.{follow_not_refused, one_follow_answer, one_follow_refusal}
 use Rattle.omi_frame.proofs.Statuses.{DidMore, DoesMore, IsDoneStatus, one_content, comes_where, never_refused, written_more}
 use Rattle.omi_top.proofs.TwoStops.{by_runs, stops_of}
-use Rattle.omi_verbs.specs.Cores.{thread_ids}
+use Rattle.omi_commands.specs.Cores.{thread_ids}
 use Rattle.omi_frame.specs.Refusal.{status_of}
 use Rattle.omi_frame.specs.declared.refusal.Refusal.{Refusal}
 use Rattle.omi_top.specs.CommandVerbs.{AreTold, IsAnswer, verb_of}

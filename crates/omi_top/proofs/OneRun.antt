@@ -22,7 +22,7 @@ use Rattle.omi_core.specs.RunSteps.{event_of}
 use Rattle.omi_core.specs.Schedules.{threads_by}
 use Rattle.omi_core.specs.Steps.{events_behind, opening_watches}
 use Rattle.omi_core.proofs.Reaching.{reached_one}
-use Rattle.omi_verbs.specs.Cores.{thread_ids}
+use Rattle.omi_commands.specs.Cores.{thread_ids}
 use Rattle.omi_top.specs.declared.plan.Plan.{Plan}
 use Rattle.omi_top.specs.verbs.Stop.{IsStopped}
 use Rattle.omi_top.specs.Determined.{IsOneRun, MakesAreDetermined, RunsAreDetermined, StopsAreDetermined}

@@ -20,7 +20,7 @@ use Rattle.omi_session.specs.declared.rc.Rc.{Rc}
 use Rattle.omi_session.specs.declared.rc.Rc.TheVariants as code
 use Rattle.omi_top.specs.Cores.{IsLooked, words_of_core}
 use Rattle.omi_top.specs.Questions.{IsLayoutRefusal, IsUnopened, refusal_of_layout}
-use Rattle.omi_verbs.specs.Inquiries.{ComesOfWords, refusal_of_code}
+use Rattle.omi_commands.specs.Inquiries.{ComesOfWords, refusal_of_code}
 use Rattle.omi_top.specs.Shown.{IsViewed, handed_on}
 use Rattle.omi_frame.specs.Refusal.{IsReadFault}
 use Rattle.omi_frame.specs.declared.refusal.Refusal.{Refusal}

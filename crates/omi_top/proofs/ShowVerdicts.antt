@@ -18,7 +18,7 @@ use Rattle.omi_top.specs.Files.{HasFault}
 use Rattle.omi_top.specs.Cores.{IsDamaged, IsIncompatible, IsLooked, IsWrongTable, LacksTable, Spells, words_of_core}
 use Rattle.omi_top.specs.Questions.{refusal_of_layout}
 use Rattle.omi_top.specs.Shown.{IsRefusedCore}
-use Rattle.omi_verbs.specs.Inquiries.{refusal_of_look}
+use Rattle.omi_commands.specs.Inquiries.{refusal_of_look}
 use Rattle.omi_frame.specs.Refusal.{status_of}
 use Rattle.omi_frame.specs.declared.refusal.Input.TheVariants as input
 use Rattle.omi_frame.specs.declared.refusal.Refusal.{Refusal}

@@ -15,7 +15,7 @@ use Rattle.omi_top.specs.Command.{Stop as StopCommand}
 use Rattle.omi_top.specs.Kinds.{IsUnwrittenBy}
 use Rattle.omi_top.specs.CommandVerbs.{IsAnswer, verb_of}
 use Rattle.omi_top.specs.verbs.Stop.{IsStopped}
-use Rattle.omi_verbs.specs.Cores.{IsCoreOf, thread_ids}
+use Rattle.omi_commands.specs.Cores.{IsCoreOf, thread_ids}
 use Rattle.omi_top.specs.Lines.{run_text}
 use Rattle.omi_core.specs.declared.stop.End.{End}
 use Rattle.omi_top.specs.Ran.{IsRanBy}

@@ -15,16 +15,16 @@ use Rattle.omi_model.proofs.Slots.{some_same}
 use Rattle.omi_outside.specs.declared.status.Status.{Status}
 use Rattle.omi_rep.specs.Shows.{Shows}
 use Rattle.omi_script.specs.declared.program.Program.{Program}
-use Rattle.omi_verbs.specs.Cores.{thread_ids}
+use Rattle.omi_commands.specs.Cores.{thread_ids}
 use Rattle.omi_word.specs.Words.{Words, words_of}
 use Rattle.omi_top.specs.verbs.Stop.{IsStopped}
 use Rattle.omi_top.specs.Between.{AreOfOneRun, AreStops, IsFollowedFrom, events_between}
-use Rattle.omi_verbs.specs.Fates.{HasRecords}
+use Rattle.omi_commands.specs.Fates.{HasRecords}
 use Rattle.omi_top.specs.Run.{IsRun}
 use Rattle.omi_top.specs.declared.plan.Plan.{Plan}
-use Rattle.omi_verbs.proofs.Current.{image_records}
-use Rattle.omi_verbs.proofs.ImageWords.{image_words}
-use Rattle.omi_verbs.proofs.Lengths.{steps_long}
+use Rattle.omi_commands.proofs.Current.{image_records}
+use Rattle.omi_commands.proofs.ImageWords.{image_words}
+use Rattle.omi_commands.proofs.Lengths.{steps_long}
 use Rattle.omi_top.proofs.OneRun.{events_more, later_steps}
 
 -- the events behind some of those that lead to a state lead on from the state that these reach

@@ -1,6 +1,6 @@
 -- A request of the program as a command.
 use Rattle.std.specs.Prelude.{◌≡◌, ◌≤◌, ℕ, List, IfSome, ⊤}
-use Rattle.omi_verbs.specs.declared.limits.TheConstants.{MOST_LAYOUT}
+use Rattle.omi_commands.specs.declared.limits.TheConstants.{MOST_LAYOUT}
 use Rattle.omi_top.specs.declared.limits.TheConstants.{MOST_NODES}
 use Rattle.omi_top.specs.Command.{Command, Stop, Make, Show, Run, Recode, Elf, Audit, Follow, Faulty}
 use Rattle.omi_top.specs.Make.{make_text}

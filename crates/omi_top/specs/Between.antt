@@ -22,7 +22,7 @@ use Rattle.omi_script.specs.declared.program.Program.{Program}
 use Rattle.omi_walk.specs.Kept.{task_names}
 use Rattle.omi_top.specs.verbs.Stop.{IsStopped}
 use Rattle.omi_top.specs.Cores.{words_of_core}
-use Rattle.omi_verbs.specs.Fates.{HasRecords, fate_line}
+use Rattle.omi_commands.specs.Fates.{HasRecords, fate_line}
 use Rattle.omi_top.specs.declared.plan.Plan.{Plan}
 
 -- one of these events gives a task back

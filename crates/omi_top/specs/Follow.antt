@@ -18,10 +18,10 @@ use Rattle.omi_word.specs.Words.{Words}
 use Rattle.omi_top.specs.Cores.{Spells, words_of_core}
 use Rattle.omi_top.specs.Files.{IsFileRefusal}
 use Rattle.omi_top.specs.Questions.{IsLayoutRefusal}
-use Rattle.omi_verbs.specs.Fates.{AreHeld, look_fates}
-use Rattle.omi_verbs.specs.Inquiries.{refusal_of_look, refusal_of_walk}
+use Rattle.omi_commands.specs.Fates.{AreHeld, look_fates}
+use Rattle.omi_commands.specs.Inquiries.{refusal_of_look, refusal_of_walk}
 use Rattle.omi_top.specs.Shown.{IsRefusedCore}
-use Rattle.omi_verbs.specs.declared.kept_tasks.KeptTasks.{KeptTasks}
+use Rattle.omi_commands.specs.declared.kept_tasks.KeptTasks.{KeptTasks}
 use Rattle.omi_frame.specs.Refusal.{IsUnread}
 use Rattle.omi_frame.specs.declared.refusal.Input.TheVariants as input
 use Rattle.omi_frame.specs.declared.refusal.Refusal.{Refusal}

@@ -1,7 +1,7 @@
 -- The forms of the program's commands.
 use Rattle.std.specs.Prelude.{Bool, true, false, List, [], ◌∷◌, Some, codes}
 use Rattle.omi_usage.specs.Form.{CommandForm, File, Number, Verb, Want, bare_form}
-use Rattle.omi_verbs.specs.Forms.{a_breakpoint, a_layout}
+use Rattle.omi_commands.specs.Forms.{a_breakpoint, a_layout}
 use Rattle.omi_top.specs.Command.{Command, Faulty}
 use Rattle.omi_top.specs.declared.limits.TheConstants.{MOST_COUNT, MOST_NODES, MOST_SEED, MOST_STEPS}
 

@@ -2,7 +2,7 @@
 use Rattle.std.specs.Prelude.{ℕ, List, [], ◌∷◌, ◌++◌, length, codes}
 use Rattle.std.specs.Fmt.{decimal}
 use Rattle.omi_model.specs.declared.event.Event.{Event}
-use Rattle.omi_verbs.specs.EventLines.{event_lines}
+use Rattle.omi_commands.specs.EventLines.{event_lines}
 use Rattle.omi_core.specs.declared.stop.End.{End}
 use Rattle.omi_core.specs.declared.stop.End.TheVariants as end
 

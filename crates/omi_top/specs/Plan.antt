@@ -4,7 +4,7 @@ use Rattle.omi_line.specs.Number.{number_between}
 use Rattle.omi_line.specs.declared.line.Line.{Line}
 use Rattle.omi_core.specs.declared.stop.Break.{Break}
 use Rattle.omi_top.specs.declared.limits.TheConstants.{MOST_STEPS, MOST_SEED, MOST_COUNT}
-use Rattle.omi_verbs.specs.Options.{break_named, layout_of}
+use Rattle.omi_commands.specs.Options.{break_named, layout_of}
 use Rattle.omi_top.specs.declared.plan.Plan.{Plan}
 
 -- Each of the following is None where the option is refused.

@@ -13,7 +13,7 @@ use Rattle.omi_core.specs.Ends.{IsEnded}
 use Rattle.omi_core.specs.Runs.{events_in}
 use Rattle.omi_core.specs.Schedules.{threads_by}
 use Rattle.omi_text.specs.Report.{report}
-use Rattle.omi_verbs.specs.Cores.{thread_ids}
+use Rattle.omi_commands.specs.Cores.{thread_ids}
 use Rattle.omi_top.specs.declared.plan.Plan.{Plan}
 use Rattle.omi_top.specs.Lines.{run_text}
 use Rattle.omi_top.specs.Run.{thread_schedule}

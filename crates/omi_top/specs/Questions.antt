@@ -10,7 +10,7 @@ use Rattle.omi_page.specs.declared.fault.PageError.TheVariants as page
 use Rattle.omi_top.specs.Cores.{words_of_core}
 use Rattle.omi_elf.specs.Header.{begins_as_elf}
 use Rattle.omi_top.specs.Files.{IsCoreBy, IsFaultBy, IsRefusalBy}
-use Rattle.omi_verbs.specs.Inquiries.{ComesOfWords}
+use Rattle.omi_commands.specs.Inquiries.{ComesOfWords}
 use Rattle.omi_frame.specs.Refusal.{IsUnread}
 use Rattle.omi_frame.specs.declared.refusal.Input.TheVariants as input
 use Rattle.omi_frame.specs.declared.refusal.Refusal.{Refusal}

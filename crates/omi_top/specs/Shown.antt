@@ -5,7 +5,7 @@ use Rattle.omi_model.specs.declared.view.View.{View}
 use Rattle.omi_rep.specs.declared.fault.LookFault.{LookFault}
 use Rattle.omi_top.specs.Cores.{IsLooked}
 use Rattle.omi_top.specs.Questions.{IsLayoutRefusal}
-use Rattle.omi_verbs.specs.Inquiries.{refusal_of_look, refusal_of_walk}
+use Rattle.omi_commands.specs.Inquiries.{refusal_of_look, refusal_of_walk}
 use Rattle.omi_frame.specs.Refusal.{IsUnread}
 use Rattle.omi_frame.specs.declared.refusal.Input.TheVariants as input
 use Rattle.omi_frame.specs.declared.refusal.Refusal.{Refusal}

@@ -3,8 +3,8 @@
 ghost use Rattle.std.specs.Prelude.{◌≡◌, ◌++◌, IfOk, string_bytes};
 ghost use Rattle.omi_top.specs.Lines.{end_word, end_line};
 
+use omi_commands::Lines;
 use omi_core::End;
-use omi_verbs::Lines;
 use std::alloc::AllocError;
 use std::fmt::Write;
 

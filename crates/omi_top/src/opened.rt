@@ -10,13 +10,13 @@ ghost use Rattle.omi_outside.specs.Outside.{HasCause};
 ghost use Rattle.omi_session.specs.Opened.{IsFresh};
 ghost use Rattle.omi_top.specs.Cores.{words_of_core};
 ghost use Rattle.omi_top.specs.Questions.{IsUnopened};
-ghost use Rattle.omi_verbs.specs.Inquiries.{ComesOfWords, refusal_of_code};
+ghost use Rattle.omi_commands.specs.Inquiries.{ComesOfWords, refusal_of_code};
 ghost use Rattle.omi_frame.specs.Refusal.{IsReadFault};
 
 use omi_calls::{Callbacks, Table, ToHost};
+use omi_commands::refusal_of_code;
 use omi_frame::Refusal;
 use omi_session::{API_VERSION, Session, initialize};
-use omi_verbs::refusal_of_code;
 use std::alloc::Global;
 
 /// The layout in a session is one that a type keeps, so it is valid.

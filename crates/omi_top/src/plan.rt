@@ -7,10 +7,10 @@ ghost use Rattle.omi_top.specs.Run.{thread_schedule};
 ghost use Rattle.omi_line.specs.Line.{IsText};
 
 use crate::limits::{MOST_COUNT, MOST_SEED, MOST_STEPS};
+use omi_commands::{break_named, layout_of};
 use omi_core::{Break, Schedule, Stop};
 use omi_frame::text_of;
 use omi_line::{Line, Text, number};
-use omi_verbs::{break_named, layout_of};
 
 /// What a run is to be.
 #[derive(Clone, Copy)]

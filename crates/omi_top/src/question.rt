@@ -10,7 +10,7 @@ ghost use Rattle.omi_page.specs.Borrowed.{faults_counted, told_of};
 ghost use Rattle.omi_page.specs.Lending.{IsLent};
 ghost use Rattle.omi_top.specs.Files.{Holds, IsKind, IsRefusalBy};
 ghost use Rattle.omi_top.specs.Questions.{ComesOfFile, IsAnswerBy, IsAnswerOf, refusal_of_page};
-ghost use Rattle.omi_verbs.specs.Inquiries.{ComesOfWords};
+ghost use Rattle.omi_commands.specs.Inquiries.{ComesOfWords};
 ghost use Rattle.omi_frame.specs.Refusal.{IsReadFault, IsUnread};
 ghost use Rattle.omi_frame.specs.declared.refusal.Refusal.{Refusal as Why};
 

@@ -14,12 +14,12 @@ ghost use Rattle.omi_frame.specs.Seen.{files_seen};
 use crate::lines::text_of;
 use crate::plan::Plan;
 use crate::run::run_of;
+use omi_commands::{Lines, contexts_of, write_core};
 use omi_core::Recorded;
 use omi_corefile::image_makes_a_core;
 use omi_frame::{Refusal, program_of};
 use omi_outside::Files;
 use omi_script::Program;
-use omi_verbs::{Lines, contexts_of, write_core};
 use omi_word::{Image, Natives, OutOfMemory};
 use std::alloc::Global;
 

@@ -8,8 +8,8 @@ ghost use Rattle.omi_top.specs.Command.{command_in};
 ghost use Rattle.omi_top.specs.Forms.{audit_form, elf_form, follow_form, is_asked, make_form, recode_form, run_form, run_forms, show_form, stop_form, with_options};
 
 use crate::limits::{MOST_COUNT, MOST_NODES, MOST_SEED, MOST_STEPS};
+use omi_commands::{breakpoint_wanted, layout_wanted};
 use omi_usage::{Complaint, Form, Wanted, complaint_of};
-use omi_verbs::{breakpoint_wanted, layout_wanted};
 
 /// A command with these words and the options of a run.
 fn with_options(words: &'static [Wanted]) -> Form

@@ -9,7 +9,7 @@ use Rattle.omi_frame.specs.Refusal.{status_of}
 use Rattle.omi_frame.specs.Statuses.{ComesWhere, IsDoneOrFailed}
 use Rattle.omi_frame.specs.Verb.{Gives, Answer, Verb}
 use Rattle.omi_frame.specs.declared.refusal.Refusal.{Refusal}
-use Rattle.omi_verbs.specs.Cores.{thread_ids}
+use Rattle.omi_commands.specs.Cores.{thread_ids}
 use Rattle.omi_top.specs.Between.{AreOfOneRun, AreStops, IsFollowedFrom, events_between}
 use Rattle.omi_top.specs.Files.{IsFileOf}
 use Rattle.omi_top.specs.declared.plan.Plan.{Plan}

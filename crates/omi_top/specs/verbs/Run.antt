@@ -11,7 +11,7 @@ use Rattle.omi_model.specs.declared.view.View.{View}
 use Rattle.omi_text.specs.Report.{report}
 use Rattle.omi_frame.specs.Scripts.{HoldsProgram}
 use Rattle.omi_frame.specs.Statuses.{ComesWhere, IsDoneOrFailed, IsOutsideStatus}
-use Rattle.omi_verbs.specs.Cores.{thread_ids}
+use Rattle.omi_commands.specs.Cores.{thread_ids}
 use Rattle.omi_top.specs.Cores.{IsDamaged, IsIncompatible, Spells}
 use Rattle.omi_top.specs.Files.{HasFault}
 use Rattle.omi_top.specs.declared.plan.Plan.{Plan}

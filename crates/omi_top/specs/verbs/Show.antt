@@ -10,7 +10,7 @@ use Rattle.omi_model.specs.Views.{IsViewOf}
 use Rattle.omi_model.specs.declared.view.View.{View}
 use Rattle.omi_text.specs.Report.{report}
 use Rattle.omi_frame.specs.Statuses.{ComesWhere, IsDoneOrFailed}
-use Rattle.omi_verbs.specs.Cores.{IsReachedCore, thread_ids}
+use Rattle.omi_commands.specs.Cores.{IsReachedCore, thread_ids}
 use Rattle.omi_top.specs.Cores.{AreAlike, IsDamaged, IsIncompatible, IsLooked, ShowsState, Spells}
 use Rattle.omi_top.specs.Files.{HasFault, IsFileOf, IsFileRefusal}
 use Rattle.omi_top.specs.Recode.{IsRecoded}

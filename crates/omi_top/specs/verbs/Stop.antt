@@ -18,7 +18,7 @@ use Rattle.omi_core.specs.Steps.{events_behind}
 use Rattle.omi_frame.specs.OfScript.{IsScript}
 use Rattle.omi_frame.specs.Scripts.{IsScriptRefusal}
 use Rattle.omi_frame.specs.Verb.{Answer, Gives, Verb}
-use Rattle.omi_verbs.specs.Cores.{IsCoreOf, thread_ids}
+use Rattle.omi_commands.specs.Cores.{IsCoreOf, thread_ids}
 use Rattle.omi_top.specs.Kinds.{IsUnwrittenBy, to_write}
 use Rattle.omi_top.specs.Lines.{run_text}
 use Rattle.omi_top.specs.Run.{IsRun}

@@ -5,9 +5,9 @@ use Rattle.omi_corefile.specs.Spelling.{core_bytes}
 use Rattle.omi_script.proofs.RuleLemmas.{Rules-from_accepted}
 use Rattle.omi_core.specs.Runs.{events_in}
 use Rattle.omi_core.specs.Steps.{events_behind}
-use Rattle.omi_verbs.proofs.CoreFiles.{core_of_ids}
-use Rattle.omi_verbs.proofs.ThreadIds.{count, rising}
-use Rattle.omi_verbs.specs.Cores.{thread_ids}
+use Rattle.omi_commands.proofs.CoreFiles.{core_of_ids}
+use Rattle.omi_commands.proofs.ThreadIds.{count, rising}
+use Rattle.omi_commands.specs.Cores.{thread_ids}
 use Rattle.omi_live.proofs.run.run_of.Goals as goal
 
 pub image_makes_a_core-requires-clause-rising : goal.image_makes_a_core-requires-clause-rising

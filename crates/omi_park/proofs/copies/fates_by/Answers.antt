@@ -1,7 +1,7 @@
 use Rattle.std.proofs.Common.{◌≡◌, ◌≤◌, ◌∙◌, Some, Ok, Err, sym, ap, subst, arith}
 use Rattle.omi_calls.specs.CoreCalls.{told_of_core}
 use Rattle.omi_calls.specs.Told.{Told}
-use Rattle.omi_verbs.proofs.Imaged.{core_words}
+use Rattle.omi_commands.proofs.Imaged.{core_words}
 use Rattle.omi_frame.specs.Refusal.{IsReadFault}
 use Rattle.omi_park.proofs.Asking.{fates_free, goes_on, lines_on, names, one_order}
 use Rattle.omi_park.proofs.copies.fates_by.Goals as goal

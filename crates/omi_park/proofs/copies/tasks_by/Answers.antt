@@ -1,7 +1,7 @@
 use Rattle.std.proofs.Common.{◌≡◌, ◌≤◌, ℕ, List, ap, subst, arith}
 use Rattle.omi_layout.proofs.OneAnswer.{one_layout}
 use Rattle.omi_layout.specs.Given.{GivesLayout}
-use Rattle.omi_verbs.proofs.Imaged.{core_words, opens, walk_gives}
+use Rattle.omi_commands.proofs.Imaged.{core_words, opens, walk_gives}
 use Rattle.omi_walk.specs.Gives.{Looks}
 use Rattle.omi_walk.specs.Kept.{look_names, names_kept}
 use Rattle.omi_word.specs.Words.{Words, words_of}

@@ -1,8 +1,8 @@
 use Rattle.std.proofs.Common.{refl}
 use Rattle.std.specs.Prelude.{string_bytes}
 use Rattle.omi_park.specs.Lines.{steps_lines}
-use Rattle.omi_verbs.proofs.RunLines.{one_line_more}
-use Rattle.omi_verbs.specs.RunLines.{steps_line}
+use Rattle.omi_commands.proofs.RunLines.{one_line_more}
+use Rattle.omi_commands.specs.RunLines.{steps_line}
 use Rattle.omi_park.proofs.lines.push_steps.Goals as goal
 
 pub loop-thread-preserved : goal.loop-thread-preserved

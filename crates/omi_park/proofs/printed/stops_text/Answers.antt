@@ -2,8 +2,8 @@ use Rattle.std.proofs.Common.{◌≤◌, ℕ, ◌+◌, List, [], length, refl, s
 use Rattle.std.specs.Prelude.{IsTrue}
 use Rattle.std.proofs.lemmas.List.{take_all}
 use Rattle.omi_corefile.specs.Limits.{rises_from}
-use Rattle.omi_verbs.proofs.ThreadIds.{count, rising}
-use Rattle.omi_verbs.specs.Cores.{thread_ids}
+use Rattle.omi_commands.proofs.ThreadIds.{count, rising}
+use Rattle.omi_commands.specs.Cores.{thread_ids}
 use Rattle.omi_park.specs.Kept.{AreStopsLooked, IsStopPushed}
 use Rattle.omi_park.specs.declared.stopped.Stopped.{Stopped}
 use Rattle.omi_park.proofs.Showing.{pushed_more}

@@ -1,6 +1,6 @@
 use Rattle.std.proofs.Common.{◌≡◌, ℕ, List, [], length, take}
 use Rattle.omi_model.specs.declared.id.Tid.{Tid}
-use Rattle.omi_verbs.specs.Cores.{thread_ids}
+use Rattle.omi_commands.specs.Cores.{thread_ids}
 use Rattle.omi_park.specs.Kept.{AreCopies, AreStopsLooked, HoldsBefore}
 use Rattle.omi_park.proofs.printed.stops_text.Given as goal
 

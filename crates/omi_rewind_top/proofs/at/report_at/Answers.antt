@@ -6,8 +6,8 @@ use Rattle.omi_layout.specs.Given.{GivesLayout}
 use Rattle.omi_rep.specs.LookView.{look_view}
 use Rattle.omi_word.specs.Words.{words_of}
 use Rattle.omi_rewind_top.proofs.Turned.{image_shows}
-use Rattle.omi_verbs.specs.Imaged.{ShowsSome}
-use Rattle.omi_verbs.proofs.ThreadIds.{count, rising}
+use Rattle.omi_commands.specs.Imaged.{ShowsSome}
+use Rattle.omi_commands.proofs.ThreadIds.{count, rising}
 use Rattle.omi_rewind_top.proofs.at.report_at.Goals as goal
 
 pub view_of-requires-clause-few : goal.view_of-requires-clause-few

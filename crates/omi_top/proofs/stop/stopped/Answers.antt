@@ -3,10 +3,10 @@ use Rattle.std.specs.Prelude.{IsTrue}
 use Rattle.omi_corefile.specs.Limits.{rises_from}
 use Rattle.omi_corefile.specs.Spelling.{core_bytes}
 use Rattle.omi_script.proofs.RuleLemmas.{Rules-from_accepted}
-use Rattle.omi_verbs.specs.EventLines.{AreLinesOf, event_lines}
-use Rattle.omi_verbs.proofs.CoreFiles.{core_of_ids}
-use Rattle.omi_verbs.proofs.ThreadIds.{count, rising}
-use Rattle.omi_verbs.specs.Cores.{thread_ids}
+use Rattle.omi_commands.specs.EventLines.{AreLinesOf, event_lines}
+use Rattle.omi_commands.proofs.CoreFiles.{core_of_ids}
+use Rattle.omi_commands.proofs.ThreadIds.{count, rising}
+use Rattle.omi_commands.specs.Cores.{thread_ids}
 use Rattle.omi_top.specs.Lines.{end_line}
 use Rattle.omi_top.proofs.Running.{made_run}
 use Rattle.omi_top.proofs.Stopping.{made_stopped}

@@ -1,7 +1,0 @@
-use Rattle.std.proofs.Common.{◌≡◌}
-use Rattle.omi_verbs.specs.Cores.{thread_ids}
-use Rattle.omi_verbs.proofs.cores.contexts_of.Given as goal
-
--- the ids of the threads that were passed
-abbrev pub invariant-loop-thread : goal.invariant-loop-thread
-invariant-loop-thread l = l.ids ≡ thread_ids l.thread
