@@ -179,10 +179,9 @@ fn each_kind_of_break_stops(rt: HostRuntime) -> Result<(), Fail> {
 fn a_break_is_the_last_event_of_a_member(rt: HostRuntime) -> Result<(), Fail> {
     for (name, kind) in BREAKS {
         let count = stopped_by(&rt, rt.alloc(), TASKS, name, kind)?;
-        assert!(&rt;
-            count > 0 || name == "task_end" || name == "parallel_end",
-            "{name}"
-        );
+        let is_late = matches!(name, "task_end" | "parallel_end");
+        let is_right = is_late || count > 0;
+        assert!(&rt; is_right, "{name}");
     }
     Ok(())
 }
