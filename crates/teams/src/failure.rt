@@ -6,8 +6,12 @@ use thiserror::Error;
 
 #[derive(Clone, Copy, Debug, PartialEq, Eq, Error)]
 pub enum Failure {
-    #[error("usage: teams CORE")]
-    Usage,
+    #[error("no core is named: teams CORE")]
+    NoName,
+    #[error("more than one core is named: teams CORE")]
+    MoreNames,
+    #[error("a word is no text in UTF-8: teams CORE")]
+    NoText,
     #[error("{0}")]
     NotOpened(#[from] OpenError),
     /// An inquiry was refused.
@@ -23,7 +27,7 @@ impl Failure {
     /// 1 for no such command, 2 for a file that cannot be read, 3 for a core that is none or is damaged, and 4 for want of memory.
     pub fn status(&self) -> u8 {
         match self {
-            Failure::Usage => 1,
+            Failure::NoName | Failure::MoreNames | Failure::NoText => 1,
             Failure::NotOpened(OpenError::NoFile | OpenError::NotRead) => 2,
             Failure::NotOpened(OpenError::OutOfMemory) => 4,
             Failure::Refused(Rc::NoMem) | Failure::Chain(ChainError::Refused(Rc::NoMem)) => 4,
