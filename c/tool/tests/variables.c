@@ -11,9 +11,11 @@ void omp_set_schedule_(omp_sched_t *kind, int *chunk);
 void omp_set_max_active_levels_(int *levels);
 void omp_set_default_device_(int *device);
 
+/* The word is one for all threads, and libomp has a value for each task: of threads that set variables at once it is that of any. */
 static void expect_levels(void)
 {
-  EXPECT(get(runtime_record(), RT_MAXACT) == (uint64_t)omp_get_max_active_levels());
+  uint64_t shown = get(runtime_record(), RT_MAXACT);
+  EXPECT(omp_in_parallel() ? shown >= 2 && shown <= 21 : shown == (uint64_t)omp_get_max_active_levels());
 }
 
 static void set_all(int number)
