@@ -1,20 +1,16 @@
 //! The chain of the regions that enclose one another, from the region of a task on.
 
-ghost use Rattle.std.specs.Prelude.{◌≡◌, ◌≤◌, ◌<◌, ◌^◌, ℕ, [], Some, Err, IfOk, IfSome, All};
+ghost use Rattle.std.specs.Prelude.{◌≡◌, ◌≤◌, ◌<◌, ◌^◌, Some, Err, IfOk, IfSome, All};
 ghost use Rattle.std.specs.Prelude as prelude;
 ghost use Rattle.std.specs.Ordering.{nat_cmp};
 ghost use Rattle.std.specs.BTreeSet.{contains};
 ghost use Rattle.omi_handle.specs.declared.handle.Kind.TheVariants.{Region, Task};
-ghost use Rattle.omi_layout.specs.declared.field.Field.TheVariants.{RegionEnclosing, TaskRegion};
-ghost use Rattle.omi_layout.specs.Field.{regions, tasks};
+ghost use Rattle.omi_layout.specs.Field.{regions};
 ghost use Rattle.omi_layout.specs.Table.{records};
 ghost use Rattle.omi_outside.specs.Outside.{HasCause};
-ghost use Rattle.omi_rep.specs.Look.{id_address, look_object, look_onward, was_met};
-ghost use Rattle.omi_rep.specs.LookView.{look_enclosing};
-ghost use Rattle.omi_walk.specs.Chains.{unmet as the_unmet, names_of};
-ghost use Rattle.omi_walk.specs.Gives.{Looks};
+ghost use Rattle.omi_walk.specs.Chains.{unmet as the_unmet};
 ghost use Rattle.omi_walk.specs.Leaves.{Leaves};
-ghost use Rattle.omi_walk.specs.Objects.{IsMet, name_met, names_met};
+ghost use Rattle.omi_walk.specs.Objects.{IsMet};
 ghost use Rattle.omi_walk.specs.Walks.{Walks};
 ghost use Rattle.omi_walk.specs.AskRegions.{ask_region_of, ask_outward, ask_outwards};
 

@@ -1,19 +1,11 @@
 //! The members of a region.
 
-ghost use Rattle.std.specs.Prelude.{◌≡◌, ◌<◌, ◌≤◌, ◌+◌, ◌*◌, ◌^◌, Err};
+ghost use Rattle.std.specs.Prelude.{◌≡◌, ◌<◌, ◌≤◌, ◌^◌, Err};
 ghost use Rattle.std.specs.List.{range_with_len};
-ghost use Rattle.omi_handle.specs.declared.handle.Kind.TheVariants.{Thread, Region, Task};
-ghost use Rattle.omi_layout.specs.Field.{threads, regions, tasks};
-ghost use Rattle.omi_layout.specs.Table.{thread_count};
-ghost use Rattle.omi_model.specs.declared.id.Id.{Id};
+ghost use Rattle.omi_handle.specs.declared.handle.Kind.TheVariants.{Thread, Task};
 ghost use Rattle.omi_outside.specs.Outside.{HasCause};
-ghost use Rattle.omi_rep.specs.Look.{id_address, look_object, look_word, and_then, each};
-ghost use Rattle.omi_rep.specs.LookView.{look_member};
 ghost use Rattle.omi_session.specs.Made.{region_pair};
-ghost use Rattle.omi_walk.specs.Gives.{Looks};
 ghost use Rattle.omi_walk.specs.Leaves.{Leaves};
-ghost use Rattle.omi_walk.specs.Members.{HasSize, size_refused};
-ghost use Rattle.omi_walk.specs.Objects.{IsMet, Stands, name_met};
 ghost use Rattle.std.specs.FinMap.{get};
 ghost use Rattle.omi_walk.specs.Walks.{Walks};
 ghost use Rattle.omi_walk.specs.Asking.{ask_each};

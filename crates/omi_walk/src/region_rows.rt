@@ -1,17 +1,13 @@
 //! The rows of the regions that were met, in the order of their slots.
 
-ghost use Rattle.std.specs.Prelude.{◌≡◌, ◌<◌, ◌≤◌, ◌^◌, ◌∷◌, [], map, Err};
+ghost use Rattle.std.specs.Prelude.{◌≡◌, ◌<◌, ◌^◌, ◌∷◌, [], Err};
 ghost use Rattle.std.specs.List.{filter_map};
 ghost use Rattle.omi_walk.specs.declared.limits.TheConstants.{HANDLES_WITHIN};
 ghost use Rattle.omi_layout.specs.Field.{regions};
 ghost use Rattle.omi_outside.specs.Outside.{HasCause};
-ghost use Rattle.omi_rep.specs.Look.{each, slot_list};
-ghost use Rattle.omi_rep.specs.LookView.{look_region, met_in};
-ghost use Rattle.omi_walk.specs.Added.{AddsRows};
-ghost use Rattle.omi_walk.specs.Gives.{Looks};
 ghost use Rattle.omi_walk.specs.Index.{HasFirst, AreSmall};
 ghost use Rattle.omi_walk.specs.Leaves.{Leaves};
-ghost use Rattle.omi_walk.specs.Regions.{AreLive, in_slot, in_own_slots, own_slots, met_in_slot};
+ghost use Rattle.omi_walk.specs.Regions.{AreLive, own_slots, met_in_slot};
 ghost use Rattle.omi_walk.specs.Walks.{Walks, WalksRows};
 ghost use Rattle.omi_walk.specs.Asking.{ask_each};
 ghost use Rattle.omi_walk.specs.AskRegions.{ask_region, ask_rows};

@@ -1,13 +1,10 @@
 //! The regions of the found threads, by the slots of their records.
 
-ghost use Rattle.std.specs.Prelude.{◌≡◌, ◌<◌, ◌≤◌, ◌^◌, map, length, Err, IfOk, All};
+ghost use Rattle.std.specs.Prelude.{◌≡◌, ◌<◌, ◌≤◌, ◌^◌, length, Err, IfOk, All};
 ghost use Rattle.omi_walk.specs.declared.limits.TheConstants.{HANDLES_WITHIN};
 ghost use Rattle.omi_handle.specs.declared.handle.Kind.TheVariants.{Region};
 ghost use Rattle.omi_outside.specs.Outside.{HasCause};
-ghost use Rattle.omi_rep.specs.LookView.{look_regions};
-ghost use Rattle.omi_walk.specs.Chains.{names_of};
 ghost use Rattle.omi_walk.specs.FoundThreads.{IsFound};
-ghost use Rattle.omi_walk.specs.Gives.{Looks};
 ghost use Rattle.omi_walk.specs.Leaves.{Leaves};
 ghost use Rattle.omi_walk.specs.Objects.{IsMet};
 ghost use Rattle.omi_walk.specs.Regions.{AreLive};

@@ -1,22 +1,15 @@
 //! The objects that an inquiry finds from another one, each by its name. No handle of them is kept.
 
-ghost use Rattle.std.specs.Prelude.{◌≡◌, ◌<◌, ◌-◌, ◌^◌, ℕ, Err, IfOk, IfSome, List};
-ghost use Rattle.omi_word.specs.Words.{Words};
+ghost use Rattle.std.specs.Prelude.{◌≡◌, ◌<◌, ◌-◌, ◌^◌, Err, IfOk, IfSome};
 ghost use Rattle.std.specs.FinMap.{get};
 ghost use Rattle.omi_handle.specs.declared.handle.Kind.TheVariants.{Region, Task};
-ghost use Rattle.omi_model.specs.declared.id.Id.{Id};
 ghost use Rattle.omi_outside.specs.Outside.{HasCause};
-ghost use Rattle.omi_layout.specs.Field.{regions, tasks};
-ghost use Rattle.omi_layout.specs.declared.field.Field.TheVariants.{TaskRegion};
-ghost use Rattle.omi_rep.specs.Look.{id_address, look_object, look_optional};
 ghost use Rattle.omi_session.specs.Inquiry as inquiry;
 ghost use Rattle.omi_session.specs.Made.{Answered, Makes, as_pair, region_pair, task_pair};
-ghost use Rattle.omi_session.specs.Named.{record_kind};
 ghost use Rattle.omi_session.specs.Opened.{Stays};
-ghost use Rattle.omi_walk.specs.Gives.{Looks};
 ghost use Rattle.omi_walk.specs.Leaves.{Leaves};
 ghost use Rattle.omi_walk.specs.Relations.{pair_of, kind_from, kind_to, field_of, inquiry_of};
-ghost use Rattle.omi_walk.specs.Objects.{IsMet, Stands, name_met, names_met};
+ghost use Rattle.omi_walk.specs.Objects.{IsMet};
 ghost use Rattle.omi_walk.specs.Walks.{Walks};
 ghost use Rattle.omi_walk.specs.Asking.{ask_maybe};
 ghost use Rattle.omi_walk.specs.AskRegions.{ask_region_of};

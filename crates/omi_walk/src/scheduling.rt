@@ -1,15 +1,13 @@
 //! The chain of a thread: its tasks, each left for the one before it.
 
-ghost use Rattle.std.specs.Prelude.{◌≡◌, ◌≤◌, ◌<◌, ◌+◌, ◌^◌, [], length, All, Err, IfSome, OnOk};
+ghost use Rattle.std.specs.Prelude.{◌≡◌, ◌≤◌, ◌<◌, ◌+◌, ◌^◌, length, All, Err, IfSome, OnOk};
 ghost use Rattle.omi_handle.specs.declared.handle.Kind.TheVariants.{Task};
 ghost use Rattle.omi_layout.specs.Field.{tasks};
 ghost use Rattle.omi_layout.specs.Table.{records};
 ghost use Rattle.omi_outside.specs.Outside.{HasCause};
-ghost use Rattle.omi_rep.specs.LookView.{look_chain};
-ghost use Rattle.omi_walk.specs.Added.{AddsRows};
 ghost use Rattle.omi_walk.specs.Kept.{IsLive};
 ghost use Rattle.omi_walk.specs.Leaves.{Leaves};
-ghost use Rattle.omi_walk.specs.Objects.{IsMet, name_in};
+ghost use Rattle.omi_walk.specs.Objects.{IsMet};
 ghost use Rattle.omi_walk.specs.Walks.{WalksRows};
 ghost use Rattle.omi_walk.specs.AskTasks.{ask_rows_from};
 

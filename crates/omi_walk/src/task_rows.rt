@@ -1,13 +1,10 @@
 //! The chains of the found threads, one after the other.
 
-ghost use Rattle.std.specs.Prelude.{◌≡◌, ◌≤◌, ◌<◌, Err, length, map, All, IfOk};
-ghost use Rattle.std.specs.List.{flat_map};
+ghost use Rattle.std.specs.Prelude.{◌≡◌, ◌≤◌, ◌<◌, Err, length, All, IfOk};
 ghost use Rattle.omi_walk.specs.declared.limits.TheConstants.{HANDLES_WITHIN};
 ghost use Rattle.omi_outside.specs.Outside.{HasCause};
-ghost use Rattle.omi_rep.specs.Look.{each, mapped};
-ghost use Rattle.omi_rep.specs.LookView.{look_tasks};
+ghost use Rattle.omi_rep.specs.Look.{each};
 ghost use Rattle.omi_walk.specs.FoundThreads.{IsFound};
-ghost use Rattle.omi_walk.specs.Gives.{Looks};
 ghost use Rattle.omi_walk.specs.Kept.{IsLive};
 ghost use Rattle.omi_walk.specs.Leaves.{Leaves};
 ghost use Rattle.omi_walk.specs.Walks.{Walks};

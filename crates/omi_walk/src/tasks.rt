@@ -1,22 +1,16 @@
 //! What is asked of a task, and its row.
 
-ghost use Rattle.std.specs.Prelude.{◌≡◌, ◌<◌, ◌^◌, ℕ, Err, IfOk, IfSome};
+ghost use Rattle.std.specs.Prelude.{◌≡◌, ◌<◌, ◌^◌, Err, IfOk, IfSome};
 ghost use Rattle.std.specs.Prelude as prelude;
-ghost use Rattle.std.specs.Option.{option_map};
 ghost use Rattle.std.specs.Ordering.{nat_cmp};
 ghost use Rattle.std.specs.BTreeSet.{contains};
 ghost use Rattle.omi_handle.specs.declared.handle.Kind.TheVariants.{Task};
-ghost use Rattle.omi_layout.specs.declared.field.Field.TheVariants.{TaskScheduling};
 ghost use Rattle.omi_layout.specs.Field.{tasks};
 ghost use Rattle.omi_outside.specs.Outside.{HasCause};
-ghost use Rattle.omi_rep.specs.Look.{id_address, look_onward, was_met};
-ghost use Rattle.omi_rep.specs.LookView.{look_task};
 ghost use Rattle.omi_session.specs.Made.{task_pair};
-ghost use Rattle.omi_walk.specs.Gives.{Looks};
 ghost use Rattle.omi_walk.specs.Kept.{IsLive};
 ghost use Rattle.omi_walk.specs.Leaves.{Leaves};
-ghost use Rattle.omi_walk.specs.Objects.{IsMet, Stands, name_in, names_met};
-ghost use Rattle.omi_walk.specs.Tasks.{look_relations, look_environment, relations_seen, row_of};
+ghost use Rattle.omi_walk.specs.Objects.{IsMet};
 ghost use Rattle.std.specs.FinMap.{get};
 ghost use Rattle.omi_walk.specs.Walks.{Walks};
 ghost use Rattle.omi_walk.specs.AskTasks.{ask_next, ask_relations, ask_environment, ask_link, ask_task};

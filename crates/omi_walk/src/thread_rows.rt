@@ -1,15 +1,13 @@
 //! The rows of the contexts of a report, and the threads that are found for them.
 
-ghost use Rattle.std.specs.Prelude.{◌≡◌, ◌<◌, ◌≤◌, ◌++◌, map, length, Err, IfOk, OnOk};
+ghost use Rattle.std.specs.Prelude.{◌≡◌, ◌<◌, ◌≤◌, ◌++◌, length, Err, IfOk, OnOk};
 ghost use Rattle.std.specs.List.{All};
 ghost use Rattle.omi_walk.specs.declared.limits.TheConstants.{HANDLES_WITHIN};
 ghost use Rattle.omi_outside.specs.Outside.{HasCause};
 ghost use Rattle.omi_rep.specs.Look.{each};
-ghost use Rattle.omi_rep.specs.LookView.{look_thread, found_threads};
 ghost use Rattle.omi_walk.specs.FoundThreads.{IsFound};
-ghost use Rattle.omi_walk.specs.Gives.{Looks};
 ghost use Rattle.omi_walk.specs.Leaves.{Leaves};
-ghost use Rattle.omi_walk.specs.SeenThreads.{rows_seen, found_in};
+ghost use Rattle.omi_walk.specs.SeenThreads.{found_in};
 ghost use Rattle.omi_walk.specs.Walks.{Walks};
 ghost use Rattle.omi_walk.specs.AskThreads.{ask_threads};
 

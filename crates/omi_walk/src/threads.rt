@@ -1,19 +1,11 @@
 //! What is asked of a thread, and its row.
 
-ghost use Rattle.std.specs.Prelude.{◌≡◌, ◌<◌, ◌^◌, List, Option, Ok, Err, IfOk, IfSome};
-ghost use Rattle.std.specs.Option.{option_map};
-ghost use Rattle.std.specs.List.{range_with_len};
+ghost use Rattle.std.specs.Prelude.{◌≡◌, ◌<◌, ◌^◌, Option, Ok, Err, IfOk, IfSome};
 ghost use Rattle.omi_handle.specs.declared.handle.Kind.TheVariants.{Thread, Task};
-ghost use Rattle.omi_layout.specs.Table.{thread_count};
-ghost use Rattle.omi_model.specs.declared.id.Id.{Id};
 ghost use Rattle.omi_outside.specs.Outside.{HasCause};
-ghost use Rattle.omi_rep.specs.Look.{optional};
-ghost use Rattle.omi_rep.specs.LookView.{look_for, look_state, look_current, look_part, look_thread, read_task};
 ghost use Rattle.omi_session.specs.Made.{thread_pair};
-ghost use Rattle.omi_walk.specs.Gives.{Looks};
 ghost use Rattle.omi_walk.specs.Leaves.{Leaves};
-ghost use Rattle.omi_walk.specs.Objects.{IsMet, Stands, name_in};
-ghost use Rattle.omi_walk.specs.Threads.{number_met, part_seen, row_seen};
+ghost use Rattle.omi_walk.specs.Objects.{IsMet};
 ghost use Rattle.std.specs.FinMap.{get};
 ghost use Rattle.omi_walk.specs.Walks.{Walks};
 ghost use Rattle.omi_walk.specs.AskThreads.{ask_thread_with, ask_state, ask_number, ask_part, ask_thread};

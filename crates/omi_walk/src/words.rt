@@ -1,22 +1,11 @@
 //! Words that are read of an object that was met.
 
-ghost use Rattle.std.specs.Prelude.{◌≡◌, ◌≤◌, Ok, Err};
-ghost use Rattle.omi_handle.specs.declared.handle.Kind.TheVariants.{Region, Task};
+ghost use Rattle.std.specs.Prelude.{◌≡◌, Ok, Err};
+ghost use Rattle.omi_handle.specs.declared.handle.Kind.TheVariants.{Task};
 ghost use Rattle.omi_icv.specs.declared.scoped.Scoped.TheVariants as scoped;
-ghost use Rattle.omi_icv.specs.declared.variable.Source.TheVariants.{Word};
-ghost use Rattle.omi_icv.specs.declared.variable.Variable.{Variable};
-ghost use Rattle.omi_icv.specs.Scopes.{scope_of};
-ghost use Rattle.omi_icv.specs.Table.{variable_in};
-ghost use Rattle.omi_model.specs.declared.id.Id.{Id};
 ghost use Rattle.omi_outside.specs.Outside.{HasCause};
-ghost use Rattle.omi_rep.specs.Look.{and_then};
-ghost use Rattle.omi_rep.specs.LookView.{read_runtime, read_region, read_task};
 ghost use Rattle.omi_session.specs.Made.{region_pair, task_pair};
-ghost use Rattle.omi_walk.specs.Gives.{Looks};
 ghost use Rattle.omi_walk.specs.Leaves.{Leaves};
-ghost use Rattle.omi_walk.specs.Members.{HasSize};
-ghost use Rattle.omi_walk.specs.Objects.{Stands};
-ghost use Rattle.omi_walk.specs.Parts.{look_size, look_frames};
 ghost use Rattle.std.specs.FinMap.{get};
 ghost use Rattle.omi_numbers.specs.declared.variables.TheConstants.{TEAM_SIZE_VAR};
 ghost use Rattle.omi_walk.specs.Walks.{Walks};
