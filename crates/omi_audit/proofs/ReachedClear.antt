@@ -77,6 +77,15 @@ module _ (w : List ℕ) (words : Words) (valid : IsValid w) (p : Program) (event
 
   -- ---- chains
 
+  -- the record that a link names is that of what it stands for
+  named_onward : {N : Type 0} (Seen : N → Type 0) (kind : ℕ) (address : N → ℕ) → (kind == threads) ≡ false
+      → is_some (live_at w words kind 0) ≡ false → ((n : N) → Seen n → is_some (live_at w words kind (address n)) ≡ true)
+      → (o : Option N) → ((n : N) → o ≡ Some n → Seen n)
+      → slice_get (named_of w words kind (option_map_or address o 0)) 0 ≡ option_map address o
+  named_onward Seen kind address other none some None each = ap (λ l. slice_get l 0) (named_dead w words kind 0 none)
+  named_onward Seen kind address other none some (Some n) each =
+      ap (λ l. slice_get l 0) (named_live w words kind (address n) other (some n (each n refl)))
+
   -- a chain of records ends where that of what they stand for does
   module _ {N : Type 0} (Seen : N → Type 0) (address : N → ℕ) (step : N → Option N) (onward : (n : N) → Seen n → Option N)
       (leads : (n : N) (seen : Seen n) → step n ≡ onward n seen)
@@ -212,20 +221,8 @@ module _ (w : List ℕ) (words : Words) (valid : IsValid w) (p : Program) (event
     next_region =
         ap (λ b. slice_get (named_at w words (place_at region_record (cond b RegionEnclosing TaskScheduling) 0)) 0) of_region
         ∙ ap (λ l. slice_get l 0) (named_there w words (place_at region_record RegionEnclosing 0) regions _ refl (region_word_is RegionEnclosing 0 _ refl refl))
-        ∙ go seen.region.enclosing ((formed w words valid p events s reaches_it shows).regions n seen).enclosing
-      where
-        go : (o : Option Rid) → ((m : Rid) → o ≡ Some m → IsVisibleRegion s m)
-            → slice_get (named_of w words regions (region_word w o)) 0 ≡ option_map (region_address w) o
-        go None each = ap (λ l. slice_get l 0) (named_dead w words regions 0 (dead w words valid p events s reaches_it shows regions kind_3))
-        go (Some m) each =
-            ap (λ l. slice_get l 0) (named_live w words regions (region_address w m) refl (region_live w words valid p events s reaches_it shows m (each m refl)))
-
-  region_ends : (m : ℕ) (n : Rid) (seen : IsVisibleRegion s n) → along (enclosing_of s) m seen.region.enclosing ≡ None
-      → (d : ℕ) × EndsIn w words d (region_address w n)
-  region_ends =
-      chain_ends (IsVisibleRegion s) (region_address w) (enclosing_of s) (λ n seen. seen.region.enclosing)
-      (λ n seen. ap (option_and_then (λ r. r.enclosing)) seen.live)
-      (λ n seen. ((formed w words valid p events s reaches_it shows).regions n seen).enclosing) next_region
+        ∙ named_onward (IsVisibleRegion s) regions (region_address w) refl (dead w words valid p events s reaches_it shows regions kind_3)
+        (region_live w words valid p events s reaches_it shows) seen.region.enclosing ((formed w words valid p events s reaches_it shows).regions n seen).enclosing
 
   -- ---- a visible task
 
@@ -493,13 +490,15 @@ module _ (w : List ℕ) (words : Words) (valid : IsValid w) (p : Program) (event
     next_task =
         ap (λ b. slice_get (named_at w words (place_at task_record (cond b RegionEnclosing TaskScheduling) 0)) 0) of_task
         ∙ ap (λ l. slice_get l 0) (named_there w words (place_at task_record TaskScheduling 0) tasks _ refl (task_word_is TaskScheduling 0 _ refl refl))
-        ∙ go seen.task.scheduling ((formed w words valid p events s reaches_it shows).tasks k seen).scheduling
-      where
-        go : (o : Option Tid) → ((m : Tid) → o ≡ Some m → IsVisibleTask s m)
-            → slice_get (named_of w words tasks (task_word w o)) 0 ≡ option_map (task_address w) o
-        go None each = ap (λ l. slice_get l 0) (named_dead w words tasks 0 (dead w words valid p events s reaches_it shows tasks kind_4))
-        go (Some m) each =
-            ap (λ l. slice_get l 0) (named_live w words tasks (task_address w m) refl (task_live w words valid p events s reaches_it shows m (each m refl)))
+        ∙ named_onward (IsVisibleTask s) tasks (task_address w) refl (dead w words valid p events s reaches_it shows tasks kind_4)
+        (task_live w words valid p events s reaches_it shows) seen.task.scheduling ((formed w words valid p events s reaches_it shows).tasks k seen).scheduling
+
+  region_ends : (m : ℕ) (n : Rid) (seen : IsVisibleRegion s n) → along (enclosing_of s) m seen.region.enclosing ≡ None
+      → (d : ℕ) × EndsIn w words d (region_address w n)
+  region_ends =
+      chain_ends (IsVisibleRegion s) (region_address w) (enclosing_of s) (λ n seen. seen.region.enclosing)
+      (λ n seen. ap (option_and_then (λ r. r.enclosing)) seen.live)
+      (λ n seen. ((formed w words valid p events s reaches_it shows).regions n seen).enclosing) next_region
 
   task_ends : (m : ℕ) (k : Tid) (seen : IsVisibleTask s k) → along (scheduling_of s) m seen.task.scheduling ≡ None
       → (d : ℕ) × EndsIn w words d (task_address w k)

@@ -156,8 +156,7 @@ returns-in_err-push-clause-asks g c = λ memory tells known.
     let there : a ≡ thread_address w i = c.thread_at-addr.ensures.address ∙ ap (λ l. slot_address l threads i 0) c.layout.ensures in
     let k = c.args.search.now in
     let life = c.in_ok-life.ensures in
-    let stopped = stopped_is c.from_residual-in_err-push.result c.from_residual-in_err-push.ensures.0 in
-    subst (Asks w memory (g.C.Callbacks.asked c.args.s.now.table.calls) (g.C.Callbacks.asked c.judge-2.new.s.table.calls) k (thread_places w memory i)) (sym stopped)
+    subst (Asks w memory (g.C.Callbacks.asked c.args.s.now.table.calls) (g.C.Callbacks.asked c.judge-2.new.s.table.calls) k (thread_places w memory i)) (sym (stopped_is c.from_residual-in_err-push.result c.from_residual-in_err-push.ensures.0))
     (asks_spare w memory (g.C.Callbacks.asked c.args.s.now.table.calls) (g.C.Callbacks.asked c.judge-2.new.s.table.calls) k (thread_places w memory i)
     (thread_front w memory i a there (g.C.Callbacks.asked c.args.s.now.table.calls) (g.C.Callbacks.asked c.judge-2.new.s.table.calls) k (first_places a) (begun_places a (has_begun w memory i)) 0 refl
     (both_ask g.C.Callbacks.told g.C.Callbacks.asked c.args.s.now c.judge.new.s life.same i a k c.judge.new.search c.in_ok-life.life life.judged life.asks c.judge-2.new.s c.judge-2.new.search 0
