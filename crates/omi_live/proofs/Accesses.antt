@@ -10,6 +10,7 @@ use Rattle.omi_core.specs.declared.entry.Entry.{Entry}
 use Rattle.omi_core.specs.declared.stop.Break.{Break}
 use Rattle.omi_core.specs.declared.stop.Break.TheVariants as kind
 use Rattle.omi_core.specs.Ends.{is_of_kind}
+use Rattle.omi_core.proofs.History.{other_more, own_more}
 use Rattle.omi_live.specs.declared.known.Access.{Access}
 use Rattle.omi_live.specs.declared.known.Access.TheVariants as access
 use Rattle.omi_seat.specs.Stops.{ends_at, stops_at}
@@ -34,31 +35,11 @@ steps_more (y ∷ ys) x =
 
 pub own_access : (j : ℕ) (xs : List (ℕ × Access)) (a : Access)
     → accesses_of j (xs ++ (j, a) ∷ []) ≡ accesses_of j xs ++ a ∷ []
-own_access j [] a = by (j == j) refl
-  where
-    by : (b : Bool) → j == j ≡ b → (if b then a ∷ [] else []) ≡ a ∷ []
-    by true is = refl
-    by false is = absurd (grind (arith, nat_tests))
-own_access j (x ∷ xs) a = by (own_access j xs a) (x.0 == j)
-  where
-    by : accesses_of j (xs ++ (j, a) ∷ []) ≡ accesses_of j xs ++ a ∷ [] → (b : Bool)
-        → (if b then x.1 ∷ accesses_of j (xs ++ (j, a) ∷ []) else accesses_of j (xs ++ (j, a) ∷ [])) ≡ (if b then x.1 ∷ accesses_of j xs else accesses_of j xs) ++ a ∷ []
-    by rest true = ap (λ (ys : List Access). x.1 ∷ ys) rest
-    by rest false = rest
+own_access j = own_more (accesses_of j) j refl (λ x xs. refl)
 
 pub other_access : (j i : ℕ) (xs : List (ℕ × Access)) (a : Access) → i ≢ j
     → accesses_of j (xs ++ (i, a) ∷ []) ≡ accesses_of j xs
-other_access j i [] a other = by (i == j) refl
-  where
-    by : (b : Bool) → i == j ≡ b → (if b then a ∷ [] else []) ≡ []
-    by true is = absurd (other (eqb-true i j is))
-    by false is = refl
-other_access j i (x ∷ xs) a other = by (other_access j i xs a other) (x.0 == j)
-  where
-    by : accesses_of j (xs ++ (i, a) ∷ []) ≡ accesses_of j xs → (b : Bool)
-        → (if b then x.1 ∷ accesses_of j (xs ++ (i, a) ∷ []) else accesses_of j (xs ++ (i, a) ∷ [])) ≡ (if b then x.1 ∷ accesses_of j xs else accesses_of j xs)
-    by rest true = ap (λ (ys : List Access). x.1 ∷ ys) rest
-    by rest false = rest
+other_access j = other_more (accesses_of j) j refl (λ x xs. refl)
 
 -- ---- a thread that makes one more step
 
