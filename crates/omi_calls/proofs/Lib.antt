@@ -1,2 +1,3 @@
 pub mod Segments
 pub mod ToldSymbols
+pub mod ImageWords

@@ -17,7 +17,7 @@ use Rattle.omi_rep.proofs.shown.ShownViews.{shown_looked}
 use Rattle.omi_rep.specs.Look.{Look}
 use Rattle.omi_rep.specs.LookView.{look_view}
 use Rattle.omi_session.specs.Tells.{Tells}
-use Rattle.omi_commands.proofs.ImageWords.{image_words}
+use Rattle.omi_calls.proofs.ImageWords.{image_words}
 use Rattle.omi_walk.specs.Gives.{Gives}
 use Rattle.omi_walk.specs.declared.fault.WalkFault.{WalkFault}
 use Rattle.omi_walk.specs.declared.fault.WalkFault.TheVariants as walk

@@ -1,7 +1,6 @@
 pub mod ThreadIds
 pub mod CorePieces
 pub mod CoreFiles
-pub mod ImageWords
 pub mod EventLines
 pub mod RunLines
 pub mod FateLines

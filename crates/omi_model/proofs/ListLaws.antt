@@ -132,3 +132,11 @@ pub taken_plain : (p : Program) (at : Encounter) (e : Event) (f : Option Freeabl
 taken_plain p at e f xs y ys plain is =
     by_taken p at e f xs y ys (λ g z zs. is_frees z ≡ false → take_item p at g xs ≡ Some (z, zs)) is (λ from h. from)
     (λ task n h. absurd (false_true (sym h))) plain
+
+-- an event takes the head, once a statement is replaced by its row
+pub takes_head : (p : Program) (at : Encounter) (e : Event) (x : Item) (xs : List Item) (y : Item) (zs : List Item)
+    → opened p at x xs ≡ (y, zs) → fits e y ≡ true → take_item p at e (x ∷ xs) ≡ Some (y, zs)
+takes_head p at e x xs y zs is fit =
+    ap
+    (λ (h : Item × List Item). if fits e h.0 then Some h else (if may_drop x then take_item p at e xs else None)) is
+    ∙ ap (λ (b : Bool). if b then Some (y, zs) else (if may_drop x then take_item p at e xs else None)) fit

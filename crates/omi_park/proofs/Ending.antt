@@ -24,7 +24,7 @@ use Rattle.omi_park.specs.declared.known.WorkerPart.{WorkerPart}
 use Rattle.omi_park.specs.Joined.{AreRunsKnown, IsRunKnown}
 use Rattle.omi_park.specs.Parked.{AreStops, IsParked, IsRunOf, actors_left}
 use Rattle.omi_park.specs.Running.{IsWorker, Keeps}
-use Rattle.omi_park.proofs.Parts.{mapped_to}
+use Rattle.omi_list.proofs.Places.{mapped_to}
 use Rattle.omi_park.proofs.Stops.{never_fall, none_passes}
 
 own_run : (budget : ℕ) (x : WorkerPart) (p : Program) (l : Layout) (i : ℕ) (r : ThreadRun)

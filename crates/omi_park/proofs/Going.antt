@@ -22,7 +22,7 @@ use Rattle.omi_park.specs.declared.worker.Worker.{Worker}
 use Rattle.omi_park.specs.Acknowledged.{HasNotBegun, IsOdd, acknowledgement, running}
 use Rattle.omi_park.specs.Plays.{first_worker, loads, makes, says}
 use Rattle.omi_park.specs.Work.{HasBegun, HasGoneOn, HasLoaded, HasStepped, HasTold, HasWorked, IsAtWork, IsBefore, IsLoose, IsPausing, IsSameBut, IsSeatOf, IsToGoOn, IsToPark, IsWaiting, IsWith}
-use Rattle.omi_park.proofs.Parts.{never_some, one_value}
+use Rattle.omi_list.proofs.Places.{never_some, one_value}
 use Rattle.omi_park.proofs.Words.{parked_begun, parked_stays, runs_begun, runs_now, runs_stays}
 
 -- it has loaded no epoch, so it is parked in none

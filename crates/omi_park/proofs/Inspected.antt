@@ -22,7 +22,8 @@ use Rattle.omi_park.specs.Parked.{IsStop}
 use Rattle.omi_park.specs.Plays.{called, calls, copied, copies, let_go, lets_go, seen, sees, stop_of}
 use Rattle.omi_park.specs.Running.{HasSaid, IsInspector, IsPart, IsSaid, IsWorker, Keeps, number_of, staying, waiting}
 use Rattle.omi_park.proofs.Kept.{Now, ack_found, epoch_set, image, loaded_on, long, reseated, run_with, word_found}
-use Rattle.omi_park.proofs.Parts.{inspector_is, mapped_from, never_some, none_at, one_value, place_there}
+use Rattle.omi_list.proofs.Places.{mapped_from, never_some, none_at, one_value, place_there}
+use Rattle.omi_park.proofs.Parts.{inspector_is}
 use Rattle.omi_park.proofs.Words.{runs_free, still_is}
 use Rattle.omi_park.proofs.Stops.{stop_more}
 

@@ -18,7 +18,7 @@ use Rattle.omi_park.specs.declared.known.Part.TheVariants as part
 use Rattle.omi_park.specs.Plays.{first_inspector, first_part, first_parts}
 use Rattle.omi_park.specs.Running.{IsInspector, IsPart, IsSaid, Keeps, number_of}
 use Rattle.omi_park.proofs.Kept.{Now, reseated}
-use Rattle.omi_park.proofs.Parts.{one_value}
+use Rattle.omi_list.proofs.Places.{one_value}
 
 -- the parts of so many workers before their first steps, and the inspector's
 abbrev pub parts_of : Program → Layout → ℕ → List Part

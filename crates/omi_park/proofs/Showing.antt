@@ -28,7 +28,7 @@ use Rattle.omi_park.specs.Lines.{stop_text}
 use Rattle.omi_park.specs.Parked.{AreStops, IsStop}
 use Rattle.omi_park.specs.Shown.{AreStopsShown}
 use Rattle.omi_park.specs.declared.stopped.Stopped.{Stopped}
-use Rattle.omi_park.proofs.Parts.{none_at, one_value}
+use Rattle.omi_list.proofs.Places.{none_at, one_value}
 use Rattle.omi_park.proofs.Taken.{takes_printed}
 
 -- no task has no line

@@ -31,7 +31,8 @@ use Rattle.omi_park.specs.Plays.{makes, stepped}
 use Rattle.omi_park.specs.Running.{HasSaid, IsInspector, IsPart, IsSaid, Keeps, number_of, staying, waiting}
 use Rattle.omi_park.specs.Work.{MayStep}
 use Rattle.omi_park.proofs.Kept.{Now}
-use Rattle.omi_park.proofs.Parts.{one_value, place_there, worker_is}
+use Rattle.omi_list.proofs.Places.{one_value, place_there}
+use Rattle.omi_park.proofs.Parts.{worker_is}
 use Rattle.omi_park.proofs.Stops.{stops_stand}
 use Rattle.omi_park.proofs.Worked.{not_seen, not_still, other_thread, worker}
 

@@ -8,7 +8,7 @@ use Rattle.omi_core.specs.declared.thread_run.ThreadRun.{ThreadRun}
 use Rattle.omi_core.specs.Steps.{steps_of}
 use Rattle.omi_park.specs.declared.stopped.Stopped.{Stopped}
 use Rattle.omi_park.specs.Parked.{AreStops, IsStop, NeverFall, NonePasses}
-use Rattle.omi_park.proofs.Parts.{none_at, one_value}
+use Rattle.omi_list.proofs.Places.{none_at, one_value}
 
 -- ---- the steps of a thread among the first steps of all
 

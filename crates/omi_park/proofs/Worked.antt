@@ -23,7 +23,8 @@ use Rattle.omi_park.specs.Plays.{loaded, loads, said, says}
 use Rattle.omi_park.specs.Running.{HasSaid, IsInspector, IsPart, IsSaid, IsWorker, Keeps, number_of, staying, waiting}
 use Rattle.omi_park.specs.Work.{HasBegun, IsLoose, MaySay, MayStep, leaves, parks, tells}
 use Rattle.omi_park.proofs.Kept.{Now, ack_set, epoch_found, image, loaded_on, reseated, run_with}
-use Rattle.omi_park.proofs.Parts.{one_value, set_here, set_there, worker_is}
+use Rattle.omi_list.proofs.Places.{one_value, set_here, set_there}
+use Rattle.omi_park.proofs.Parts.{worker_is}
 use Rattle.omi_park.proofs.Words.{left_now, left_steps, parked_begun, parked_half, parked_steps, runs_begun, runs_free, runs_now, runs_on}
 
 -- a worker that may step is neither parked nor has it left

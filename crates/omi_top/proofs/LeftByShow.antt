@@ -23,7 +23,7 @@ use Rattle.omi_top.specs.Command.{Show}
 use Rattle.omi_top.specs.Cores.{IsDamaged, IsIncompatible, IsLooked, ShowsState, Spells, words_of_core}
 use Rattle.omi_frame.specs.Refusal.{status_of}
 use Rattle.omi_commands.specs.Cores.{IsReachedCore, thread_ids}
-use Rattle.omi_commands.proofs.ImageWords.{image_words}
+use Rattle.omi_calls.proofs.ImageWords.{image_words}
 use Rattle.omi_rep.proofs.shown.ShownViews.{shown_looked as shown_look}
 use Rattle.omi_top.specs.Files.{HasFault, IsFileOf}
 use Rattle.omi_top.specs.CommandVerbs.{AreTold, IsAnswer, verb_of}

@@ -23,7 +23,7 @@ use Rattle.omi_commands.specs.Fates.{HasRecords}
 use Rattle.omi_top.specs.Run.{IsRun}
 use Rattle.omi_top.specs.declared.plan.Plan.{Plan}
 use Rattle.omi_commands.proofs.Current.{image_records}
-use Rattle.omi_commands.proofs.ImageWords.{image_words}
+use Rattle.omi_calls.proofs.ImageWords.{image_words}
 use Rattle.omi_commands.proofs.Lengths.{steps_long}
 use Rattle.omi_top.proofs.OneRun.{events_more, later_steps}
 

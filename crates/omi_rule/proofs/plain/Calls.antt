@@ -3,6 +3,7 @@ use Rattle.std.proofs.Common.{◌≡◌, ℕ, zero, suc, inl, inr, Bool, true, L
 use Rattle.omi_script.specs.declared.program.Program.{Program}
 use Rattle.omi_script.specs.declared.statement.Stmt.{Stmt}
 use Rattle.omi_script.specs.declared.statement.Stmt.TheVariants as stmt
+use Rattle.omi_model.proofs.ListLaws.{takes_head}
 use Rattle.omi_model.specs.declared.encounter.Encounter.{Encounter}
 use Rattle.omi_model.specs.declared.event.Event.{Event}
 use Rattle.omi_model.specs.declared.event.Event.TheVariants as event
@@ -46,7 +47,7 @@ use Rattle.omi_rule.proofs.OwnTask.{top}
 use Rattle.omi_rule.proofs.Settling.{behind_return, in_work_is, returned_ahead, returns}
 use Rattle.omi_rule.proofs.plain.Firsts.{IsGrounded, grounds_are_of_bodies, returned_first, settled_first}
 use Rattle.omi_rule.proofs.plain.OwnEvents.{at_debug, body, fits_counter}
-use Rattle.omi_rule.proofs.plain.Loads.{goes_on, has_task, here, load_keeps, loads_native, native, native_on, on_ground, sees, settled_goes, takes_head, was_first}
+use Rattle.omi_rule.proofs.plain.Loads.{goes_on, has_task, here, load_keeps, loads_native, native, native_on, on_ground, sees, settled_goes, was_first}
 
 -- an item with what stands behind it
 pub item_behind : (y : Item) (xs zs : List Item) → xs ≡ zs → ◌≡◌ {A = Item × List Item} (y, xs) (y, zs)

@@ -3,6 +3,7 @@ use Rattle.std.proofs.Common.{◌≡◌, ℕ, zero, suc, List, [], ◌∷◌, �
 use Rattle.omi_script.specs.declared.program.Program.{Program}
 use Rattle.omi_script.specs.declared.statement.Stmt.{Stmt}
 use Rattle.omi_script.specs.declared.statement.Stmt.TheVariants as stmt
+use Rattle.omi_model.proofs.ListLaws.{takes_head}
 use Rattle.omi_model.specs.declared.encounter.Encounter.{Encounter}
 use Rattle.omi_model.specs.declared.event.Event.{Event}
 use Rattle.omi_model.specs.declared.event.Event.TheVariants as event
@@ -40,7 +41,7 @@ use Rattle.omi_rule.proofs.Assembly.{Before}
 use Rattle.omi_rule.proofs.Settling.{in_work_is}
 use Rattle.omi_rule.proofs.plain.Firsts.{IsFirst, plain_first, settled_first}
 use Rattle.omi_rule.proofs.plain.OwnEvents.{GoesOn, body, fits_counter}
-use Rattle.omi_rule.proofs.plain.Loads.{goes_on, on_ground, sees, settled_goes, takes_head, was_first}
+use Rattle.omi_rule.proofs.plain.Loads.{goes_on, on_ground, sees, settled_goes, was_first}
 use Rattle.omi_rule.proofs.plain.TaskWords.{has_codes, middle, middle_current, now_current, own_task, task_event, task_on, task_word_at}
 
 pub enter_of_task : IsOfTask TaskEnter

@@ -58,16 +58,6 @@ use Rattle.omi_pc.specs.declared.frame.Frame.{Frame}
 use Rattle.omi_pc.specs.declared.context.Context.{Context}
 use Rattle.omi_pc.proofs.NextCounters.{IsBefore}
 
--- ---- the head of a list
-
--- an event takes the head, once a statement is replaced by its row
-pub takes_head : (p : Program) (at : Encounter) (e : Event) (x : Item) (xs : List Item) (y : Item) (zs : List Item)
-    → opened p at x xs ≡ (y, zs) → fits e y ≡ true → take_item p at e (x ∷ xs) ≡ Some (y, zs)
-takes_head p at e x xs y zs is fit =
-    ap
-    (λ (h : Item × List Item). if fits e h.0 then Some h else (if may_drop x then take_item p at e xs else None)) is
-    ∙ ap (λ (b : Bool). if b then Some (y, zs) else (if may_drop x then take_item p at e xs else None)) fit
-
 module _ (p : Program) (w : List ℕ) (m : Memory) (events : List (ℕ × Event)) (s : State) (actors : ℕ → Actor)
     (i : ℕ) (before : Before p w m events s actors i) where
   -- the load of the native id

@@ -8,6 +8,7 @@ use Rattle.omi_script.specs.declared.statement.Stmt.{Stmt}
 use Rattle.omi_script.specs.declared.statement.Stmt.TheVariants as stmt
 use Rattle.omi_script.specs.declared.limits.TheConstants.{MAX_LOCK}
 use Rattle.omi_script.proofs.RuleLemmas.{Rules-from_accepted}
+use Rattle.omi_model.proofs.ListLaws.{takes_head}
 use Rattle.omi_model.specs.declared.encounter.Encounter.{Encounter}
 use Rattle.omi_model.specs.declared.event.Event.{Event}
 use Rattle.omi_model.specs.declared.event.Event.TheVariants as event
@@ -73,7 +74,7 @@ use Rattle.omi_rule.proofs.RowsStay.{Spares}
 use Rattle.omi_rule.proofs.Settling.{in_work_is, working_ahead}
 use Rattle.omi_rule.proofs.plain.Firsts.{IsGrounded, grounds_are_of_bodies, settled_first, working_first}
 use Rattle.omi_rule.proofs.plain.OwnEvents.{GoesOn, at_debug, body, fits_counter, list_is, own_event, steps}
-use Rattle.omi_rule.proofs.plain.Loads.{goes_on, has_task, here, on_ground, sees, settled_goes, takes_head, was_first}
+use Rattle.omi_rule.proofs.plain.Loads.{goes_on, has_task, here, on_ground, sees, settled_goes, was_first}
 use Rattle.omi_rule.proofs.plain.TaskWords.{middle, middle_words, now_current, own_task}
 
 -- ---- the runtime record

@@ -9,6 +9,7 @@ use Rattle.omi_word.specs.declared.op.Op.{Op}
 use Rattle.omi_word.specs.declared.op.Op.TheVariants as op
 use Rattle.omi_script.specs.declared.program.Program.{Program}
 use Rattle.omi_script.specs.declared.statement.Stmt.TheVariants as stmt
+use Rattle.omi_model.proofs.ListLaws.{takes_head}
 use Rattle.omi_model.specs.declared.encounter.Encounter.{Encounter}
 use Rattle.omi_model.specs.declared.event.Event.{Event}
 use Rattle.omi_model.specs.declared.event.Event.TheVariants as event
@@ -65,7 +66,7 @@ use Rattle.omi_rule.proofs.OwnTask.{own_changes, relisted_both, relisted_alike}
 use Rattle.omi_rule.proofs.Settling.{in_work_is, worked_ahead}
 use Rattle.omi_rule.proofs.plain.Firsts.{IsGrounded, grounds_are_of_bodies, plain_first, worked_first}
 use Rattle.omi_rule.proofs.plain.OwnEvents.{GoesOn, at_debug, body, fits_counter, own_event, steps}
-use Rattle.omi_rule.proofs.plain.Loads.{goes_on, has_task, here, on_ground, sees, takes_head, was_first}
+use Rattle.omi_rule.proofs.plain.Loads.{goes_on, has_task, here, on_ground, sees, was_first}
 use Rattle.omi_rule.proofs.plain.Locks.{at_critical, lock}
 use Rattle.omi_rule.proofs.plain.TaskWords.{middle, middle_words, own_task}
 

@@ -5,6 +5,7 @@ use Rattle.omi_word.specs.declared.op.Op.TheVariants as op
 use Rattle.omi_script.specs.declared.program.Program.{Program}
 use Rattle.omi_script.specs.declared.statement.Stmt.{Stmt}
 use Rattle.omi_script.specs.declared.statement.Stmt.TheVariants as stmt
+use Rattle.omi_model.proofs.ListLaws.{takes_head}
 use Rattle.omi_model.specs.declared.encounter.Encounter.{Encounter}
 use Rattle.omi_model.specs.declared.event.Event.{Event}
 use Rattle.omi_model.specs.declared.event.Event.TheVariants as event
@@ -48,7 +49,7 @@ use Rattle.omi_rule.proofs.Assembly.{Before}
 use Rattle.omi_rule.proofs.Settling.{in_work_is}
 use Rattle.omi_rule.proofs.plain.Firsts.{IsFirst, settled_first}
 use Rattle.omi_rule.proofs.plain.OwnEvents.{GoesOn, fits_counter}
-use Rattle.omi_rule.proofs.plain.Loads.{sees, settled_goes, takes_head, was_first}
+use Rattle.omi_rule.proofs.plain.Loads.{sees, settled_goes, was_first}
 use Rattle.omi_rule.proofs.plain.Locks.{runtime_event}
 use Rattle.omi_rule.proofs.plain.TaskWords.{has_codes, middle, middle_current, middle_words, now_current, own_task, task_event, task_on, task_word_at}
 

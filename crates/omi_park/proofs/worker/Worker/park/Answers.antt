@@ -2,7 +2,7 @@ use Rattle.std.proofs.Common.{ap, ◌∙◌, subst}
 use Rattle.omi_park.specs.Acknowledged.{IsParkedIn, acknowledgement}
 use Rattle.omi_park.specs.Plays.{says}
 use Rattle.omi_park.specs.Work.{IsSeatOf, parks}
-use Rattle.omi_park.proofs.Parts.{one_value}
+use Rattle.omi_list.proofs.Places.{one_value}
 use Rattle.omi_park.proofs.worker.Worker.park.Goals as goal
 
 pub say-requires-clause-may : goal.say-requires-clause-may
