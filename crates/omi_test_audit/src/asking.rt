@@ -7,9 +7,9 @@ ghost use Rattle.omi_calls.specs.Kept.{GivesNumbers, TakesAll};
 use crate::overlay::{Overlay, Seen};
 use omi_audit::{AuditFault, Verdict, audit};
 use omi_calls::{MemCalls, Table, ToHost};
+use omi_fixture_targets::{Change, Words, Wrong};
 use omi_layout::Field;
 use omi_session::{Session, initialize};
-use omi_test_targets::{Change, Words, Wrong};
 use std::alloc::Global;
 
 /// A word at a place of a field of the record at an address, and what stands there instead. None: it isn't mapped.

@@ -2,8 +2,8 @@
 
 use crate::asking::{Case, Word, comes_back, first_wrong, refused};
 use crate::stops::{Records, forked, nested, records_of};
+use omi_fixture_targets::Words;
 use omi_layout::Field;
-use omi_test_targets::Words;
 use std::test::Fail;
 
 const SCHEDULING: Field = Field::TaskScheduling;

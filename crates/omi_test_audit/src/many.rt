@@ -6,7 +6,7 @@ ghost use Rattle.omi_calls.specs.Kept.{GivesNumbers, TakesAll};
 
 use omi_audit::{AuditFault, Verdict, audit};
 use omi_calls::ToHost;
-use omi_test_targets::{Asked, LITTLE, LONG_REGIONS, LONG_TASKS, Wrong, long_chains, open};
+use omi_fixture_targets::{Asked, LITTLE, LONG_REGIONS, LONG_TASKS, Wrong, long_chains, open};
 use std::alloc::Global;
 use std::test::Fail;
 

@@ -4,7 +4,7 @@ ghost use Rattle.std.specs.Prelude.{◌≢◌, None};
 ghost use Rattle.omi_calls.specs.Memory.{calls_made, faults_counted, usual_sizes};
 
 use omi_calls::{Callbacks, Got, MemCalls, Place, Sizes};
-use omi_test_targets::Change;
+use omi_fixture_targets::Change;
 use std::cell::Cell;
 
 /// What is changed now, and how many words were read.

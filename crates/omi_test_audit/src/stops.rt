@@ -4,12 +4,12 @@ ghost use Rattle.std.specs.Prelude.{◌≡◌, ◌≤◌, IfOk};
 
 use omi_core::Core;
 use omi_corefile::{CoreImage, core_of};
+use omi_fixture_rows::{A_TEAM_OF_TWO, AN_EMPTY_RUN};
+use omi_fixture_targets::{Words, Wrong, after, at_fork, core_at};
 use omi_layout::Layout;
 use omi_model::Event;
 use omi_rep::{Outcome, suits};
 use omi_script::{Program, parse};
-use omi_test_rows::{A_TEAM_OF_TWO, AN_EMPTY_RUN};
-use omi_test_targets::{Words, Wrong, after, at_fork, core_at};
 use omi_word::Natives;
 use std::alloc::Global;
 

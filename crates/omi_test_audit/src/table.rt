@@ -5,8 +5,8 @@ use crate::asking::{Case, Word, change, first_wrong, refused};
 use crate::places::{BadWord, of_fork, of_list, of_nested};
 use crate::stops::{Records, forked, listed, nested, records_of};
 use omi_audit::Verdict;
+use omi_fixture_targets::{Words, Wrong};
 use omi_layout::Field;
-use omi_test_targets::{Words, Wrong};
 use std::alloc::Global;
 use std::test::Fail;
 

@@ -1,7 +1,7 @@
 //! Lines of the top call over files in memory, of which some calls fail.
 
+use omi_fixture_calls::{Done, call_over, words};
 use omi_outside::{Call, MemFiles, MemSink};
-use omi_test_calls::{Done, call_over, words};
 use omi_top::run_top;
 use std::alloc::{AllocError, Global};
 

@@ -1,9 +1,9 @@
 //! The core of an empty run with one word changed, and what `show` says of it, in either version of the layout.
 
 use crate::calls::{BEFORE, NONE, call};
+use omi_fixture_calls::{core_of, opening_core_v1, with_word};
+use omi_fixture_rows::AN_EMPTY_RUN;
 use omi_outside::Status;
-use omi_test_calls::{core_of, opening_core_v1, with_word};
-use omi_test_rows::AN_EMPTY_RUN;
 use std::alloc::Global;
 use std::process::Abort;
 use std::test::Fail;

@@ -1,9 +1,9 @@
 //! Each call of files and of the output that a command makes, failing in turn, for each command.
 
 use crate::calls::{BEFORE, Failing, NONE, OTHER, PIECE, call_of_two, front};
+use omi_fixture_calls::{CHANGED, Done, core_of};
+use omi_fixture_rows::AN_EMPTY_RUN;
 use omi_outside::{Call, Status};
-use omi_test_calls::{CHANGED, Done, core_of};
-use omi_test_rows::AN_EMPTY_RUN;
 use std::alloc::{AllocError, Global};
 use std::process::Abort;
 use std::test::Fail;

@@ -5,9 +5,9 @@ ghost use Rattle.std.specs.Int.{from_le_bytes, w64};
 ghost use Rattle.omi_calls.specs.Kept.{GivesNumbers, TakesAll};
 
 use omi_calls::ToHost;
+use omi_fixture_rows::AN_EMPTY_RUN;
+use omi_fixture_targets::{Asked, LITTLE, Wrong, after, core_at, library};
 use omi_session::Rc;
-use omi_test_rows::AN_EMPTY_RUN;
-use omi_test_targets::{Asked, LITTLE, Wrong, after, core_at, library};
 use std::alloc::Global;
 use std::process::Abort;
 use std::test::Fail;

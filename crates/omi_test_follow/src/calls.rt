@@ -1,7 +1,7 @@
 //! Lines of `follow` over two cores in memory, and what they are to leave.
 
+use omi_fixture_calls::{Done, core_with, words};
 use omi_outside::{Call, MemFiles, MemSink, Status};
-use omi_test_calls::{Done, core_with, words};
 use omi_top::run_top;
 use std::alloc::{AllocError, Global};
 use std::process::Abort;

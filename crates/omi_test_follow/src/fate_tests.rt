@@ -1,9 +1,9 @@
 //! What `follow` says of tasks: each kind current and stale, in every family and either order of bytes.
 
 use crate::calls::{Cores, core_at, expect};
+use omi_fixture_calls::{call, core_of, core_with, with_word};
+use omi_fixture_rows::A_TEAM_OF_TWO;
 use omi_outside::Status;
-use omi_test_calls::{call, core_of, core_with, with_word};
-use omi_test_rows::A_TEAM_OF_TWO;
 use std::alloc::Global;
 use std::fmt::Write;
 use std::process::Abort;

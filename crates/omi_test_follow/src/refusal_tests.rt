@@ -2,9 +2,9 @@
 
 use crate::calls::{Cores, call, expect, expect_done};
 use crate::fate_tests::{BOTH_CURRENT, TWO_TASKS, USED_AGAIN};
+use omi_fixture_calls::{core_of, core_with, opening_core_v1, with_word};
+use omi_fixture_rows::{A_TEAM_OF_TWO, AN_EMPTY_RUN};
 use omi_outside::{Call, Status};
-use omi_test_calls::{core_of, core_with, opening_core_v1, with_word};
-use omi_test_rows::{A_TEAM_OF_TWO, AN_EMPTY_RUN};
 use std::alloc::{AllocError, Global};
 use std::process::Abort;
 use std::test::Fail;

@@ -13,13 +13,13 @@ use omi_asktask::{
     get_task_frame, get_task_function, get_task_in_parallel, task_id,
 };
 use omi_calls::ToHost;
+use omi_fixture_rows::{A_TEAM_OF_TWO, AN_EMPTY_RUN};
+use omi_fixture_targets::{
+    Asked, BIG, ByteOrder, LITTLE, Opened, Stopped, Wrong, after, at_fork, core_at, open,
+};
 use omi_handle::{RegionHandle, TaskHandle, ThreadHandle};
 use omi_model::{Id, Rid, Tid};
 use omi_session::Rc;
-use omi_test_rows::{A_TEAM_OF_TWO, AN_EMPTY_RUN};
-use omi_test_targets::{
-    Asked, BIG, ByteOrder, LITTLE, Opened, Stopped, Wrong, after, at_fork, core_at, open,
-};
 use std::alloc::Global;
 use std::test::Fail;
 

@@ -10,13 +10,13 @@ use omi_asktask::{
     task_handle_compare, task_id,
 };
 use omi_calls::ToHost;
+use omi_fixture_rows::A_TEAM_OF_TWO;
+use omi_fixture_targets::{
+    Asked, LITTLE, LONG_TASKS, Opened, Stopped, Wrong, at_fork, core_at, library, long_chains, open,
+};
 use omi_handle::TaskHandle;
 use omi_model::{TaskRow, Tid};
 use omi_session::Rc;
-use omi_test_rows::A_TEAM_OF_TWO;
-use omi_test_targets::{
-    Asked, LITTLE, LONG_TASKS, Opened, Stopped, Wrong, at_fork, core_at, library, long_chains, open,
-};
 use omi_walk::{KeptList, WalkFault, kept, walk};
 use omi_word::{Natives, OutOfMemory};
 use std::alloc::Global;

@@ -10,11 +10,11 @@ use omi_ask::{
 };
 use omi_asktask::{get_curr_task_handle, get_task_frame, get_task_function, get_task_in_parallel};
 use omi_calls::ToHost;
+use omi_fixture_targets::{Asked, LITTLE, Opened, Stopped, Wrong, library, open, two_stops};
 use omi_handle::{RegionHandle, TaskHandle, ThreadHandle};
 use omi_icv::{Scoped, get_icv_from_scope};
 use omi_model::{Id, Rid};
 use omi_session::Rc;
-use omi_test_targets::{Asked, LITTLE, Opened, Stopped, Wrong, library, open, two_stops};
 use std::alloc::Global;
 use std::test::Fail;
 

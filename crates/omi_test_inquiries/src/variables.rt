@@ -8,13 +8,13 @@ use omi_ask::{get_curr_parallel_handle, get_thread_handle};
 use omi_asktask::get_curr_task_handle;
 use omi_calls::ToHost;
 use omi_corefile::CoreImage;
+use omi_fixture_rows::{A_TEAM_OF_TWO, AN_EMPTY_RUN};
+use omi_fixture_targets::{Asked, LITTLE, Opened, Stopped, Wrong, after, at_fork, core_at, open};
 use omi_icv::{
     Scoped, enumerate_icvs, enumerate_states, get_display_control_vars, get_icv_from_scope,
     get_icv_string_from_scope, get_state, get_tool_data,
 };
 use omi_session::Rc;
-use omi_test_rows::{A_TEAM_OF_TWO, AN_EMPTY_RUN};
-use omi_test_targets::{Asked, LITTLE, Opened, Stopped, Wrong, after, at_fork, core_at, open};
 use std::alloc::Global;
 use std::test::Fail;
 

@@ -6,11 +6,11 @@ ghost use Rattle.omi_calls.specs.Kept.{GivesNumbers, TakesAll};
 
 use omi_calls::ToHost;
 use omi_corefile::CoreImage;
-use omi_layout::Field;
-use omi_test_rows::A_TEAM_OF_TWO;
-use omi_test_targets::{
+use omi_fixture_rows::A_TEAM_OF_TWO;
+use omi_fixture_targets::{
     Asked, BIG, ByteOrder, LITTLE, Stopped, Words, Wrong, at_fork, core_at, library, open,
 };
+use omi_layout::Field;
 use omi_text::report_text;
 use omi_walk::{WalkFault, walk};
 use omi_word::{Natives, OutOfMemory};

@@ -6,8 +6,8 @@ use omi::{
     rel_parallel_handle, rel_task_handle,
 };
 use omi_corefile::encode;
+use omi_fixture_targets::{LONG_REGIONS, LONG_TASKS, long_chains};
 use omi_outside::MemFiles;
-use omi_test_targets::{LONG_REGIONS, LONG_TASKS, long_chains};
 use std::alloc::Global;
 use std::test::Fail;
 

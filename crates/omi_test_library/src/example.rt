@@ -16,10 +16,10 @@ use omi_asktask::{
 };
 use omi_calls::{MemCalls, Table, ToHost};
 use omi_corefile::CoreImage;
+use omi_fixture_targets::{Wrong, two_stops};
 use omi_handle::{RegionHandle, TaskHandle, ThreadHandle};
 use omi_model::{Id, Rid, Tid};
 use omi_session::{Rc, Session, initialize};
-use omi_test_targets::{Wrong, two_stops};
 use std::alloc::Global;
 use std::cmp::Ordering;
 use std::test::Fail;

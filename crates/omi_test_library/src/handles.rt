@@ -13,13 +13,13 @@ use omi_asktask::{
     task_handle_compare,
 };
 use omi_calls::{Table, ToHost};
+use omi_fixture_rows::A_TEAM_OF_TWO;
+use omi_fixture_targets::{
+    Asked, LITTLE, Opened, Stopped, Target, Wrong, after, at_fork, core_at, library, open,
+};
 use omi_handle::{Held, Kind, RegionHandle, TaskHandle, ThreadHandle};
 use omi_layout::Field;
 use omi_session::{Rc, lead};
-use omi_test_rows::A_TEAM_OF_TWO;
-use omi_test_targets::{
-    Asked, LITTLE, Opened, Stopped, Target, Wrong, after, at_fork, core_at, library, open,
-};
 use std::alloc::Global;
 use std::cmp::Ordering;
 use std::test::Fail;

@@ -6,12 +6,12 @@ ghost use Rattle.omi_calls.specs.Kept.{GivesNumbers, TakesAll};
 
 use omi_calls::{MemCalls, Table, ToHost};
 use omi_corefile::CoreImage;
-use omi_session::{Rc, get_api_version, get_version_string, initialize};
-use omi_test_rows::{A_TEAM_OF_TWO, AN_EMPTY_RUN};
-use omi_test_targets::{
+use omi_fixture_rows::{A_TEAM_OF_TWO, AN_EMPTY_RUN};
+use omi_fixture_targets::{
     Asked, BIG, ByteOrder, LITTLE, Opened, Stopped, Target, Words, Wrong, after, core_at, library,
     open,
 };
+use omi_session::{Rc, get_api_version, get_version_string, initialize};
 use std::alloc::Global;
 use std::test::Fail;
 

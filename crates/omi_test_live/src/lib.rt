@@ -1,7 +1,5 @@
-//! Tests of the top call over running threads: what it prints and leaves, and its refusals.
+//! Tests of threads that run beside each other.
 #![tactic(auto)]
 
 #[cfg(test)]
-mod failing_tests;
-#[cfg(test)]
-mod top_tests;
+mod live_tests;

@@ -1,10 +1,10 @@
 //! The whole report of a half-made fork, and that of the fork.
 use crate::read_events::event;
+use omi_fixture_rows::{A_TEAM_OF_TWO, FORKED, HALF_MADE};
 use omi_machine::{State, after, opening};
 use omi_machine_legal::legal;
 use omi_machine_view::view_of;
 use omi_script::parse;
-use omi_test_rows::{A_TEAM_OF_TWO, FORKED, HALF_MADE};
 use omi_text::report_text;
 use omi_word::Natives;
 use std::test::Fail;

@@ -1,12 +1,12 @@
 //! Worked reports, and the texts of events.
 
+use omi_fixture_rows::FORKED;
 use omi_model::{
     HeadRow, Id, MemberRow, MemberRows, RegionRow, RegionRows, Rid, TaskRow, TaskRows, ThreadPart,
     ThreadRow, ThreadRows, Tid, View,
 };
 use omi_numbers::{kind_name, state_name};
 use omi_script::NumList;
-use omi_test_rows::FORKED;
 use omi_text::report_text;
 use std::alloc::{AllocError, Global};
 use std::process::Abort;

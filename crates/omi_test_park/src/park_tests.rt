@@ -7,12 +7,12 @@ ghost use Rattle.omi_seat.specs.declared.limits.TheConstants.{MOST_BUDGET};
 
 use crate::gates::{AtSteps, Counting, MidRun};
 use omi_core::Until;
+use omi_fixture_rows::A_TEAM_OF_TWO;
 use omi_layout::{Layout, MOST_THREADS};
 use omi_outside::{FreeGate, Gate};
 use omi_park::{MOST_STOPS, ParkEnd, Stopped, park, park_within};
 use omi_rep::suits;
 use omi_script::{Program, parse};
-use omi_test_rows::A_TEAM_OF_TWO;
 use omi_word::{FIRST_ADDRESS, Image};
 use std::alloc::Global;
 use std::sync::Wait;

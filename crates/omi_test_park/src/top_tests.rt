@@ -1,9 +1,9 @@
 //! Runs of threads with stops through the top call, and each of its refusals.
 
 use crate::gates::{AtSteps, MidRun};
+use omi_fixture_rows::{A_TEAM_OF_TWO, AN_EMPTY_RUN};
 use omi_outside::{Call, FreeGate, Gate, MemFiles, MemSink, Status};
 use omi_park::park_top;
-use omi_test_rows::{A_TEAM_OF_TWO, AN_EMPTY_RUN};
 use std::alloc::{AllocError, Global};
 use std::sync::Wait;
 use std::test::Fail;

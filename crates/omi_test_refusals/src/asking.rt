@@ -12,13 +12,13 @@ use omi_asktask::{
     get_task_function, get_task_in_parallel, rel_task_handle, task_handle_compare, task_id,
 };
 use omi_calls::ToHost;
+use omi_fixture_rows::A_TEAM_OF_TWO;
+use omi_fixture_targets::{
+    Asked, Change, LITTLE, Opened, Stopped, Words, Wrong, at_fork, library, open,
+};
 use omi_handle::{RegionHandle, TaskHandle, ThreadHandle};
 use omi_icv::{Scoped, get_icv_from_scope, get_state, get_tool_data};
 use omi_session::Rc;
-use omi_test_rows::A_TEAM_OF_TWO;
-use omi_test_targets::{
-    Asked, Change, LITTLE, Opened, Stopped, Words, Wrong, at_fork, library, open,
-};
 use std::alloc::Global;
 
 /// Handles of thread 0, of the region that it is in and of its current task.

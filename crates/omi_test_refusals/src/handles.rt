@@ -12,9 +12,9 @@ use omi_ask::{
 };
 use omi_asktask::{get_task_function, get_task_in_parallel, rel_task_handle, task_id};
 use omi_calls::ToHost;
+use omi_fixture_targets::{Asked, LITTLE, Opened, Stopped, Words, Wrong, library, open};
 use omi_icv::{Scoped, get_icv_from_scope, get_icv_string_from_scope};
 use omi_session::Rc;
-use omi_test_targets::{Asked, LITTLE, Opened, Stopped, Words, Wrong, library, open};
 use std::alloc::Global;
 use std::process::Abort;
 use std::test::Fail;

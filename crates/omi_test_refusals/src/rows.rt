@@ -6,9 +6,9 @@ ghost use Rattle.omi_calls.specs.Kept.{GivesNumbers, TakesAll};
 
 use crate::asking::{COUNT, EACH, Inquiry, Refusals, changed, refusals, unread};
 use omi_calls::ToHost;
+use omi_fixture_targets::{Asked, Change, Words, Wrong};
 use omi_layout::Field;
 use omi_session::Rc;
-use omi_test_targets::{Asked, Change, Words, Wrong};
 use std::alloc::Global;
 
 pub const GONE: Rc = Rc::Unavailable;

@@ -10,11 +10,11 @@ ghost use Rattle.omi_word.specs.Memory.{IsWordOf, word_at};
 
 use crate::runs::{Wrong, layout_of, rewind_of, stands_behind};
 use omi_core::Schedule;
+use omi_fixture_rows::A_TEAM_OF_TWO;
 use omi_layout::{Field, Layout};
 use omi_model::Event;
 use omi_numbers::{IDLE, OVERHEAD, WAIT_TASKWAIT};
 use omi_rewind::{ImageTest, Kept, Rewind, Test};
-use omi_test_rows::A_TEAM_OF_TWO;
 use omi_word::Image;
 use std::alloc::Global;
 

@@ -2,8 +2,8 @@
 
 use crate::runs::{Wrong, differing, fork_of, jump, rewind_of, run_for, stands_behind};
 use omi_core::{End, Schedule, Stop};
+use omi_fixture_rows::A_TEAM_OF_TWO;
 use omi_rewind::At;
-use omi_test_rows::A_TEAM_OF_TWO;
 use std::fs;
 use std::test::Fail;
 

@@ -1,12 +1,12 @@
 //! Calls of the top call over a script in memory, and what they leave.
 
 use omi_core::{Break, Core, End, Schedule, Stop};
+use omi_fixture_rows::A_TEAM_OF_TWO;
 use omi_layout::Layout;
 use omi_outside::{Call, MemFiles, MemSink, Status};
 use omi_rep::suits;
 use omi_rewind_top::rewind_top;
 use omi_script::parse;
-use omi_test_rows::A_TEAM_OF_TWO;
 use std::alloc::{AllocError, Global};
 use std::process::Abort;
 use std::test::Fail;

@@ -1,8 +1,8 @@
 //! Each call of files and of the output that fails in turn.
 
 use crate::calls::call;
+use omi_fixture_rows::A_TEAM_OF_TWO;
 use omi_outside::{Call, Status};
-use omi_test_rows::A_TEAM_OF_TWO;
 use std::test::Fail;
 
 /// A text is put in pieces of so many bytes.

@@ -6,11 +6,11 @@ ghost use Rattle.omi_rewind.specs.declared.limits.TheConstants.{LAST_STEP};
 
 use omi_core::Schedule;
 use omi_corefile::core_bytes_of;
+use omi_fixture_calls::core_of;
+use omi_fixture_rows::A_TEAM_OF_TWO;
 use omi_layout::Layout;
 use omi_rewind::{At, Rewind};
 use omi_script::parse;
-use omi_test_calls::core_of;
-use omi_test_rows::A_TEAM_OF_TWO;
 use omi_word::Natives;
 use std::alloc::Global;
 use std::test::Fail;

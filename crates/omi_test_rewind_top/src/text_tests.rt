@@ -1,8 +1,8 @@
 //! Tests of what `at` and `when` print.
 
 use crate::calls::{call, expect, fork_of};
+use omi_fixture_rows::{A_TEAM_OF_TWO, AN_EMPTY_RUN, FORKED, HALF_MADE};
 use omi_outside::Status;
-use omi_test_rows::{A_TEAM_OF_TWO, AN_EMPTY_RUN, FORKED, HALF_MADE};
 use std::test::Fail;
 
 /// The report of no statement and one thread at its first step.

@@ -1,8 +1,8 @@
 //! Tests of words that are refused, of a thread that the program doesn't have, and of the order of refusals.
 
 use crate::calls::{call, expect};
+use omi_fixture_rows::A_TEAM_OF_TWO;
 use omi_outside::Status;
-use omi_test_rows::A_TEAM_OF_TWO;
 use std::test::Fail;
 
 const USAGE: &str = "usage\n";

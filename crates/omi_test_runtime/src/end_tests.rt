@@ -8,9 +8,9 @@ use crate::places::{FIFTH, FIRST, SECOND};
 use crate::scripts::{A_CHANGED_HEAD, A_CHANGED_HEAD_OF_TEAMS};
 use crate::trial::{Looks, Trial, Wrong, core_of, program_in};
 use omi_core::{Core, End, Schedule, Stop};
+use omi_fixture_rows::{A_TEAM_OF_TWO, AN_EMPTY_RUN};
 use omi_layout::{Field, Layout};
 use omi_model::{Id, Rid, Tid};
-use omi_test_rows::{A_TEAM_OF_TWO, AN_EMPTY_RUN};
 use std::alloc::Global;
 use std::test::Fail;
 

@@ -3,7 +3,7 @@
 use crate::orders::{Dice, Manner, at_random};
 use crate::scripts::{A_CONTESTED_WORKER, LIMIT_OF_ACTIVE_LEVELS, TOO_FEW_THREADS};
 use crate::trial::{Looks, Trial, Wrong};
-use omi_test_rows::A_TEAM_OF_TWO;
+use omi_fixture_rows::A_TEAM_OF_TWO;
 use std::alloc::Global;
 use std::test::Fail;
 

@@ -7,8 +7,8 @@ use crate::orders::until;
 use crate::places::{FIRST, SECOND, SIXTH, THIRD};
 use crate::scripts::{A_GROUP_OF_A_MEMBER, A_TASK_BEFORE_A_GROUP, FOUR_GROUPS};
 use crate::trial::{Looks, Trial, Wrong};
+use omi_fixture_rows::A_GROUPS_DESCENDANTS;
 use omi_layout::{COUNT_PLACE, Field, GROUP_PLACE, OPEN_PLACE};
-use omi_test_rows::A_GROUPS_DESCENDANTS;
 use std::alloc::Global;
 use std::test::Fail;
 

@@ -2,7 +2,7 @@
 
 use crate::orders::until;
 use crate::trial::{Looks, Trial};
-use omi_test_rows::A_TEAM_OF_TWO;
+use omi_fixture_rows::A_TEAM_OF_TWO;
 use omi_word::{Image, Op, OutOfMemory};
 use std::alloc::Global;
 use std::test::Fail;

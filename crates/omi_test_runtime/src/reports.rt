@@ -7,7 +7,7 @@ ghost use Rattle.omi_calls.specs.Kept.{GivesNumbers, TakesAll};
 use crate::trial::{Trial, Wrong};
 use omi_calls::ToHost;
 use omi_corefile::{CoreImage, core_of};
-use omi_test_targets::{Asked, LITTLE, Stopped, open};
+use omi_fixture_targets::{Asked, LITTLE, Stopped, open};
 use omi_text::report_text;
 use omi_walk::walk;
 use omi_word::Natives;

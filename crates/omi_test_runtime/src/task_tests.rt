@@ -9,9 +9,9 @@ use crate::places::{FIRST, FOURTH, OTHER, THIRD};
 use crate::reports::{has_lines, report};
 use crate::scripts::{A_NESTED_CHAIN, AN_ENDED_ANCESTOR};
 use crate::trial::{Looks, Trial, Wrong};
+use omi_fixture_rows::A_FULL_ROW;
 use omi_layout::Field;
 use omi_rep::Outcome;
-use omi_test_rows::A_FULL_ROW;
 use std::alloc::Global;
 use std::test::Fail;
 

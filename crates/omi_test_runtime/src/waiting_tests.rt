@@ -7,7 +7,7 @@ use crate::scripts::{
     TWO_BARRIERS, WAITS_FOR_TASKS,
 };
 use crate::trial::{Few, Looks, Trial, Wrong};
-use omi_test_rows::{A_FULL_ROW, A_TEAM_OF_TWO};
+use omi_fixture_rows::{A_FULL_ROW, A_TEAM_OF_TWO};
 use std::alloc::Global;
 use std::test::Fail;
 

@@ -1,9 +1,9 @@
 //! Runs of `audit` through the top call: verdicts on the cores of runs and on cores with one word changed, and each of its refusals.
 
 use crate::show_tests::{DAMAGED, HOSTILE, with_byte};
+use omi_fixture_calls::{call, core_of, core_with, opening_core_v1, with_word};
+use omi_fixture_rows::{A_FULL_ROW, A_TEAM_OF_TWO, AN_EMPTY_RUN};
 use omi_outside::{Call, Status};
-use omi_test_calls::{call, core_of, core_with, opening_core_v1, with_word};
-use omi_test_rows::{A_FULL_ROW, A_TEAM_OF_TWO, AN_EMPTY_RUN};
 use std::alloc::{AllocError, Global};
 use std::process::Abort;
 use std::test::Fail;

@@ -2,8 +2,8 @@
 
 use crate::elf_files::{hand_made, with_bytes};
 use crate::show_tests::{FINISHED, OPENING, expect};
+use omi_fixture_calls::{CHANGED, Done, EMPTY, call, core_of};
 use omi_outside::{Call, Status};
-use omi_test_calls::{CHANGED, Done, EMPTY, call, core_of};
 use std::alloc::{AllocError, Global};
 use std::process::Abort;
 use std::test::Fail;

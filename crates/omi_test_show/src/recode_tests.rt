@@ -1,8 +1,8 @@
 //! Runs of `recode` through the top call: the copy in either order, its report, and each refusal.
 
 use crate::show_tests::{FINISHED, OPENING, expect};
+use omi_fixture_calls::{CHANGED, Done, EMPTY, call, core_of};
 use omi_outside::{Call, Status};
-use omi_test_calls::{CHANGED, Done, EMPTY, call, core_of};
 use std::alloc::{AllocError, Global};
 use std::process::Abort;
 use std::test::Fail;

@@ -3,8 +3,8 @@
 ghost use Rattle.std.specs.Prelude.{◌≤◌};
 
 use crate::show_tests::{OPENING, expect};
+use omi_fixture_calls::{EMPTY, call, core_of};
 use omi_outside::Status;
-use omi_test_calls::{EMPTY, call, core_of};
 use std::alloc::Global;
 use std::test::Fail;
 

@@ -1,8 +1,8 @@
 //! Runs of threads through the top call, and each of its refusals.
 
+use omi_fixture_gates::{Done, Leading, Meeting, call, call_past, inspect};
+use omi_fixture_rows::{A_FULL_ROW, A_TEAM_OF_TWO};
 use omi_outside::{Call, Status};
-use omi_test_gates::{Done, Leading, Meeting, call, call_past, inspect};
-use omi_test_rows::{A_FULL_ROW, A_TEAM_OF_TWO};
 use std::alloc::Global;
 use std::process::Abort;
 use std::test::Fail;

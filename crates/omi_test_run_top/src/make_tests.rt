@@ -1,7 +1,7 @@
 //! Runs of `make` through the top call, with a writing or a put that may fail.
 
+use omi_fixture_calls::{call, run};
 use omi_outside::{Call, Status};
-use omi_test_calls::{call, run};
 use std::alloc::{AllocError, Global};
 use std::process::Abort;
 use std::test::Fail;

@@ -1,8 +1,8 @@
 //! Runs of `stop` through the top call: words of its cores, failing calls, and refusals whose line can or can't be put.
 
+use omi_fixture_calls::{CHANGED, EMPTY, call, core_of, run};
+use omi_fixture_rows::A_GROUPS_DESCENDANTS;
 use omi_outside::{Call, Status};
-use omi_test_calls::{CHANGED, EMPTY, call, core_of, run};
-use omi_test_rows::A_GROUPS_DESCENDANTS;
 use std::alloc::{AllocError, Global};
 use std::process::Abort;
 use std::test::Fail;

@@ -1,9 +1,9 @@
 //! Runs of threads that form teams, cut anywhere and at each kind of break.
 
+use omi_fixture_gates::{call_past, inspect};
+use omi_fixture_rows::A_TEAM_OF_TWO;
 use omi_outside::Status;
 use omi_seat::StartGate;
-use omi_test_gates::{call_past, inspect};
-use omi_test_rows::A_TEAM_OF_TWO;
 use std::alloc::Global;
 use std::process::Abort;
 use std::test::Fail;

@@ -4,14 +4,14 @@ ghost use Rattle.std.specs.Prelude.{◌≤◌};
 ghost use Rattle.omi_seat.specs.declared.limits.TheConstants.{MOST_BUDGET};
 
 use omi_core::{Break, Until};
+use omi_fixture_gates::{Leading, Meeting, Starting};
+use omi_fixture_rows::A_TEAM_OF_TWO;
 use omi_layout::{Layout, MOST_THREADS};
 use omi_live::{LiveEnd, live};
 use omi_outside::{FreeGate, Gate};
 use omi_rep::suits;
 use omi_script::parse;
 use omi_seat::StartGate;
-use omi_test_gates::{Leading, Meeting, Starting};
-use omi_test_rows::A_TEAM_OF_TWO;
 use std::alloc::Global;
 use std::test::Fail;
 use std::thread::Threads;

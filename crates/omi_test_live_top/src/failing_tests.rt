@@ -1,9 +1,9 @@
 //! Each call of files and of the output that the top call over running threads makes, failing in turn.
 
+use omi_fixture_gates::Done;
+use omi_fixture_rows::{A_FULL_ROW, A_TEAM_OF_TWO};
 use omi_live::live_top;
 use omi_outside::{Call, FreeGate, MemFiles, MemSink, Status};
-use omi_test_gates::Done;
-use omi_test_rows::{A_FULL_ROW, A_TEAM_OF_TWO};
 use std::alloc::{AllocError, Global};
 use std::process::Abort;
 use std::test::Fail;

@@ -1,8 +1,8 @@
 //! Runs of `run` through the top call: what it prints of the core that it reads back, and what it leaves.
 
+use omi_fixture_calls::{EMPTY, call, core_of, with_word};
+use omi_fixture_rows::{A_TEAM_OF_TWO, FORKED};
 use omi_outside::{Call, Status};
-use omi_test_calls::{EMPTY, call, core_of, with_word};
-use omi_test_rows::{A_TEAM_OF_TWO, FORKED};
 use std::alloc::{AllocError, Global};
 use std::process::Abort;
 use std::test::Fail;
