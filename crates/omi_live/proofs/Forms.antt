@@ -1,5 +1,5 @@
 -- The words are a command exactly where they have its form.
-use Rattle.std.proofs.Common.{◌≡◌, ◌∙◌, ◌&&◌, ◌||◌, ℕ, Bool, true, false, cond, refl, sym, ap, List, [], ◌∷◌, Option, Some, None, is_some}
+use Rattle.std.proofs.Common.{◌≡◌, ◌∙◌, ◌&&◌, ◌||◌, ℕ, Bool, true, false, cond, refl, ap, List, [], ◌∷◌, Option, Some, None, is_some}
 use Rattle.std.specs.Prelude.{option_and_then, option_map}
 use Rattle.omi_core.specs.declared.stop.Break.{Break}
 use Rattle.omi_line.specs.Number.{number_between}
@@ -9,9 +9,8 @@ use Rattle.omi_usage.specs.Form.{fits_form, is_command, options_fit, value_fits}
 use Rattle.omi_commands.specs.Options.{break_named, layout_of}
 use Rattle.omi_commands.specs.Forms.{a_breakpoint, a_layout}
 use Rattle.omi_commands.proofs.Forms.{breakpoint_fits, layout_fits}
-use Rattle.omi_live.specs.Command.{LiveCommand, live_break_of, live_command_by, live_command_of, live_command_with, live_plan_of, live_plan_with}
+use Rattle.omi_live.specs.Command.{live_break_of, live_command_by, live_command_of, live_command_with, live_plan_of, live_plan_with}
 use Rattle.omi_live.specs.Forms.{live_form}
-use Rattle.omi_live.specs.declared.command.LivePlan.{LivePlan}
 
 break_fits : (on : Option (List ℕ)) → value_fits (Some a_breakpoint) on ≡ is_some (live_break_of on)
 break_fits None = refl

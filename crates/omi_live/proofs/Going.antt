@@ -12,7 +12,7 @@ use Rattle.omi_core.specs.declared.thread_run.Until.TheVariants as until
 use Rattle.omi_live.specs.declared.known.Access.{Access}
 use Rattle.omi_live.specs.declared.known.Access.TheVariants as access
 use Rattle.omi_live.specs.declared.known.Part.{Part}
-use Rattle.omi_live.specs.declared.worker.Worker.{Worker}
+use Rattle.omi_seat.specs.declared.worker.Worker.{Worker}
 use Rattle.omi_live.specs.Plays.{first_part, looks, makes, raises}
 use Rattle.omi_live.specs.Accesses.{with_looks}
 use Rattle.omi_seat.specs.Known.{entry_known, steps_known}
@@ -35,11 +35,12 @@ MayGoOn on x =
     GoesOn on (steps_known x.known)
     ⊎ ((x.told ≡ true) × (is_ended (steps_known x.known) ≡ false) × WentOn on (steps_known x.known))
 
-pub record IsWorking (p : Program) (l : Layout) (id : TableId) (on : Option Break) (budget made thread : ℕ)
-    (worker : Worker) : Type 0 where
+pub record IsWorking (p : Program) (l : Layout) (id : TableId) (on : Option Break) (budget made : ℕ)
+    (opened : StepLog) (worker : Worker Part) : Type 0 where
   pub part : Part
   pub work : IsAtWork p l id part worker
-  pub own : worker.log.thread ≡ thread
+  pub own : worker.log.thread ≡ opened.thread
+  pub kept : worker.log.kept ≡ opened.kept
   pub count : length part.known.found ≡ made
   pub room : HasRoom (budget - made) part.known worker.log
   pub goes : MayGoOn on part
@@ -62,7 +63,7 @@ not_told on x raised (inr was) told not = absurd (false≢true (sym not ∙ told
 -- ---- a look
 
 -- what a look leaves of a worker
-pub looked_work : {p : Program} {l : Layout} {id : TableId} {x : Part} {raised : Bool} {old new : Worker}
+pub looked_work : {p : Program} {l : Layout} {id : TableId} {x : Part} {raised : Bool} {old new : Worker Part}
     → IsAtWork p l id x old → HasLooked x raised new → IsSameBut old new
     → IsAtWork p l id (looks raised x) new
 looked_work {p = p} {l = l} {x = x} work looked same = record {
@@ -71,18 +72,19 @@ looked_work {p = p} {l = l} {x = x} work looked same = record {
   knows = looked.knows;
 }
 
-pub same_room : (n : ℕ) (x : Known) (old new : Worker) → IsSameBut old new → HasRoom n x old.log
+pub same_room : (n : ℕ) (x : Known) (old new : Worker Part) → IsSameBut old new → HasRoom n x old.log
     → HasRoom n x new.log
 same_room n x old new same room = subst (λ (g : StepLog). HasRoom n x g) (sym same.log) room
 
 -- ---- one more step of a thread
 
 -- a thread that was not told makes a step
-pub record Behind (p : Program) (l : Layout) (id : TableId) (on : Option Break) (budget made thread : ℕ)
-    (worker : Worker) (out : Outcome) : Type 0 where
+pub record Behind (p : Program) (l : Layout) (id : TableId) (on : Option Break) (budget made : ℕ)
+    (opened : StepLog) (worker : Worker Part) (out : Outcome) : Type 0 where
   pub part : Part
   pub work : IsAtWork p l id part worker
-  pub own : worker.log.thread ≡ thread
+  pub own : worker.log.thread ≡ opened.thread
+  pub kept : worker.log.kept ≡ opened.kept
   pub count : length part.known.found ≡ made + 1
   pub before : List Entry
   pub goes : GoesOn on before
@@ -94,17 +96,18 @@ pub record Behind (p : Program) (l : Layout) (id : TableId) (on : Option Break) 
   pub room : HasRoom (budget - (made + 1)) part.known worker.log
   pub did : part.accesses ≡ (past ++ access.Look false ∷ []) ++ access.Step last ∷ []
 
-pub behind_step : {p : Program} {l : Layout} {id : TableId} {on : Option Break} {budget made thread : ℕ}
-    (x : Part) {raised : Bool} {old new : Worker} {out : Outcome}
+pub behind_step : {p : Program} {l : Layout} {id : TableId} {on : Option Break} {budget made : ℕ} {opened : StepLog}
+    (x : Part) {raised : Bool} {old new : Worker Part} {out : Outcome}
     → length x.known.found ≡ made → GoesOn on (steps_known x.known)
     → x.accesses ≡ with_looks on (steps_known x.known) → raised ≡ false → made < budget
     → HasRoom (budget - made) x.known old.log → HasStepped p l id (looks raised x) old new out
-    → new.log.thread ≡ thread → Behind p l id on budget made thread new out
+    → new.log.thread ≡ opened.thread → new.log.kept ≡ opened.kept → Behind p l id on budget made opened new out
 behind_step {budget = budget} {made = made} x {raised = raised} {old = old} =
-    λ count goes so_far not below room stepped own. record {
+    λ count goes so_far not below room stepped own kept. record {
       part = makes stepped.found (looks raised x);
       work = stepped.work;
       own = own;
+      kept = kept;
       count = length-append x.known.found (stepped.found ∷ []) ∙ ap (λ n. n + 1) count;
       before = steps_known x.known;
       goes = goes;
@@ -123,9 +126,9 @@ behind_step {budget = budget} {made = made} x {raised = raised} {old = old} =
     }
 
 -- it committed `done`
-pub behind_done : {p : Program} {l : Layout} {id : TableId} {on : Option Break} {budget made thread : ℕ}
-    {worker : Worker} {out : Outcome}
-    → made < budget → ends_at out ≡ true → (b : Behind p l id on budget made thread worker out)
+pub behind_done : {p : Program} {l : Layout} {id : TableId} {on : Option Break} {budget made : ℕ} {opened : StepLog}
+    {worker : Worker Part} {out : Outcome}
+    → made < budget → ends_at out ≡ true → (b : Behind p l id on budget made opened worker out)
     → HasWorked budget on b.part until.Ended
 behind_done {on = on} {made = made} below done b =
     let count : length (steps_known b.part.known) ≡ made + 1 = steps_found b.part.known ∙ b.count in
@@ -142,26 +145,26 @@ behind_done {on = on} {made = made} below done b =
           ∙ sym (append-nil (with_looks on (steps_known b.part.known)));
     }
 
-pub behind_not_ended : {p : Program} {l : Layout} {id : TableId} {on : Option Break} {budget made thread : ℕ}
-    {worker : Worker} {out : Outcome}
-    → ends_at out ≡ false → (b : Behind p l id on budget made thread worker out)
+pub behind_not_ended : {p : Program} {l : Layout} {id : TableId} {on : Option Break} {budget made : ℕ} {opened : StepLog}
+    {worker : Worker Part} {out : Outcome}
+    → ends_at out ≡ false → (b : Behind p l id on budget made opened worker out)
     → is_ended (steps_known b.part.known) ≡ false
 behind_not_ended not b =
     ap is_ended b.steps ∙ ended_by b.before b.last ∙ ap ends_at (sym b.out_is) ∙ not
 
-pub behind_stops : {p : Program} {l : Layout} {id : TableId} {on : Option Break} {budget made thread : ℕ}
-    {worker : Worker} {out : Outcome}
-    → stops_at on out ≡ true → (b : Behind p l id on budget made thread worker out)
+pub behind_stops : {p : Program} {l : Layout} {id : TableId} {on : Option Break} {budget made : ℕ} {opened : StepLog}
+    {worker : Worker Part} {out : Outcome}
+    → stops_at on out ≡ true → (b : Behind p l id on budget made opened worker out)
     → some_stop on (steps_known b.part.known) ≡ true
 behind_stops {on = on} stops b =
     ap (some_stop on) b.steps ∙ stops_last on b.before b.last (ap (stops_at on) (sym b.out_is) ∙ stops)
 
 -- it is told so
-pub behind_told : {p : Program} {l : Layout} {id : TableId} {on : Option Break} {budget made thread : ℕ}
-    {old new : Worker} {out : Outcome}
-    → ends_at out ≡ false → stops_at on out ≡ true → (b : Behind p l id on budget made thread old out)
+pub behind_told : {p : Program} {l : Layout} {id : TableId} {on : Option Break} {budget made : ℕ} {opened : StepLog}
+    {old new : Worker Part} {out : Outcome}
+    → ends_at out ≡ false → stops_at on out ≡ true → (b : Behind p l id on budget made opened old out)
     → new.seat.me ≡ (raises b.part ∷ [], []) → IsSameBut old new
-    → IsWorking p l id on budget (made + 1) thread new
+    → IsWorking p l id on budget (made + 1) opened new
 behind_told {p = p} {l = l} {on = on} {budget = budget} {made = made} {old = old} {new = new} not stops b knows same = record {
   part = raises b.part;
   work = record {
@@ -170,6 +173,7 @@ behind_told {p = p} {l = l} {on = on} {budget = budget} {made = made} {old = old
     knows = knows;
   };
   own = ap (λ (g : StepLog). g.thread) same.log ∙ b.own;
+  kept = ap (λ (g : StepLog). g.kept) same.log ∙ b.kept;
   count = b.count;
   room = same_room (budget - (made + 1)) b.part.known old new same b.room;
   goes = inr (
@@ -184,14 +188,15 @@ behind_told {p = p} {l = l} {on = on} {budget = budget} {made = made} {old = old
 }
 
 -- or it goes on
-pub behind_goes : {p : Program} {l : Layout} {id : TableId} {on : Option Break} {budget made thread : ℕ}
-    {worker : Worker} {out : Outcome}
-    → ends_at out ≡ false → stops_at on out ≡ false → (b : Behind p l id on budget made thread worker out)
-    → IsWorking p l id on budget (made + 1) thread worker
+pub behind_goes : {p : Program} {l : Layout} {id : TableId} {on : Option Break} {budget made : ℕ} {opened : StepLog}
+    {worker : Worker Part} {out : Outcome}
+    → ends_at out ≡ false → stops_at on out ≡ false → (b : Behind p l id on budget made opened worker out)
+    → IsWorking p l id on budget (made + 1) opened worker
 behind_goes {on = on} not no_stop b = record {
   part = b.part;
   work = b.work;
   own = b.own;
+  kept = b.kept;
   count = b.count;
   room = b.room;
   goes =
@@ -206,13 +211,14 @@ behind_goes {on = on} not no_stop b = record {
 
 -- what a worker has before its first step
 pub not_begun : (p : Program) (l : Layout) (id : TableId) (on : Option Break) (budget : ℕ)
-    (worker : Worker) → IsAtWork p l id (first_part p l worker.log.thread) worker
+    (worker : Worker Part) → IsAtWork p l id (first_part p l worker.log.thread) worker
     → HasRoom budget (first_part p l worker.log.thread).known worker.log
-    → IsWorking p l id on budget 0 worker.log.thread worker
+    → IsWorking p l id on budget 0 worker.log worker
 not_begun p l id on budget worker work room = record {
   part = first_part p l worker.log.thread;
   work = work;
   own = refl;
+  kept = refl;
   count = refl;
   room = less_room (budget - 0) budget (first_part p l worker.log.thread).known worker.log (omega arith) room;
   goes = inl tt;
@@ -220,15 +226,17 @@ not_begun p l id on budget worker work room = record {
 }
 
 -- a worker that looked, was not told and made a step
-pub stepped_on : {p : Program} {l : Layout} {id : TableId} {on : Option Break} {budget made thread : ℕ}
-    {first looked next : Worker} {raised : Bool} {out : Outcome}
-    (now : IsWorking p l id on budget made thread first) → HasLooked now.part raised looked
+pub stepped_on : {p : Program} {l : Layout} {id : TableId} {on : Option Break} {budget made : ℕ} {opened : StepLog}
+    {first looked next : Worker Part} {raised : Bool} {out : Outcome}
+    (now : IsWorking p l id on budget made opened first) → HasLooked now.part raised looked
     → IsSameBut first looked → raised ≡ false → made < budget
     → ((x : Part) → IsAtWork p l id x looked → HasStepped p l id x looked next out)
-    → next.log.thread ≡ looked.log.thread → Behind p l id on budget made thread next out
+    → next.log.thread ≡ looked.log.thread → next.log.kept ≡ looked.log.kept
+    → Behind p l id on budget made opened next out
 stepped_on {on = on} {budget = budget} {made = made} {first = first} {looked = looked} {raised = raised} =
-    λ now has same not below steps own.
+    λ now has same not below steps own kept.
     behind_step now.part now.count (not_told on now.part raised now.goes has.told not) now.did not below
     (same_room (budget - made) now.part.known first looked same now.room)
     (steps (looks raised now.part) (looked_work now.work has same))
     (own ∙ ap (λ (g : StepLog). g.thread) same.log ∙ now.own)
+    (kept ∙ ap (λ (g : StepLog). g.kept) same.log ∙ now.kept)

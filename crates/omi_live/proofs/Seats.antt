@@ -1,13 +1,15 @@
 -- Seats are made and taken in, and a table is opened, under the rule.
-use Rattle.std.proofs.Common.{inl, ◌++◌, ℕ, suc, List, [], ◌∷◌, Option, refl, sym}
+use Rattle.std.proofs.Common.{inl, ◌++◌, ℕ, suc, List, [], ◌∷◌, Option, refl, sym, ap, ◌∙◌, subst, ◌≡◌}
 use Rattle.std.proofs.lemmas.Bool.{false≢true}
+use Rattle.std.proofs.lemmas.List.{append-nil}
 use Rattle.atomic_table.specs.Table.{Joins, Splits, State, opening}
 use Rattle.omi_script.specs.declared.program.Program.{Program}
 use Rattle.omi_layout.specs.declared.layout.Layout.{Layout}
 use Rattle.omi_layout.specs.OpeningWords.{AreOpening}
 use Rattle.omi_rep.specs.Suits.{Suits}
 use Rattle.omi_core.specs.declared.stop.Break.{Break}
-use Rattle.omi_seat.specs.Seats.{AreSeated, all_below, first_alone, without_first}
+use Rattle.omi_seat.specs.Seats.{AreSeated, Seated, all_below, first_alone, without_first}
+use Rattle.omi_seat.specs.Workers.{IsToSplit}
 use Rattle.omi_seat.proofs.Opened.{none_yet, opened, untouched_known}
 use Rattle.omi_seat.proofs.Seats.{first_seated, last_split, one_joined}
 use Rattle.omi_live.specs.declared.known.Part.{Part}
@@ -30,12 +32,22 @@ reseated p l on s h views seats = record {
 }
 
 -- the last of so many threads before their first steps gets a seat
-pub split_allowed : (p : Program) (l : Layout) (on : Option Break) (q : Program) (m : Layout) (id n : ℕ)
+split_allowed : (p : Program) (l : Layout) (on : Option Break) (q : Program) (m : Layout) (id n : ℕ)
     → Splits (Keeps p l on) id (all_below (first_part q m) (suc n))
     (without_first (all_below (first_part q m) (suc n))) (first_alone (all_below (first_part q m) (suc n)))
 split_allowed p l on q m id n s h at =
     reseated p l on s h _
     (last_split thread_of (IsPart p l h.behind.keeps.entries h.accesses h.behind.run.actors h.stop) s.views h.seats id n (first_part q m) (λ i. refl) at)
+
+-- and so one seat that knows them all gives each thread its own
+pub to_split : (p : Program) (l : Layout) (on : Option Break) (q : Program) (m : Layout) (me : Seated Part)
+    → me ≡ (first_parts q m, []) → IsToSplit (Keeps p l on) q.threads (first_part q m) [] me
+to_split p l on q m me knows = record {
+  knows = knows ∙ ap (λ (ps : List Part). (ps, [])) (sym (append-nil (first_parts q m)));
+  may = λ id n.
+      subst (λ (v : List Part). Splits (Keeps p l on) id v (without_first v) (first_alone v)) (sym (append-nil (all_below (first_part q m) (suc n))))
+      (split_allowed p l on q m id n);
+}
 
 pub join_allowed : (p : Program) (l : Layout) (on : Option Break) (id : ℕ) (v : List Part) (other : ℕ) (w : List Part)
     → Joins (Keeps p l on) id v other w (v ++ w) []

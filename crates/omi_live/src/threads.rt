@@ -1,29 +1,24 @@
 //! A run of a program by threads of their own, over one table of words.
 
-ghost use Rattle.std.specs.Prelude.{◌≡◌, ◌+◌, ◌<◌, ◌≤◌, ◌++◌, ℕ, List, [], ◌∷◌, length, slice_get, vec_capacity, vec_len, IfOk, Option, Some};
-ghost use Rattle.atomic_table.specs.Table.{Final, Seen};
+ghost use Rattle.std.specs.Prelude.{◌≡◌, ◌≤◌, vec_len, IfOk};
 ghost use Rattle.omi_rep.specs.Suits.{Suits};
-ghost use Rattle.omi_layout.specs.declared.layout.Layout.{Layout};
-ghost use Rattle.omi_script.specs.declared.program.Program.{Program};
-ghost use Rattle.omi_core.specs.declared.stop.Break.{Break};
-ghost use Rattle.omi_word.specs.declared.limits.TheConstants.{MOST_WORDS};
-ghost use Rattle.omi_live.specs.declared.known.Part.{Part};
-ghost use Rattle.omi_seat.specs.declared.limits.TheConstants.{MOST_BUDGET};
-ghost use Rattle.omi_live.specs.Joined.{AreRunsKnown, AreSeatedAt, AreToBegin, HasEnded, HaveEnded, IsRunKnown, IsToBegin};
+ghost use Rattle.omi_live.specs.Joined.{HasEnded, HaveEnded, IsLiveKept};
 ghost use Rattle.omi_live.specs.Live.{IsLive};
-ghost use Rattle.omi_live.specs.Plays.{first_part, first_parts};
+ghost use Rattle.omi_live.specs.Plays.{first_part};
 ghost use Rattle.omi_live.specs.Work.{IsTableFor};
+ghost use Rattle.omi_seat.specs.declared.limits.TheConstants.{MOST_BUDGET};
+ghost use Rattle.omi_seat.specs.declared.step_log.Kept.{Kept};
+ghost use Rattle.omi_seat.specs.Workers.{AreToBegin, IsToBegin};
 
 use crate::known::Part;
 use crate::rule::{Given, Running};
-use crate::worker::{Words, Worker};
-use atomic_table::{Seat, Table};
-use omi_core::{Break, OutOfMemory, RunList, ThreadRun, Until, opening_image};
+use crate::worker::{Words, work};
+use atomic_table::Table;
+use omi_core::{Break, OutOfMemory, RunList, opening_image};
 use omi_layout::{Layout, MOST_THREADS};
-use omi_list::List;
 use omi_outside::Gate;
 use omi_script::Program;
-use omi_seat::{First, StepLog, Together, image_of, words_of};
+use omi_seat::{Kept, Runner, all_joined, image_of, words_of, workers_at};
 use omi_word::Image;
 use std::alloc::Global;
 use std::snapshot::Snapshot;
@@ -37,121 +32,6 @@ pub struct LiveEnd {
     pub runs: RunList,
 }
 
-/// A thread of the run, and why it made no further step: behind its work, and Budget before.
-#[derive(Drop)]
-pub(crate) struct Runner {
-    pub(crate) worker: Worker,
-    pub(crate) until: Until,
-}
-
-/// The worker of a thread at a seat, before its first step. Takes the room of its budget.
-fn worker_at(
-    alloc: Global,
-    p: &Program,
-    thread: u8,
-    budget: u64,
-    seat: Seat<(), List<Part>>,
-) -> Result<Worker, OutOfMemory>
-    requires thread { thread < p.now.threads }
-    requires budget { budget ≤ MOST_BUDGET }
-    ensures thread { IfOk result (λ worker. worker.log.thread ≡ thread) }
-    ensures seat { IfOk result (λ worker. worker.seat ≡ seat) }
-    ensures begin { (l : Layout) → seat.me ≡ (first_part p.now l thread ∷ [], [])
-        → IfOk result (λ worker. IsToBegin p.now l seat.table_id budget worker) }
-{
-    let log = StepLog::opening(alloc, p, thread, budget)?;
-    Ok(Worker { seat, log })
-}
-
-/// The workers of all threads, the last one first, each at a seat of its own that is split off from the first one.
-fn workers_at(
-    alloc: Global,
-    p: &Program,
-    l: &Layout,
-    budget: u64,
-    words: &Words,
-    seat: &mut Seat<(), List<Part>>,
-) -> Result<Vec<Runner>, OutOfMemory>
-    requires count { 0 < words.now.table_id.words }
-    requires seated { seat.old.table_id ≡ words.now.table_id }
-    requires first { seat.old.me ≡ (first_parts p.now l.now, []) }
-    requires budget { budget ≤ MOST_BUDGET }
-    ensures seated { seat.new.table_id ≡ words.now.table_id }
-    ensures rest { IfOk result (λ workers. seat.new.me ≡ ([], [])) }
-    ensures threads { IfOk result (λ workers. vec_len workers ≡ p.now.threads) }
-    ensures begin { IfOk result (λ workers.
-        AreToBegin p.now l.now words.now.table_id budget p.now.threads workers.items) }
-{
-    let mut workers = Vec::new(alloc);
-    for made in 0..p.threads {
-        let own = words.split_seat::<First>(seat);
-        let worker = worker_at(alloc, p, p.threads - 1 - made, budget, own)?;
-        workers.push(Runner {
-            worker,
-            until: Until::Budget,
-        })?;
-    }
-    Ok(workers)
-}
-
-/// What a worker made, whose seat is taken in by another one.
-fn joined(words: &Words, seat: &mut Seat<(), List<Part>>, ended: Runner) -> ThreadRun
-    requires count { 0 < words.now.table_id.words }
-    requires seated { seat.old.table_id ≡ words.now.table_id }
-    requires theirs { ended.worker.seat.table_id ≡ words.now.table_id }
-    requires none { ended.worker.seat.me.1 ≡ [] }
-    ensures seated { seat.new.table_id ≡ seat.old.table_id }
-    ensures knows { seat.new.me
-        ≡ (seat.old.me.0 ++ ended.worker.seat.me.0, seat.old.me.1) }
-    ensures steps { result.made ≡ ended.worker.log.made }
-    ensures events { result.events ≡ ended.worker.log.events }
-    ensures actor { result.actor ≡ ended.worker.log.actor }
-    ensures until { result.until ≡ ended.until }
-    ensures count { result.steps ≡ length ended.worker.log.made.items }
-{
-    let Runner { worker, until } = ended;
-    let (own, log) = worker.parts();
-    let StepLog {
-        thread: _thread,
-        actor,
-        made,
-        events,
-    } = log;
-    words.join_seat::<Together>(seat, own);
-    ThreadRun {
-        steps: made.len() as u64,
-        until,
-        made,
-        events,
-        actor,
-    }
-}
-
-/// What the workers made, in the order of their threads, in a vector that has room for it. Takes no memory.
-fn all_joined(
-    words: &Words,
-    seat: &mut Seat<(), List<Part>>,
-    mut all: Vec<Runner>,
-    mut runs: Vec<ThreadRun>,
-) -> RunList
-    requires empty { runs.items ≡ [] }
-    requires room { vec_len all ≤ vec_capacity runs }
-    requires count { 0 < words.now.table_id.words }
-    requires seated { seat.old.table_id ≡ words.now.table_id }
-    requires nothing { seat.old.me ≡ ([], []) }
-    requires theirs { AreSeatedAt words.now.table_id all.items }
-    ensures seated { seat.new.table_id ≡ words.now.table_id }
-    ensures threads { length result ≡ vec_len all }
-    ensures known { (p : Program) (l : Layout) (budget : ℕ) (on : Option Break)
-        → HaveEnded p l words.now.table_id budget on (vec_len all) all.items
-        → AreRunsKnown p l budget on seat.new.me.0 result }
-{
-    while let Some(ended) = all.pop() {
-        runs.push_reserved(joined(words, seat, ended));
-    }
-    RunList::from_vec(runs)
-}
-
 /// Lets each worker work, in a thread of its own where one can be made. Takes no memory.
 fn all_worked<R: Threads + Sync, G: Gate>(
     rt: &R,
@@ -161,28 +41,66 @@ fn all_worked<R: Threads + Sync, G: Gate>(
     budget: u64,
     on: Option<Break>,
     gate: &G,
-    workers: &mut Vec<Runner>,
+    workers: &mut Vec<Runner<Part>>,
 )
     requires suits { Suits p.now l.now.table }
     requires table { IsTableFor p.now l.now on words.now.key words.now.table_id }
     requires budget { budget ≤ MOST_BUDGET }
-    requires begin { AreToBegin p.now l.now words.now.table_id budget (vec_len workers.old)
-        workers.old.items }
+    requires begin { (keeps : Kept) × AreToBegin p.now l.now words.now.table_id budget keeps
+        (first_part p.now l.now) (vec_len workers.old) workers.old.items }
     ensures threads { vec_len workers.new ≡ vec_len workers.old }
-    ensures ended { HaveEnded p.now l.now words.now.table_id budget on (vec_len workers.old)
+    ensures ended { (keeps : Kept) → AreToBegin p.now l.now words.now.table_id budget keeps
+        (first_part p.now l.now) (vec_len workers.old) workers.old.items
+        → HaveEnded p.now l.now words.now.table_id budget on keeps (vec_len workers.old)
         workers.new.items }
 {
-    let work = |_at: usize, runner: &mut Runner|
+    let run = |_at: usize, runner: &mut Runner<Part>|
         requires { Suits p.now l.now.table
             × IsTableFor p.now l.now on words.now.key words.now.table_id
             × (budget ≤ MOST_BUDGET)
-            × IsToBegin p.now l.now words.now.table_id budget runner.now.worker }
+            × IsToBegin p.now l.now words.now.table_id budget runner.now.worker.log.kept
+            (first_part p.now l.now runner.now.worker.log.thread) runner.now.worker }
         ensures { HasEnded p.entry.now l.entry.now words.entry.now.table_id budget on
-            runner.entry.now.worker.log.thread runner.exit.now }
+            runner.entry.now.worker.log.kept runner.entry.now.worker.log.thread runner.exit.now }
     {
-        runner.until = runner.worker.work(p, l, words, budget, on, gate);
+        runner.until = work(&mut runner.worker, p, l, words, budget, on, gate);
     };
-    thread::for_each_mut(rt, workers, MOST_THREADS as usize, &work);
+    thread::for_each_mut(rt, workers, MOST_THREADS as usize, &run);
+}
+
+/// As `live`, where this is kept of each thread's steps.
+pub(crate) fn live_keeping<R: Threads + Sync, G: Gate>(
+    rt: &R,
+    alloc: Global,
+    p: &Program,
+    l: &Layout,
+    budget: u64,
+    on: Option<Break>,
+    gate: &G,
+    kept: Kept,
+) -> Result<LiveEnd, OutOfMemory>
+    requires suits { Suits p.now l.now.table }
+    requires budget { budget ≤ MOST_BUDGET }
+    ensures { IfOk result (λ end. IsLiveKept p.now l.now budget on kept end.image end.runs) }
+{
+    let first = opening_image(alloc, p, l)?;
+    let opening = words_of(alloc, &first, 1)?;
+    let given = Given {
+        program: Snapshot::of(p),
+        layout: Snapshot::of(l),
+        on,
+    };
+    let (table, mut seat) = Table::of_words(alloc, &opening, &given)?;
+    drop(opening);
+    let mut workers = workers_at(alloc, p, budget, kept, &table.shared, &mut seat)?;
+    let room = Vec::with_capacity(alloc, workers.len())?;
+    gate.open(p.threads, budget);
+    all_worked(rt, p, l, &table.shared, budget, on, gate, &mut workers);
+    let runs = all_joined(&table.shared, &mut seat, workers, room);
+    let closed = table.close_with(seat);
+    let image = image_of(first, &closed);
+    closed.free();
+    Ok(LiveEnd { image, runs })
 }
 
 /// Runs a program in a layout that suits it, each thread as work of its own over one table of words, for at most `budget` steps of each
@@ -201,22 +119,6 @@ pub fn live<R: Threads + Sync, G: Gate>(
     requires budget { budget ≤ MOST_BUDGET }
     ensures { IfOk result (λ end. IsLive p.now l.now budget on end.image end.runs) }
 {
-    let first = opening_image(alloc, p, l)?;
-    let opening = words_of(alloc, &first, 1)?;
-    let given = Given {
-        program: Snapshot::of(p),
-        layout: Snapshot::of(l),
-        on,
-    };
-    let (table, mut seat) = Table::of_words(alloc, &opening, &given)?;
-    drop(opening);
-    let mut workers = workers_at(alloc, p, l, budget, &table.shared, &mut seat)?;
-    let room = Vec::with_capacity(alloc, workers.len())?;
-    gate.open(p.threads, budget);
-    all_worked(rt, p, l, &table.shared, budget, on, gate, &mut workers);
-    let runs = all_joined(&table.shared, &mut seat, workers, room);
-    let closed = table.close_with(seat);
-    let image = image_of(first, &closed);
-    closed.free();
-    Ok(LiveEnd { image, runs })
+    let end = live_keeping(rt, alloc, p, l, budget, on, gate, Kept::Steps)?;
+    Ok(end)
 }

@@ -16,9 +16,10 @@ use Rattle.omi_seat.specs.StepLog.{HasRoom, IsLogOf}
 use Rattle.omi_seat.specs.Stops.{GoesOn, WentOn, ends_at, is_ended}
 use Rattle.omi_seat.proofs.GoingOn.{ended_by, goes_more, not_ended, went, went_more}
 use Rattle.omi_seat.proofs.Learnt.{steps_found, steps_one_more}
-use Rattle.omi_seat.proofs.Logged.{count_is, less_room}
+use Rattle.omi_seat.proofs.Logged.{less_room}
+use Rattle.omi_park.specs.declared.known.Part.{Part}
 use Rattle.omi_park.specs.declared.known.WorkerPart.{WorkerPart}
-use Rattle.omi_park.specs.declared.worker.Worker.{Worker}
+use Rattle.omi_seat.specs.declared.worker.Worker.{Worker}
 use Rattle.omi_park.specs.Acknowledged.{HasNotBegun, IsOdd, acknowledgement, running}
 use Rattle.omi_park.specs.Plays.{first_worker, loads, makes, says}
 use Rattle.omi_park.specs.Work.{HasBegun, HasGoneOn, HasLoaded, HasStepped, HasTold, HasWorked, IsAtWork, IsBefore, IsLoose, IsPausing, IsSameBut, IsSeatOf, IsToGoOn, IsToPark, IsWaiting, IsWith}
@@ -33,18 +34,18 @@ loose_before x before = record {
 }
 
 -- it keeps the same of its thread
-pub same_with : {x y : WorkerPart} {old new : Worker} → IsWith x old → IsSameBut old new → y.known ≡ x.known
+pub same_with : {x y : WorkerPart} {old new : Worker Part} → IsWith x old → IsSameBut old new → y.known ≡ x.known
     → IsSeatOf y new.seat.me → IsWith y new
 same_with {x = x} {y = y} {old = old} {new = new} is same known knows = record {
   knows = knows;
   thread = ap (λ (g : StepLog). g.thread) same.log ∙ is.thread ∙ ap (λ (k : Known). k.thread) (sym known);
-  count = ap (λ (g : StepLog). length g.made.items) same.log ∙ is.count ∙ ap (λ (k : Known). length k.found) (sym known);
+  count = ap (λ (g : StepLog). g.steps) same.log ∙ is.count ∙ ap (λ (k : Known). length k.found) (sym known);
   few = subst (λ (k : Known). length k.found ≤ MOST_BUDGET) (sym known) is.few;
 }
 
 -- ---- it says that it runs
 
-pub told_now : {x : WorkerPart} {old new : Worker} → IsPausing x old → IsSameBut old new
+pub told_now : {x : WorkerPart} {old new : Worker Part} → IsPausing x old → IsSameBut old new
     → IsSeatOf (says (running (length x.known.found)) x) new.seat.me → HasTold x new
 told_now {x = x} pausing same knows =
     let word = running (length x.known.found) in
@@ -63,7 +64,7 @@ told_now {x = x} pausing same knows =
     }
 
 -- behind a step it has begun
-pub told_before : (x : WorkerPart) (worker : Worker) → IsPausing x worker → (length x.known.found ≡ 0 → ⊥)
+pub told_before : (x : WorkerPart) (worker : Worker Part) → IsPausing x worker → (length x.known.found ≡ 0 → ⊥)
     → HasTold x worker
 told_before x worker pausing some = record {
   part = x;
@@ -74,7 +75,7 @@ told_before x worker pausing some = record {
 -- ---- it waits for an even epoch
 
 -- before it loads the first one
-pub waits_first : (x : WorkerPart) (worker : Worker) → IsToGoOn x worker → IsWaiting x 0 worker
+pub waits_first : (x : WorkerPart) (worker : Worker Part) → IsToGoOn x worker → IsWaiting x 0 worker
 waits_first x worker goes = record {
   part = x;
   same = refl;
@@ -84,7 +85,7 @@ waits_first x worker goes = record {
   loaded = λ epoch is. absurd (let none = goes.pausing.before.loaded in cc (none, is));
 }
 
-module _ {x : WorkerPart} {parked epoch : ℕ} {old new : Worker} (w : IsWaiting x parked old)
+module _ {x : WorkerPart} {parked epoch : ℕ} {old new : Worker Part} (w : IsWaiting x parked old)
     (has : HasLoaded w.part epoch new) (same : IsSameBut old new) where
   with_now : IsWith (loads epoch w.part) new
   with_now = same_with w.with_it same refl has.knows
@@ -121,7 +122,7 @@ module _ {x : WorkerPart} {parked epoch : ℕ} {old new : Worker} (w : IsWaiting
   }
 
   -- and has parked
-  pub waits_on : {after : Worker} → IsOdd epoch → IsSameBut new after
+  pub waits_on : {after : Worker Part} → IsOdd epoch → IsSameBut new after
       → IsSeatOf (says (acknowledgement epoch (length w.part.known.found)) (loads epoch w.part)) after.seat.me
       → IsWaiting x epoch after
   waits_on odd same_too knows = record {
@@ -135,28 +136,29 @@ module _ {x : WorkerPart} {parked epoch : ℕ} {old new : Worker} (w : IsWaiting
 
 -- ---- between two steps
 
-pub record IsWorking (p : Program) (l : Layout) (id : TableId) (budget made thread : ℕ) (worker : Worker)
+pub record IsWorking (p : Program) (l : Layout) (id : TableId) (budget made : ℕ) (opened : StepLog) (worker : Worker Part)
     : Type 0 where
   pub part : WorkerPart
   pub work : IsAtWork p l id part worker
-  pub own : worker.log.thread ≡ thread
+  pub own : worker.log.thread ≡ opened.thread
+  pub kept : worker.log.kept ≡ opened.kept
   pub count : length part.known.found ≡ made
   pub room : HasRoom (budget - made) part.known worker.log
   pub goes : GoesOn None (steps_known part.known)
   pub before : IsBefore part
   pub first : HasNotBegun part.said → part.known.found ≡ []
 
-pub with_work : {p : Program} {l : Layout} {id : TableId} {x : WorkerPart} {worker : Worker}
+pub with_work : {p : Program} {l : Layout} {id : TableId} {x : WorkerPart} {worker : Worker Part}
     → IsAtWork p l id x worker → length x.known.found ≤ MOST_BUDGET → IsWith x worker
-with_work {p = p} {l = l} {x = x} {worker = worker} work few = record {
+with_work work few = record {
   knows = work.knows;
   thread = work.log.thread;
-  count = count_is p l x.known worker.log work.log;
+  count = work.log.steps;
   few = few;
 }
 
-pub pauses : {p : Program} {l : Layout} {id : TableId} {budget made thread : ℕ} {worker : Worker}
-    → made ≤ MOST_BUDGET → (w : IsWorking p l id budget made thread worker) → IsPausing w.part worker
+pub pauses : {p : Program} {l : Layout} {id : TableId} {budget made : ℕ} {opened : StepLog} {worker : Worker Part}
+    → made ≤ MOST_BUDGET → (w : IsWorking p l id budget made opened worker) → IsPausing w.part worker
 pauses few w = record {
   with_it = with_work w.work (let count = w.count in omega (arith, few, count));
   before = w.before;
@@ -164,14 +166,15 @@ pauses few w = record {
 }
 
 -- what a worker has before its first step
-pub not_begun : (p : Program) (l : Layout) (id : TableId) (budget : ℕ) (worker : Worker)
+pub not_begun : (p : Program) (l : Layout) (id : TableId) (budget : ℕ) (worker : Worker Part)
     → IsAtWork p l id (first_worker p l worker.log.thread) worker
     → HasRoom budget (first_worker p l worker.log.thread).known worker.log
-    → IsWorking p l id budget 0 worker.log.thread worker
+    → IsWorking p l id budget 0 worker.log worker
 not_begun p l id budget worker work room = record {
   part = first_worker p l worker.log.thread;
   work = work;
   own = refl;
+  kept = refl;
   count = refl;
   room = less_room (budget - 0) budget (first_worker p l worker.log.thread).known worker.log (omega arith) room;
   goes = tt;
@@ -180,7 +183,7 @@ not_begun p l id budget worker work room = record {
 }
 
 -- it said how far it is, and went on
-pub gone_on : {x : WorkerPart} {mid new : Worker} → (told : HasTold x mid) → HasGoneOn told.part new
+pub gone_on : {x : WorkerPart} {mid new : Worker Part} → (told : HasTold x mid) → HasGoneOn told.part new
     → HasGoneOn x new
 gone_on told gone = record {
   part = gone.part;
@@ -189,16 +192,17 @@ gone_on told gone = record {
   may = gone.may;
 }
 
-pub same_both : {old mid new : Worker} → IsSameBut old mid → IsSameBut mid new → IsSameBut old new
+pub same_both : {old mid new : Worker Part} → IsSameBut old mid → IsSameBut mid new → IsSameBut old new
 same_both first then = record { table = then.table ∙ first.table; log = then.log ∙ first.log }
 
 -- ---- one more step of its thread
 
-pub record Behind (p : Program) (l : Layout) (id : TableId) (budget made thread : ℕ) (worker : Worker)
+pub record Behind (p : Program) (l : Layout) (id : TableId) (budget made : ℕ) (opened : StepLog) (worker : Worker Part)
     (out : Outcome) : Type 0 where
   pub part : WorkerPart
   pub work : IsAtWork p l id part worker
-  pub own : worker.log.thread ≡ thread
+  pub own : worker.log.thread ≡ opened.thread
+  pub kept : worker.log.kept ≡ opened.kept
   pub count : length part.known.found ≡ made + 1
   pub steps_before : List Entry
   pub goes : GoesOn None steps_before
@@ -210,8 +214,8 @@ pub record Behind (p : Program) (l : Layout) (id : TableId) (budget made thread 
   pub begun : HasBegun part
 
 -- the worker that has gone on is at work as before
-pub gone_work : {p : Program} {l : Layout} {id : TableId} {budget made thread : ℕ} {old new : Worker}
-    (w : IsWorking p l id budget made thread old) (gone : HasGoneOn w.part new) → IsSameBut old new
+pub gone_work : {p : Program} {l : Layout} {id : TableId} {budget made : ℕ} {opened : StepLog} {old new : Worker Part}
+    (w : IsWorking p l id budget made opened old) (gone : HasGoneOn w.part new) → IsSameBut old new
     → IsAtWork p l id gone.part new
 gone_work {p = p} {l = l} {old = old} w gone same = record {
   log =
@@ -221,21 +225,23 @@ gone_work {p = p} {l = l} {old = old} w gone same = record {
   knows = gone.knows;
 }
 
-pub gone_room : {p : Program} {l : Layout} {id : TableId} {budget made thread : ℕ} {old new : Worker}
-    (w : IsWorking p l id budget made thread old) (gone : HasGoneOn w.part new) → IsSameBut old new
+pub gone_room : {p : Program} {l : Layout} {id : TableId} {budget made : ℕ} {opened : StepLog} {old new : Worker Part}
+    (w : IsWorking p l id budget made opened old) (gone : HasGoneOn w.part new) → IsSameBut old new
     → HasRoom (budget - made) gone.part.known new.log
 gone_room {budget = budget} {made = made} {old = old} w gone same =
     subst (λ (g : StepLog). HasRoom (budget - made) gone.part.known g) (sym same.log)
     (subst (λ k. HasRoom (budget - made) k old.log) (sym gone.same) w.room)
 
-pub stepped_on : {p : Program} {l : Layout} {id : TableId} {budget made thread : ℕ} {old mid new : Worker}
-    {out : Outcome} (w : IsWorking p l id budget made thread old) (gone : HasGoneOn w.part mid) → IsSameBut old mid
+pub stepped_on : {p : Program} {l : Layout} {id : TableId} {budget made : ℕ} {opened : StepLog} {old mid new : Worker Part}
+    {out : Outcome} (w : IsWorking p l id budget made opened old) (gone : HasGoneOn w.part mid) → IsSameBut old mid
     → made < budget → HasStepped p l id gone.part mid new out → new.log.thread ≡ mid.log.thread
-    → Behind p l id budget made thread new out
-stepped_on {budget = budget} {made = made} {mid = mid} w gone same below stepped own = record {
+    → new.log.kept ≡ mid.log.kept
+    → Behind p l id budget made opened new out
+stepped_on {budget = budget} {made = made} {mid = mid} w gone same below stepped own kept = record {
   part = makes stepped.found gone.part;
   work = stepped.work;
   own = own ∙ ap (λ (g : StepLog). g.thread) same.log ∙ w.own;
+  kept = kept ∙ ap (λ (g : StepLog). g.kept) same.log ∙ w.kept;
   count =
       length-append gone.part.known.found (stepped.found ∷ [])
       ∙ ap (λ n. n + 1) (ap (λ (k : Known). length k.found) gone.same ∙ w.count);
@@ -252,8 +258,8 @@ stepped_on {budget = budget} {made = made} {mid = mid} w gone same below stepped
 }
 
 -- and is between two steps again
-pub behind_pauses : {p : Program} {l : Layout} {id : TableId} {budget made thread : ℕ} {worker : Worker} {out : Outcome}
-    → made < MOST_BUDGET → (b : Behind p l id budget made thread worker out) → IsPausing b.part worker
+pub behind_pauses : {p : Program} {l : Layout} {id : TableId} {budget made : ℕ} {opened : StepLog} {worker : Worker Part} {out : Outcome}
+    → made < MOST_BUDGET → (b : Behind p l id budget made opened worker out) → IsPausing b.part worker
 behind_pauses few b = record {
   with_it = with_work b.work (let count = b.count in omega (arith, few, count));
   before = b.before;
@@ -261,8 +267,8 @@ behind_pauses few b = record {
 }
 
 -- it committed `done`
-pub behind_done : {p : Program} {l : Layout} {id : TableId} {budget made thread : ℕ} {worker : Worker} {out : Outcome}
-    → made < budget → ends_at out ≡ true → (b : Behind p l id budget made thread worker out)
+pub behind_done : {p : Program} {l : Layout} {id : TableId} {budget made : ℕ} {opened : StepLog} {worker : Worker Part} {out : Outcome}
+    → made < budget → ends_at out ≡ true → (b : Behind p l id budget made opened worker out)
     → HasWorked budget b.part until.Ended
 behind_done {made = made} below done b =
     let count : length (steps_known b.part.known) ≡ made + 1 = steps_found b.part.known ∙ b.count in
@@ -274,13 +280,14 @@ behind_done {made = made} below done b =
     }
 
 -- or it goes on
-pub behind_goes : {p : Program} {l : Layout} {id : TableId} {budget made thread : ℕ} {worker : Worker} {out : Outcome}
-    → ends_at out ≡ false → (b : Behind p l id budget made thread worker out)
-    → IsWorking p l id budget (made + 1) thread worker
+pub behind_goes : {p : Program} {l : Layout} {id : TableId} {budget made : ℕ} {opened : StepLog} {worker : Worker Part} {out : Outcome}
+    → ends_at out ≡ false → (b : Behind p l id budget made opened worker out)
+    → IsWorking p l id budget (made + 1) opened worker
 behind_goes not b = record {
   part = b.part;
   work = b.work;
   own = b.own;
+  kept = b.kept;
   count = b.count;
   room = b.room;
   goes =
@@ -291,7 +298,7 @@ behind_goes not b = record {
 }
 
 -- it makes no further step, and leaves
-pub left_work : {p : Program} {l : Layout} {id : TableId} {x : WorkerPart} {old new : Worker} (word : ℕ)
+pub left_work : {p : Program} {l : Layout} {id : TableId} {x : WorkerPart} {old new : Worker Part} (word : ℕ)
     → IsAtWork p l id x old → IsSameBut old new → IsSeatOf (says word x) new.seat.me
     → IsAtWork p l id (says word x) new
 left_work {p = p} {l = l} {x = x} word work same knows = record {
@@ -300,8 +307,8 @@ left_work {p = p} {l = l} {x = x} word work same knows = record {
   knows = knows;
 }
 
-pub budget_spent : {p : Program} {l : Layout} {id : TableId} {budget made thread : ℕ} {worker : Worker}
-    → made ≡ budget → (w : IsWorking p l id budget made thread worker) → HasWorked budget w.part until.Budget
+pub budget_spent : {p : Program} {l : Layout} {id : TableId} {budget made : ℕ} {opened : StepLog} {worker : Worker Part}
+    → made ≡ budget → (w : IsWorking p l id budget made opened worker) → HasWorked budget w.part until.Budget
 budget_spent {made = made} all w =
     let count : length (steps_known w.part.known) ≡ made = steps_found w.part.known ∙ w.count in
     record {

@@ -17,3 +17,4 @@ pub mod Taken
 pub mod Showing
 pub mod Left
 pub mod Forms
+pub mod Applied

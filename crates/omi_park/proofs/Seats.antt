@@ -9,7 +9,8 @@ use Rattle.omi_layout.specs.declared.layout.Layout.{Layout}
 use Rattle.omi_layout.specs.OpeningWords.{AreOpening}
 use Rattle.omi_rep.specs.Suits.{Suits}
 use Rattle.omi_seat.specs.Behind.{HasRun}
-use Rattle.omi_seat.specs.Seats.{AreSeated, all_below, first_alone, without_first}
+use Rattle.omi_seat.specs.Seats.{AreSeated, Seated, all_below, first_alone, without_first}
+use Rattle.omi_seat.specs.Workers.{IsToSplit}
 use Rattle.omi_seat.proofs.Lists.{get_more, get_within}
 use Rattle.omi_seat.proofs.Opened.{opened, untouched_known}
 use Rattle.omi_seat.proofs.Seats.{one_below, one_joined, one_split}
@@ -21,7 +22,7 @@ use Rattle.omi_park.proofs.Kept.{Now, reseated}
 use Rattle.omi_list.proofs.Places.{one_value}
 
 -- the parts of so many workers before their first steps, and the inspector's
-abbrev pub parts_of : Program → Layout → ℕ → List Part
+abbrev parts_of : Program → Layout → ℕ → List Part
 parts_of q m n = all_below (first_part q m) n ++ part.Inspector first_inspector ∷ []
 
 -- each of them is one of a worker below the number, or the inspector's
@@ -32,7 +33,7 @@ one_of_parts q m n at z got =
     (get_more (all_below (first_part q m) n) (part.Inspector first_inspector) z at got)
 
 -- the last of so many workers before their first steps gets a seat
-pub split_allowed : (p : Program) (l : Layout) (q : Program) (m : Layout) (id n : ℕ)
+split_allowed : (p : Program) (l : Layout) (q : Program) (m : Layout) (id n : ℕ)
     → Splits (Keeps p l) id (parts_of q m (suc n)) (without_first (parts_of q m (suc n)))
     (first_alone (parts_of q m (suc n)))
 split_allowed p l q m id n s h at =
@@ -47,6 +48,12 @@ split_allowed p l q m id n s h at =
 
         inspector : part.Inspector first_inspector ≡ z → ⊥
         inspector is = let number : 0 ≡ n + 1 = ap number_of is ∙ same in omega (arith, number)
+
+-- and so one seat that knows them all gives each worker its own
+pub to_split : (p : Program) (l : Layout) (q : Program) (m : Layout) (me : Seated Part)
+    → me ≡ (first_parts q m, [])
+    → IsToSplit (Keeps p l) q.threads (first_part q m) (part.Inspector first_inspector ∷ []) me
+to_split p l q m me knows = record { knows = knows; may = λ id n. split_allowed p l q m id n }
 
 pub join_allowed : (p : Program) (l : Layout) (id : ℕ) (v : List Part) (other : ℕ) (w : List Part)
     → Joins (Keeps p l) id v other w (v ++ w) []

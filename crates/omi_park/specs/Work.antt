@@ -1,5 +1,5 @@
 -- A worker at work: what its seat knows is what it made and keeps.
-use Rattle.std.specs.Prelude.{◌≡◌, ◌≢◌, ◌<◌, ◌≤◌, ℕ, ◌+◌, [], ◌∷◌, length, Some, None}
+use Rattle.std.specs.Prelude.{◌≡◌, ◌≢◌, ◌≤◌, ℕ, ◌+◌, [], ◌∷◌, length, Some, None}
 use Rattle.atomic_table.specs.Seated.{TableId}
 use Rattle.omi_word.specs.declared.limits.TheConstants.{MOST_WORDS}
 use Rattle.omi_script.specs.declared.program.Program.{Program}
@@ -19,7 +19,7 @@ use Rattle.omi_park.specs.declared.known.Part.TheVariants as part
 use Rattle.omi_park.specs.declared.known.WorkerPart.{WorkerPart}
 use Rattle.omi_park.specs.declared.limits.TheConstants.{LAST_EPOCH}
 use Rattle.omi_park.specs.declared.rule.Given.{Given}
-use Rattle.omi_park.specs.declared.worker.Worker.{Worker}
+use Rattle.omi_seat.specs.declared.worker.Worker.{Worker}
 use Rattle.omi_park.specs.Acknowledged.{HasLeft, HasNotBegun, IsOdd, IsParkedIn, acknowledgement, farewell, running}
 use Rattle.omi_park.specs.Plays.{loads, makes}
 
@@ -75,20 +75,20 @@ pub data MaySay (word : ℕ) (x : WorkerPart) : Type 0 where
 -- ---- the worker
 
 -- it keeps as many steps as its seat knows of its thread
-pub record IsWith (x : WorkerPart) (worker : Worker) : Type 0 where
+pub record IsWith (x : WorkerPart) (worker : Worker Part) : Type 0 where
   pub knows : IsSeatOf x worker.seat.me
   pub thread : worker.log.thread ≡ x.known.thread
-  pub count : length worker.log.made.items ≡ length x.known.found
+  pub count : worker.log.steps ≡ length x.known.found
   pub few : length x.known.found ≤ MOST_BUDGET
 
 -- it may store this word as its acknowledgement
-pub record IsToSay (word : ℕ) (x : WorkerPart) (worker : Worker) : Type 0 where
+pub record IsToSay (word : ℕ) (x : WorkerPart) (worker : Worker Part) : Type 0 where
   pub with_it : IsWith x worker
   pub loose : IsLoose x
   pub may : MaySay word x
 
 -- it is to park in this epoch, which it has loaded
-pub record IsToPark (epoch : ℕ) (x : WorkerPart) (worker : Worker) : Type 0 where
+pub record IsToPark (epoch : ℕ) (x : WorkerPart) (worker : Worker Part) : Type 0 where
   pub with_it : IsWith x worker
   pub stays : HasLeft x.said → ⊥
   pub loaded : x.loaded ≡ Some epoch
@@ -97,24 +97,24 @@ pub record IsToPark (epoch : ℕ) (x : WorkerPart) (worker : Worker) : Type 0 wh
   pub runs : IsParkedIn epoch x.said → ⊥
 
 -- it is between two steps of its thread, or before the first one
-pub record IsPausing (x : WorkerPart) (worker : Worker) : Type 0 where
+pub record IsPausing (x : WorkerPart) (worker : Worker Part) : Type 0 where
   pub with_it : IsWith x worker
   pub before : IsBefore x
   pub first : HasNotBegun x.said → x.known.found ≡ []
 
 -- it has begun, and is between two steps
-pub record IsToGoOn (x : WorkerPart) (worker : Worker) : Type 0 where
+pub record IsToGoOn (x : WorkerPart) (worker : Worker Part) : Type 0 where
   pub pausing : IsPausing x worker
   pub begun : HasBegun x
 
 -- it has said that it runs where that was due, and is to go on
-pub record HasTold (x : WorkerPart) (worker : Worker) : Type 0 where
+pub record HasTold (x : WorkerPart) (worker : Worker Part) : Type 0 where
   pub part : WorkerPart
   pub same : part.known ≡ x.known
   pub goes : IsToGoOn part worker
 
 -- it waits for an even epoch: the one that it loaded last, if any, is the one in which it parked
-pub record IsWaiting (x : WorkerPart) (parked : ℕ) (worker : Worker) : Type 0 where
+pub record IsWaiting (x : WorkerPart) (parked : ℕ) (worker : Worker Part) : Type 0 where
   pub part : WorkerPart
   pub same : part.known ≡ x.known
   pub with_it : IsWith part worker
@@ -123,41 +123,33 @@ pub record IsWaiting (x : WorkerPart) (parked : ℕ) (worker : Worker) : Type 0 
   pub loaded : (epoch : ℕ) → part.loaded ≡ Some epoch → epoch ≡ parked
 
 -- this worker is at work at a table, for one thread of a program in a layout
-pub record IsAtWork (p : Program) (l : Layout) (id : TableId) (x : WorkerPart) (worker : Worker)
+pub record IsAtWork (p : Program) (l : Layout) (id : TableId) (x : WorkerPart) (worker : Worker Part)
     : Type 0 where
   pub log : IsLogOf p l x.known worker.log
   pub table : worker.seat.table_id ≡ id
   pub knows : IsSeatOf x worker.seat.me
 
 -- it is as it was, but for what its seat knows
-pub record IsSameBut (old new : Worker) : Type 0 where
+pub record IsSameBut (old new : Worker Part) : Type 0 where
   pub table : new.seat.table_id ≡ old.seat.table_id
   pub log : new.log ≡ old.log
 
 -- it loaded this epoch. Where its word says that it is parked in it, it had loaded it before
-pub record HasLoaded (x : WorkerPart) (epoch : ℕ) (worker : Worker) : Type 0 where
+pub record HasLoaded (x : WorkerPart) (epoch : ℕ) (worker : Worker Part) : Type 0 where
   pub knows : IsSeatOf (loads epoch x) worker.seat.me
   pub last : epoch ≤ LAST_EPOCH
   pub parked : IsParkedIn epoch x.said → x.loaded ≡ Some epoch
   pub able : CanStep x.known.program x.known.layout.table (actor_known x.known)
 
 -- its thread may make its next step
-pub record HasGoneOn (x : WorkerPart) (worker : Worker) : Type 0 where
+pub record HasGoneOn (x : WorkerPart) (worker : Worker Part) : Type 0 where
   pub part : WorkerPart
   pub same : part.known ≡ x.known
   pub knows : IsSeatOf part worker.seat.me
   pub may : MayStep part
 
--- and has room to list it
-pub record IsReady (p : Program) (l : Layout) (id : TableId) (x : WorkerPart) (worker : Worker)
-    : Type 0 where
-  pub work : IsAtWork p l id x worker
-  pub may : MayStep x
-  pub few : length x.known.found < MOST_BUDGET
-  pub room : HasRoom 1 x.known worker.log
-
 -- one more step found some word, this came of it, and it took the room of one step at most
-pub record HasStepped (p : Program) (l : Layout) (id : TableId) (x : WorkerPart) (old new : Worker)
+pub record HasStepped (p : Program) (l : Layout) (id : TableId) (x : WorkerPart) (old new : Worker Part)
     (out : Outcome) : Type 0 where
   pub found : ℕ
   pub work : IsAtWork p l id (makes found x) new

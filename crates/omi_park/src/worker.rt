@@ -1,203 +1,156 @@
-//! A worker: its seat at the table, and what it made so far. It says now and then how far it is, stops where the inspector calls, and leaves at
-//! its end.
+//! The work of a thread. It says now and then how far it is, stops where the inspector calls, and leaves at its end.
 
 ghost use Rattle.std.specs.Prelude.{◌≡◌, ◌<◌, ◌≤◌, length};
 ghost use Rattle.omi_rep.specs.Suits.{Suits};
-ghost use Rattle.omi_step_words.specs.Outcomes.{outcome_of};
 ghost use Rattle.omi_seat.specs.declared.limits.TheConstants.{MOST_BUDGET};
 ghost use Rattle.omi_seat.specs.StepLog.{HasRoom};
 ghost use Rattle.omi_park.specs.declared.known.WorkerPart.{WorkerPart};
 ghost use Rattle.omi_park.specs.Acknowledged.{acknowledgement, farewell};
 ghost use Rattle.omi_park.specs.Plays.{first_worker, says};
-ghost use Rattle.omi_park.specs.Work.{HasBegun, HasGoneOn, HasLoaded, HasStepped, HasTold, HasWorked, IsAtWork, IsPausing, IsReady, IsSameBut, IsSeatOf, IsTableFor, IsTableOf, IsToGoOn, IsToPark, IsToSay};
+ghost use Rattle.omi_park.specs.Work.{HasBegun, HasGoneOn, HasLoaded, HasTold, HasWorked, IsAtWork, IsPausing, IsSameBut, IsSeatOf, IsTableFor, IsTableOf, IsToGoOn, IsToPark, IsToSay};
 
 use crate::known::Part;
 use crate::limits::{HALF, LEFT, RUNS, STEPS_UNTOLD};
 use crate::progress::{Shares, await_call};
 use crate::rule::{Given, Loads, Running, Says, Steps};
 use crate::table::{Words, acknowledgement_place};
-use atomic_table::Seat;
-use omi_actor::next;
 use omi_core::Until;
 use omi_layout::Layout;
-use omi_list::List;
 use omi_outside::Gate;
 use omi_script::Program;
-use omi_seat::{StepLog, apply, ends_at};
-use omi_step_words::CompactOutcome;
+use omi_seat::{Worker, ends_at};
 use std::sync::Wait;
 use std::thread::yield_now;
 
-/// A worker. Its events have the numbers of its own steps.
-pub(crate) struct Worker {
-    pub(crate) seat: Seat<(), List<Part>>,
-    pub(crate) log: StepLog,
+/// Loads the epoch.
+fn load_epoch(worker: &mut Worker<Part>, l: &Layout, words: &Words) -> u64
+    requires at { IsTableOf l.now words.now.key words.now.table_id }
+    requires seated { worker.old.seat.table_id ≡ words.now.table_id }
+    requires alone { (x : WorkerPart) × IsSeatOf x worker.old.seat.me × HasBegun x }
+    ensures loaded { (x : WorkerPart) → IsSeatOf x worker.old.seat.me
+        → HasLoaded x result worker.new }
+    ensures same { IsSameBut worker.old worker.new }
+{
+    words.load::<Loads>(&mut worker.seat, l.image_words())
 }
 
-// Written out: docs/DECISIONS.md, "A drop written out".
-impl Drop for Worker {
-    fn drop(self) {
-        let Worker {
-            seat: _seat,
-            log: _log,
-        } = self;
+/// Stores its acknowledgement.
+fn say(worker: &mut Worker<Part>, l: &Layout, words: &Words, word: u64)
+    requires at { IsTableOf l.now words.now.key words.now.table_id }
+    requires seated { worker.old.seat.table_id ≡ words.now.table_id }
+    requires below { worker.old.log.thread < words.now.key.program.value.threads }
+    requires may { (x : WorkerPart) × IsToSay word x worker.old }
+    ensures said { (x : WorkerPart) → IsSeatOf x worker.old.seat.me
+        → IsSeatOf (says word x) worker.new.seat.me }
+    ensures same { IsSameBut worker.old worker.new }
+{
+    let own = acknowledgement_place(l, words, worker.log.thread);
+    words.store::<Says>(&mut worker.seat, own, word);
+}
+
+/// Parks in an odd epoch that it has loaded, by its number of steps.
+fn park(worker: &mut Worker<Part>, l: &Layout, words: &Words, epoch: u64)
+    requires at { IsTableOf l.now words.now.key words.now.table_id }
+    requires seated { worker.old.seat.table_id ≡ words.now.table_id }
+    requires below { worker.old.log.thread < words.now.key.program.value.threads }
+    requires may { (x : WorkerPart) × IsToPark epoch x worker.old }
+    ensures parked { (x : WorkerPart) → IsToPark epoch x worker.old
+        → IsSeatOf (says (acknowledgement epoch (length x.known.found)) x)
+        worker.new.seat.me }
+    ensures same { IsSameBut worker.old worker.new }
+{
+    let steps = worker.log.steps;
+    say(worker, l, words, epoch * HALF + steps);
+}
+
+/// Says that it runs, by its number of steps: before its first step, and behind each `STEPS_UNTOLD`.
+fn tell(worker: &mut Worker<Part>, l: &Layout, words: &Words)
+    requires at { IsTableOf l.now words.now.key words.now.table_id }
+    requires seated { worker.old.seat.table_id ≡ words.now.table_id }
+    requires below { worker.old.log.thread < words.now.key.program.value.threads }
+    requires before { (x : WorkerPart) × IsPausing x worker.old }
+    ensures told { (x : WorkerPart) → IsPausing x worker.old → HasTold x worker.new }
+    ensures same { IsSameBut worker.old worker.new }
+{
+    let steps = worker.log.steps;
+    if steps % STEPS_UNTOLD == 0 {
+        say(worker, l, words, RUNS + steps);
     }
 }
 
-impl Worker {
-    /// Its seat, and what it keeps of its steps.
-    pub(crate) fn parts(self) -> (Seat<(), List<Part>>, StepLog)
-        ensures seat { result.0 ≡ self.seat }
-        ensures log { result.1 ≡ self.log }
-    {
-        let Worker { seat, log } = self;
-        (seat, log)
-    }
-
-    /// Loads the epoch.
-    fn load_epoch(&mut self, l: &Layout, words: &Words) -> u64
-        requires at { IsTableOf l.now words.now.key words.now.table_id }
-        requires seated { self.old.seat.table_id ≡ words.now.table_id }
-        requires alone { (x : WorkerPart) × IsSeatOf x self.old.seat.me × HasBegun x }
-        ensures loaded { (x : WorkerPart) → IsSeatOf x self.old.seat.me
-            → HasLoaded x result self.new }
-        ensures same { IsSameBut self.old self.new }
-    {
-        words.load::<Loads>(&mut self.seat, l.image_words())
-    }
-
-    /// Stores its acknowledgement.
-    fn say(&mut self, l: &Layout, words: &Words, word: u64)
-        requires at { IsTableOf l.now words.now.key words.now.table_id }
-        requires seated { self.old.seat.table_id ≡ words.now.table_id }
-        requires below { self.old.log.thread < words.now.key.program.value.threads }
-        requires may { (x : WorkerPart) × IsToSay word x self.old }
-        ensures said { (x : WorkerPart) → IsSeatOf x self.old.seat.me
-            → IsSeatOf (says word x) self.new.seat.me }
-        ensures same { IsSameBut self.old self.new }
-    {
-        let own = acknowledgement_place(l, words, self.log.thread);
-        words.store::<Says>(&mut self.seat, own, word);
-    }
-
-    /// Parks in an odd epoch that it has loaded, by its number of steps.
-    fn park(&mut self, l: &Layout, words: &Words, epoch: u64)
-        requires at { IsTableOf l.now words.now.key words.now.table_id }
-        requires seated { self.old.seat.table_id ≡ words.now.table_id }
-        requires below { self.old.log.thread < words.now.key.program.value.threads }
-        requires may { (x : WorkerPart) × IsToPark epoch x self.old }
-        ensures parked { (x : WorkerPart) → IsToPark epoch x self.old
-            → IsSeatOf (says (acknowledgement epoch (length x.known.found)) x)
-            self.new.seat.me }
-        ensures same { IsSameBut self.old self.new }
-    {
-        let steps = self.log.made.len() as u64;
-        self.say(l, words, epoch * HALF + steps);
-    }
-
-    /// Says that it runs, by its number of steps: before its first step, and behind each `STEPS_UNTOLD`.
-    fn tell(&mut self, l: &Layout, words: &Words)
-        requires at { IsTableOf l.now words.now.key words.now.table_id }
-        requires seated { self.old.seat.table_id ≡ words.now.table_id }
-        requires below { self.old.log.thread < words.now.key.program.value.threads }
-        requires before { (x : WorkerPart) × IsPausing x self.old }
-        ensures told { (x : WorkerPart) → IsPausing x self.old → HasTold x self.new }
-        ensures same { IsSameBut self.old self.new }
-    {
-        let steps = self.log.made.len() as u64;
-        if steps % STEPS_UNTOLD == 0 {
-            self.say(l, words, RUNS + steps);
+/// Goes on once it loads an even epoch: in each odd one it parks, and loads the epoch until there is another.
+fn go_on<R: Wait>(rt: &R, worker: &mut Worker<Part>, l: &Layout, words: &Words)
+    requires at { IsTableOf l.now words.now.key words.now.table_id }
+    requires seated { worker.old.seat.table_id ≡ words.now.table_id }
+    requires below { worker.old.log.thread < words.now.key.program.value.threads }
+    requires before { (x : WorkerPart) × IsToGoOn x worker.old }
+    ensures gone { (x : WorkerPart) → IsToGoOn x worker.old → HasGoneOn x worker.new }
+    ensures same { IsSameBut worker.old worker.new }
+{
+    let mut parked = 0;
+    for _ in rt.forever() {
+        let epoch = load_epoch(worker, l, words);
+        if epoch % 2 == 0 {
+            return;
+        }
+        if epoch == parked {
+            yield_now();
+        } else {
+            park(worker, l, words, epoch);
+            parked = epoch;
         }
     }
+    unreachable!()
+}
 
-    /// Goes on once it loads an even epoch: in each odd one it parks, and loads the epoch until there is another.
-    fn go_on<R: Wait>(&mut self, rt: &R, l: &Layout, words: &Words)
-        requires at { IsTableOf l.now words.now.key words.now.table_id }
-        requires seated { self.old.seat.table_id ≡ words.now.table_id }
-        requires below { self.old.log.thread < words.now.key.program.value.threads }
-        requires before { (x : WorkerPart) × IsToGoOn x self.old }
-        ensures gone { (x : WorkerPart) → IsToGoOn x self.old → HasGoneOn x self.new }
-        ensures same { IsSameBut self.old self.new }
-    {
-        let mut parked = 0;
-        for _ in rt.forever() {
-            let epoch = self.load_epoch(l, words);
-            if epoch % 2 == 0 {
-                return;
-            }
-            if epoch == parked {
-                yield_now();
-            } else {
-                self.park(l, words, epoch);
-                parked = epoch;
-            }
+/// Leaves, behind its last step.
+fn leave(worker: &mut Worker<Part>, l: &Layout, words: &Words)
+    requires at { IsTableOf l.now words.now.key words.now.table_id }
+    requires seated { worker.old.seat.table_id ≡ words.now.table_id }
+    requires below { worker.old.log.thread < words.now.key.program.value.threads }
+    requires before { (x : WorkerPart) × IsPausing x worker.old }
+    ensures left { (x : WorkerPart) → IsPausing x worker.old
+        → IsSeatOf (says (farewell (length x.known.found)) x) worker.new.seat.me }
+    ensures same { IsSameBut worker.old worker.new }
+{
+    let steps = worker.log.steps;
+    say(worker, l, words, LEFT + steps);
+}
+
+/// Makes at most so many steps, waits for each stop where it comes due, and leaves. Takes no memory.
+pub(crate) fn work<R: Wait, G: Gate>(
+    rt: &R,
+    worker: &mut Worker<Part>,
+    p: &Program,
+    l: &Layout,
+    words: &Words,
+    budget: u64,
+    shares: &Shares,
+    gate: &G,
+) -> Until
+    requires suits { Suits p.now l.now.table }
+    requires table { IsTableFor p.now l.now words.now.key words.now.table_id }
+    requires budget { budget ≤ MOST_BUDGET }
+    requires start { IsAtWork p.now l.now words.now.table_id
+        (first_worker p.now l.now worker.old.log.thread) worker.old }
+    requires room { HasRoom budget (first_worker p.now l.now worker.old.log.thread).known
+        worker.old.log }
+    ensures thread { worker.new.log.thread ≡ worker.old.log.thread }
+    ensures kept { worker.new.log.kept ≡ worker.old.log.kept }
+    ensures worked { (x : WorkerPart) × IsAtWork p.now l.now words.now.table_id x worker.new
+        × HasWorked budget x result }
+{
+    for step in 0..budget {
+        gate.pass(worker.log.thread, step + 1);
+        tell(worker, l, words);
+        await_call(l, words, shares, step);
+        go_on(rt, worker, l, words);
+        let came = worker.step::<Given, Running, Steps>(p, l, words);
+        if ends_at(came) {
+            leave(worker, l, words);
+            return Until::Ended;
         }
-        unreachable!()
     }
-
-    /// One step of the thread: one operation on one word. Takes no memory.
-    fn step(&mut self, p: &Program, l: &Layout, words: &Words) -> CompactOutcome
-        requires suits { Suits p.now l.now.table }
-        requires at { IsTableOf l.now words.now.key words.now.table_id }
-        requires ready { (x : WorkerPart) × IsReady p.now l.now words.now.table_id x self.old }
-        ensures thread { self.new.log.thread ≡ self.old.log.thread }
-        ensures stepped { (x : WorkerPart) → IsAtWork p.now l.now words.now.table_id x self.old
-            → HasStepped p.now l.now words.now.table_id x self.old self.new
-            (outcome_of self.old.log.actor result) }
-    {
-        let op = next(p, l, &self.log.actor);
-        let old = apply::<List<Part>, Given, Running, Steps>(words, &mut self.seat, op);
-        self.log.list(p, l, op, old)
-    }
-
-    /// Leaves, behind its last step.
-    fn leave(&mut self, l: &Layout, words: &Words)
-        requires at { IsTableOf l.now words.now.key words.now.table_id }
-        requires seated { self.old.seat.table_id ≡ words.now.table_id }
-        requires below { self.old.log.thread < words.now.key.program.value.threads }
-        requires before { (x : WorkerPart) × IsPausing x self.old }
-        ensures left { (x : WorkerPart) → IsPausing x self.old
-            → IsSeatOf (says (farewell (length x.known.found)) x) self.new.seat.me }
-        ensures same { IsSameBut self.old self.new }
-    {
-        let steps = self.log.made.len() as u64;
-        self.say(l, words, LEFT + steps);
-    }
-
-    /// Makes at most so many steps, waits for each stop where it comes due, and leaves. Takes no memory.
-    pub(crate) fn work<R: Wait, G: Gate>(
-        &mut self,
-        rt: &R,
-        p: &Program,
-        l: &Layout,
-        words: &Words,
-        budget: u64,
-        shares: &Shares,
-        gate: &G,
-    ) -> Until
-        requires suits { Suits p.now l.now.table }
-        requires table { IsTableFor p.now l.now words.now.key words.now.table_id }
-        requires budget { budget ≤ MOST_BUDGET }
-        requires start { IsAtWork p.now l.now words.now.table_id
-            (first_worker p.now l.now self.old.log.thread) self.old }
-        requires room { HasRoom budget (first_worker p.now l.now self.old.log.thread).known
-            self.old.log }
-        ensures thread { self.new.log.thread ≡ self.old.log.thread }
-        ensures worked { (x : WorkerPart) × IsAtWork p.now l.now words.now.table_id x self.new
-            × HasWorked budget x result }
-    {
-        for step in 0..budget {
-            gate.pass(self.log.thread, step + 1);
-            self.tell(l, words);
-            await_call(l, words, shares, step);
-            self.go_on(rt, l, words);
-            let came = self.step(p, l, words);
-            if ends_at(came) {
-                self.leave(l, words);
-                return Until::Ended;
-            }
-        }
-        self.leave(l, words);
-        Until::Budget
-    }
+    leave(worker, l, words);
+    Until::Budget
 }

@@ -12,3 +12,4 @@ pub mod Logged
 pub mod Made
 pub mod Applied
 pub mod Behind
+pub mod Joined

@@ -1,15 +1,12 @@
 -- What the code answers of a thread's next step, by what is known of the thread.
-use Rattle.std.proofs.Common.{◌≡◌, ◌≤◌, ℕ, List, length, sym, ap, ◌∙◌, subst, arith}
-use Rattle.std.proofs.lemmas.List.{length-map}
+use Rattle.std.proofs.Common.{◌≡◌, ◌≤◌, ℕ, List, sym, ap, ◌∙◌, subst, arith}
 use Rattle.omi_script.specs.declared.program.Program.{Program}
 use Rattle.omi_layout.specs.declared.layout.Layout.{Layout}
 use Rattle.omi_pc.specs.declared.actor.Actor.{Actor}
 use Rattle.omi_rep.specs.declared.outcome.Outcome.{Outcome}
 use Rattle.omi_actor.specs.Steps.{next_of, resumed_at}
-use Rattle.omi_core.specs.RunSteps.{made_of}
 use Rattle.omi_seat.specs.Behind.{CanStep}
-use Rattle.omi_seat.specs.Known.{actor_known, entry_known, steps_known}
-use Rattle.omi_seat.proofs.Learnt.{steps_found}
+use Rattle.omi_seat.specs.Known.{actor_known, entry_known}
 use Rattle.omi_seat.specs.declared.known.Known.{Known}
 use Rattle.omi_seat.specs.declared.step_log.StepLog.{StepLog}
 use Rattle.omi_seat.specs.StepLog.{HasRoom, IsLogOf}
@@ -24,10 +21,6 @@ module _ (p : Program) (l : Layout) (x : Known) (log : StepLog) (w : IsLogOf p l
   pub resumed_is : (n : ℕ)
       → resumed_at p l.table log.actor log.actor.counter n ≡ resumed_at x.program x.layout.table (actor_known x) (actor_known x).counter n
   resumed_is n = λ k. resumed_at (sym w.program k) (sym table_is k) (w.actor k) (w.actor k).counter n
-
-  pub count_is : length log.made.items ≡ length x.found
-  count_is =
-      ap length w.made ∙ length-map (steps_known x) (made_of x.thread) ∙ steps_found x
 
   pub outcome_is : (n : ℕ) (out : Outcome)
       → out ≡ (resumed_at p l.table log.actor log.actor.counter n).1
@@ -44,6 +37,8 @@ module _ (p : Program) (l : Layout) (x : Known) (log : StepLog) (w : IsLogOf p l
 -- room for fewer steps
 pub less_room : (n m : ℕ) (x : Known) (log : StepLog) → n ≤ m → HasRoom m x log → HasRoom n x log
 less_room n m x log less room =
-    let made = room.made in
     let events = room.events in
-    record { made = omega (arith, less, made); events = omega (arith, less, events) }
+    record {
+      made = λ is. let made = room.made is in omega (arith, less, made);
+      events = omega (arith, less, events);
+    }

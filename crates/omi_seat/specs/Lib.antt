@@ -10,5 +10,8 @@ pub mod Stops
 -- What a thread keeps of its steps, and its operations on words of a table
 pub mod StepLog
 pub mod Applied
+-- A worker, which is both; and the workers of all threads, before their first steps and behind their last ones
+pub mod Worker
+pub mod Workers
 -- What a gate is made with
 pub mod Gates

@@ -10,23 +10,25 @@ use Rattle.omi_core.specs.RunSteps.{made_of, seats_of}
 use Rattle.omi_core.specs.Steps.{events_behind}
 use Rattle.omi_seat.specs.declared.known.Known.{Known}
 use Rattle.omi_seat.specs.declared.limits.TheConstants.{MOST_BUDGET}
+use Rattle.omi_seat.specs.declared.step_log.Kept.TheVariants as kept
 use Rattle.omi_seat.specs.declared.step_log.StepLog.{StepLog}
 use Rattle.omi_seat.specs.Behind.{CanStep}
 use Rattle.omi_seat.specs.Known.{actor_known, claims_known, entry_known, finds, own_steps, steps_known}
 
--- what is kept of a thread of a program in a layout is what is known of it
+-- What is kept of a thread of a program in a layout is what is known of it. Its steps are, where they are kept
 pub record IsLogOf (p : Program) (l : Layout) (x : Known) (log : StepLog) : Type 0 where
   pub program : x.program ≡ p
   pub layout : x.layout ≡ l
   pub thread : log.thread ≡ x.thread
   pub below : x.thread < p.threads
+  pub steps : log.steps ≡ length x.found
   pub actor : log.actor ≡ actor_known x
-  pub made : log.made.items ≡ map (made_of x.thread) (steps_known x)
+  pub made : log.kept ≡ kept.Steps → log.made.items ≡ map (made_of x.thread) (steps_known x)
   pub events : log.events.items ≡ events_behind 0 (own_steps x.thread (steps_known x))
 
 -- it has room for so many more steps, whatever they commit
 pub record HasRoom (steps : ℕ) (x : Known) (log : StepLog) : Type 0 where
-  pub made : steps ≤ log.made.spare
+  pub made : log.kept ≡ kept.Steps → steps ≤ log.made.spare
   pub events : steps ≤ room_for_steps log.events (claims_known x)
 
 -- this operation is the next one of the thread of which these steps are kept, and found this word

@@ -9,6 +9,8 @@ mod operation;
 mod split_join;
 mod start_gate;
 mod step_log;
+mod worker;
+mod workers;
 
 pub use ends::{ends_at, stops_at};
 pub use image::{image_of, words_of};
@@ -17,4 +19,6 @@ pub use limits::MOST_BUDGET;
 pub use operation::apply;
 pub use split_join::{First, Together};
 pub use start_gate::{MOST_TURNS, StartGate};
-pub use step_log::StepLog;
+pub use step_log::{Kept, StepLog};
+pub use worker::Worker;
+pub use workers::{Runner, all_joined, workers_at};

@@ -1,4 +1,4 @@
-use Rattle.std.proofs.Common.{◌≡◌, ◌∙◌, ap, map, string_bytes, List}
+use Rattle.std.proofs.Common.{◌∙◌, ap, map, string_bytes, List}
 use Rattle.std.specs.Prelude.{String}
 use Rattle.std.specs.declared.alloc.Global.{Global}
 use Rattle.omi_line.specs.Line.{split_of}

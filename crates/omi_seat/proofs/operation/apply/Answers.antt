@@ -1,7 +1,5 @@
 -- Each kind of operation is allowed as the rule asks.
 use Rattle.std.proofs.Common.{◌-◌, ◌/◌, ap, ◌∙◌, arith}
-use mathlib.Core.Option.{none}
-use Rattle.atomic_table.specs.Table.{step}
 use Rattle.omi_word.specs.declared.op.Op.{Op}
 use Rattle.omi_word.specs.Memory.{left_of}
 use Rattle.omi_seat.proofs.Applied.{allowed, exchanged, inside}

@@ -1,7 +1,0 @@
-use Rattle.omi_park.proofs.Going.{IsWorking}
-use Rattle.omi_park.proofs.worker.Worker.work.Given as goal
-
--- so many steps were made, and the thread goes on
-abbrev pub invariant-loop-step : goal.invariant-loop-step
-invariant-loop-step g l =
-    IsWorking l.fn.p l.fn.l l.fn.words.table_id l.fn.budget l.step l.fn.self.log.thread l.self
