@@ -13,7 +13,7 @@ mod script;
 mod words;
 
 pub use names::Names;
-pub use program::{handed_over, words_of};
+pub use program::{handed_over, tell_fault, words_of};
 pub use put::{end_with, refuse_words};
 pub use reading::load;
 pub use refusal::{Input, Refusal};

@@ -4,7 +4,7 @@ ghost use Rattle.std.specs.Prelude.{◌≡◌, ◌≢◌, ◌⊎◌, IfErr, allo
 ghost use Rattle.omi_outside.specs.Disk.{disk_read_faults as read_faults, disk_unsynced as unsynced, disk_write_faults as write_faults};
 ghost use Rattle.omi_outside.specs.Outside.{Rose};
 
-use omi_outside::{DiskFiles, Status};
+use omi_outside::{DiskFiles, Fault, Status};
 use std::alloc::AllocError;
 use std::env::Env;
 use std::fs::Files;
@@ -43,5 +43,15 @@ pub fn handed_over<R: Files + AllocGlobal + Drop>(
     match files.sync() {
         Ok(()) => status,
         Err(_) => Status::WriteFault,
+    }
+}
+
+/// Writes to standard error why a command ended with the status of a refused write: the file or the output, and the system's reason. What
+/// can't be written there is left out.
+pub fn tell_fault<R: Eprint>(rt: &R, program: &str, status: Status, fault: Option<&Fault>) {
+    if status == Status::WriteFault
+        && let Some(fault) = fault
+    {
+        let _ = eprintln!(rt; "{program}: {fault}");
     }
 }

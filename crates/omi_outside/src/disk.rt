@@ -1,10 +1,11 @@
 // The thin edge over real files. It tells no bytes, and counts each fault. Each call of the system
 // stands in one place.
-ghost use Rattle.std.specs.Prelude.{◌≡◌, ◌≤◌, IfOk, OnOk, IsErr, IsErrOf, List, None, length, ℕ};
-ghost use Rattle.omi_outside.specs.Disk.{disk_read_faults, disk_unsynced, disk_write_faults};
-ghost use Rattle.omi_outside.specs.Outside.{HasCause};
+ghost use Rattle.std.specs.Prelude.{◌≡◌, ◌≤◌, IfOk, OnOk, IsErr, IsErrOf, IsSome, List, None, length, ℕ};
+ghost use Rattle.std.specs.Option.{option_map};
+ghost use Rattle.omi_outside.specs.Disk.{disk_fault, disk_read_faults, disk_unsynced, disk_write_faults, TellsFault};
+ghost use Rattle.omi_outside.specs.Outside.{HasCause, Rose};
 
-use crate::{Failed, Files, Refused};
+use crate::{Failed, Fault, Files, Place, Refused};
 use std::fs::{OpenFile, OpenOptions};
 use std::io::{ErrorKind, Read, Seek, SeekFrom, Write};
 use std::{fs, io};
@@ -21,7 +22,8 @@ struct Opened<F> {
 /// read or written, its name is looked up once. What was written is handed to its device by `sync`,
 /// and before another file is written.
 ///
-/// A read of another name than that of `size` is a fault, and so is one past the file's end.
+/// A read of another name than that of `size` is a fault, and so is one past the file's end. Of the
+/// write that the system refused last it keeps the reason.
 #[derive(Drop)]
 pub struct DiskFiles<R: fs::Files + AllocGlobal + Drop> {
     rt: R,
@@ -30,6 +32,7 @@ pub struct DiskFiles<R: fs::Files + AllocGlobal + Drop> {
     reads: u64,
     writes: u64,
     unsynced: u64,
+    fault: Option<Fault>,
 }
 
 impl<R: fs::Files + AllocGlobal + Drop> DiskFiles<R> {
@@ -39,6 +42,7 @@ impl<R: fs::Files + AllocGlobal + Drop> DiskFiles<R> {
         ensures reads { disk_read_faults result ≡ 0 }
         ensures writes { disk_write_faults result ≡ 0 }
         ensures synced { disk_unsynced result ≡ 0 }
+        ensures fault { disk_fault result ≡ None }
     {
         DiskFiles {
             rt,
@@ -47,7 +51,30 @@ impl<R: fs::Files + AllocGlobal + Drop> DiskFiles<R> {
             reads: 0,
             writes: 0,
             unsynced: 0,
+            fault: None,
         }
+    }
+
+    /// The write that the system refused last.
+    pub fn fault(&self) -> Option<&Fault>
+        ensures { option_map (λ fault. fault.now) result ≡ disk_fault self.now }
+    {
+        self.fault.as_ref()
+    }
+
+    /// Counts a write that was refused, and keeps why.
+    fn refused(&mut self, name: Option<String>, reason: io::Error)
+        ensures later { disk_write_faults self.old ≤ disk_write_faults self.new }
+        ensures rose { Rose (disk_write_faults self.old) (disk_write_faults self.new) }
+        ensures told { IsSome (disk_fault self.new) }
+        ensures reads { disk_read_faults self.new ≡ disk_read_faults self.old }
+    {
+        self.writes = self.writes.saturating_add(1);
+        let place = match name {
+            Some(name) => Place::File(name),
+            None => Place::Unnamed,
+        };
+        self.fault = Some(Fault { place, reason });
     }
 
     /// Has the system hand the file that was written last to its device, so that a fault which is
@@ -58,6 +85,7 @@ impl<R: fs::Files + AllocGlobal + Drop> DiskFiles<R> {
         ensures cause { HasCause (disk_write_faults self.old) (disk_write_faults self.new)
             (IsErr result) }
         ensures no_fault { OnOk result (disk_write_faults self.new ≡ disk_write_faults self.old) }
+        ensures told { TellsFault (disk_fault self.old) (disk_fault self.new) (IsErr result) }
         ensures reads { disk_read_faults self.new ≡ disk_read_faults self.old }
     {
         if self.unsynced > 0
@@ -65,7 +93,8 @@ impl<R: fs::Files + AllocGlobal + Drop> DiskFiles<R> {
             && let Err(e) = opened.file.sync_all()
             && e.kind() != ErrorKind::InvalidInput
         {
-            self.writes = self.writes.saturating_add(1);
+            let name = String::from_str(self.rt.alloc(), opened.name.as_str()).ok();
+            self.refused(name, e);
             return Err(Failed);
         }
         self.unsynced = 0;
@@ -76,6 +105,8 @@ impl<R: fs::Files + AllocGlobal + Drop> DiskFiles<R> {
     /// opened at its end, and made where it isn't there.
     fn open_to_append(&mut self, name: &str) -> Result<Opened<R::File>, Refused>
         ensures cause { HasCause (disk_write_faults self.old) (disk_write_faults self.new)
+            (IsErrOf result Refused.Failed) }
+        ensures told { TellsFault (disk_fault self.old) (disk_fault self.new)
             (IsErrOf result Refused.Failed) }
         ensures reads { disk_read_faults self.new ≡ disk_read_faults self.old }
     {
@@ -92,8 +123,8 @@ impl<R: fs::Files + AllocGlobal + Drop> DiskFiles<R> {
             .open(&self.rt, name)
         {
             Ok(file) => Ok(Opened { name: kept, file }),
-            Err(_) => {
-                self.writes = self.writes.saturating_add(1);
+            Err(e) => {
+                self.refused(Some(kept), e);
                 Err(Refused::Failed)
             }
         }
@@ -178,6 +209,8 @@ impl<R: fs::Files + AllocGlobal + Drop> Files for DiskFiles<R> {
         // What each form says.
         ensures cause { HasCause (disk_write_faults self.old) (disk_write_faults self.new)
             (IsErrOf result Refused.Failed) }
+        ensures told { TellsFault (disk_fault self.old) (disk_fault self.new)
+            (IsErrOf result Refused.Failed) }
         ensures reads { disk_read_faults self.new ≡ disk_read_faults self.old }
     {
         if self.sync().is_err() {
@@ -191,8 +224,8 @@ impl<R: fs::Files + AllocGlobal + Drop> Files for DiskFiles<R> {
                 self.unsynced = 1;
                 Ok(())
             }
-            Err(_) => {
-                self.writes = self.writes.saturating_add(1);
+            Err(e) => {
+                self.refused(Some(kept), e);
                 Err(Refused::Failed)
             }
         }
@@ -205,6 +238,8 @@ impl<R: fs::Files + AllocGlobal + Drop> Files for DiskFiles<R> {
         // What each form says.
         ensures cause { HasCause (disk_write_faults self.old) (disk_write_faults self.new)
             (IsErrOf result Refused.Failed) }
+        ensures told { TellsFault (disk_fault self.old) (disk_fault self.new)
+            (IsErrOf result Refused.Failed) }
         ensures reads { disk_read_faults self.new ≡ disk_read_faults self.old }
     {
         let mut opened = self.open_to_append(name)?;
@@ -213,8 +248,9 @@ impl<R: fs::Files + AllocGlobal + Drop> Files for DiskFiles<R> {
         self.unsynced = self.unsynced.saturating_add(1);
         match added {
             Ok(()) => Ok(()),
-            Err(_) => {
-                self.writes = self.writes.saturating_add(1);
+            Err(e) => {
+                let name = String::from_str(self.rt.alloc(), name).ok();
+                self.refused(name, e);
                 Err(Refused::Failed)
             }
         }

@@ -4,6 +4,7 @@
 
 mod contents;
 mod disk;
+mod fault;
 mod files;
 mod gate;
 mod limits;
@@ -16,6 +17,7 @@ mod status;
 mod whole;
 
 pub use disk::DiskFiles;
+pub use fault::{Fault, Place};
 pub use files::{Failed, Files, Refused};
 pub use gate::{FreeGate, Gate};
 pub use limits::PIECE;

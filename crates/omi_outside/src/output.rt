@@ -1,7 +1,7 @@
-// The thin edge over standard output. It tells no bytes, and counts each fault.
+// The thin edge over standard output. It tells no bytes, counts each fault, and keeps the reason of the last one.
 ghost use Rattle.std.specs.Prelude.{◌≡◌, None};
 
-use crate::{Refused, Sink};
+use crate::{Fault, Place, Refused, Sink};
 use std::fs;
 use std::os::fd::AsRawFd;
 
@@ -28,6 +28,7 @@ where
 pub struct StdSink<R: Print + Drop> {
     rt: R,
     faults: u64,
+    fault: Option<Fault>,
 }
 
 impl<R: Print + Drop> StdSink<R> {
@@ -37,7 +38,16 @@ impl<R: Print + Drop> StdSink<R> {
         ensures faults { ⟦<StdSink<R> as Sink>⟧.faults result ≡ 0 }
         ensures wants { ⟦<StdSink<R> as Sink>⟧.wants result ≡ 0 }
     {
-        StdSink { rt, faults: 0 }
+        StdSink {
+            rt,
+            faults: 0,
+            fault: None,
+        }
+    }
+
+    /// The put that the system refused last.
+    pub fn fault(&self) -> Option<&Fault> {
+        self.fault.as_ref()
     }
 }
 
@@ -51,8 +61,12 @@ impl<R: Print + Drop> Sink for StdSink<R> {
     fn put(&mut self, bytes: &[u8]) -> Result<(), Refused> {
         match self.rt.write_all(bytes) {
             Ok(()) => Ok(()),
-            Err(_) => {
+            Err(reason) => {
                 self.faults = self.faults.saturating_add(1);
+                self.fault = Some(Fault {
+                    place: Place::Output,
+                    reason,
+                });
                 Err(Refused::Failed)
             }
         }

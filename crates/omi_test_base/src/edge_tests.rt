@@ -220,6 +220,49 @@ fn devices(rt: HostRuntime) -> Result<(), Fail> {
     Ok(())
 }
 
+/// What is kept of the write that the system refused last, as a text.
+fn told<R: fs::Files + AllocGlobal + Drop>(
+    alloc: Global,
+    files: &DiskFiles<R>,
+) -> Result<String, Fail> {
+    match files.fault() {
+        Some(fault) => Ok(format!(in alloc; "{fault}")?),
+        None => Ok(String::new(alloc)),
+    }
+}
+
+#[test]
+fn why_a_write_is_refused(rt: HostRuntime) -> Result<(), Fail> {
+    let mut files = DiskFiles::new(rt.clone()?);
+    assert_eq!(&rt; told(rt.alloc(), &files)?.as_str(), "");
+    // A read that fails is no write.
+    let read = files.read_at("/dev/null", 0, &mut [0]);
+    assert_eq!(&rt;
+        (read, told(rt.alloc(), &files)?.as_str()),
+        (Err(Failed), "")
+    );
+    let empty = (files.create(""), told(rt.alloc(), &files)?);
+    assert_eq!(&rt; empty.0, Err(Refused::Failed));
+    assert_eq!(&rt;
+        empty.1.as_str(),
+        "\"\": No such file or directory (os error 2)"
+    );
+    // What succeeds leaves what is kept.
+    let null = (write_whole(&mut files, "/dev/null", b"x"), files.sync());
+    assert_eq!(&rt; null, (Ok(()), Ok(())));
+    assert_eq!(&rt;
+        told(rt.alloc(), &files)?.as_str(),
+        "\"\": No such file or directory (os error 2)"
+    );
+    let added = (files.append("", b"x"), files.append("/dev/full", b"x"));
+    assert_eq!(&rt; added, (Err(Refused::Failed), Err(Refused::Failed)));
+    assert_eq!(&rt;
+        told(rt.alloc(), &files)?.as_str(),
+        "\"/dev/full\": No space left on device (os error 28)"
+    );
+    Ok(())
+}
+
 #[test]
 fn short_and_interrupted_calls(rt: HostRuntime) -> Result<(), Fail> {
     let path = fresh(&rt, "short")?;

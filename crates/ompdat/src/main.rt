@@ -1,7 +1,7 @@
 //! The program: `rewind_top` over real files and standard output.
 #![tactic(auto)]
 
-use omi_frame::words_of;
+use omi_frame::{tell_fault, words_of};
 use omi_outside::{DiskFiles, Status, StdSink, hold_standard};
 use omi_rewind_top::{rewind_complaint, rewind_forms, rewind_top};
 use omi_usage::{Program, explain};
@@ -23,5 +23,6 @@ fn main(rt: HostRuntime) -> ExitCode {
         };
         explain(&rt, program, &words, rewind_complaint(&words));
     }
+    tell_fault(&rt, "ompdat", status, out.fault());
     ExitCode::from(status.code())
 }

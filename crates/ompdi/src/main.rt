@@ -1,7 +1,7 @@
 // The program: `run_top` over real files and standard output.
 #![tactic(auto)]
 
-use omi_frame::{handed_over, words_of};
+use omi_frame::{handed_over, tell_fault, words_of};
 use omi_outside::{DiskFiles, Status, StdSink, hold_standard};
 use omi_top::{run_complaint, run_forms, run_top};
 use omi_usage::{Program, explain};
@@ -24,5 +24,7 @@ fn main(rt: HostRuntime) -> ExitCode {
         };
         explain(&rt, program, &words, run_complaint(&words));
     }
-    ExitCode::from(handed_over(status, &mut dest).code())
+    let status = handed_over(status, &mut dest);
+    tell_fault(&rt, "ompdi", status, dest.fault().or(out.fault()));
+    ExitCode::from(status.code())
 }

@@ -1,7 +1,7 @@
 // The program: `live_top` over real files and standard output.
 #![tactic(auto)]
 
-use omi_frame::{handed_over, words_of};
+use omi_frame::{handed_over, tell_fault, words_of};
 use omi_live::{live_complaint, live_form, live_top};
 use omi_outside::{DiskFiles, Status, StdSink, hold_standard};
 use omi_seat::{MOST_TURNS, StartGate};
@@ -31,5 +31,7 @@ fn main(rt: HostRuntime) -> ExitCode {
         };
         explain(&rt, program, &words, live_complaint(&words));
     }
-    ExitCode::from(handed_over(status, &mut files).code())
+    let status = handed_over(status, &mut files);
+    tell_fault(&rt, "ompdlive", status, files.fault().or(out.fault()));
+    ExitCode::from(status.code())
 }

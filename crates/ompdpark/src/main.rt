@@ -1,7 +1,7 @@
 // The program: `park_top` over real files and standard output.
 #![tactic(auto)]
 
-use omi_frame::{handed_over, words_of};
+use omi_frame::{handed_over, tell_fault, words_of};
 use omi_outside::{DiskFiles, Status, StdSink, hold_standard};
 use omi_park::{park_complaint, park_form, park_top};
 use omi_seat::{MOST_TURNS, StartGate};
@@ -31,5 +31,7 @@ fn main(rt: HostRuntime) -> ExitCode {
         };
         explain(&rt, program, &words, park_complaint(&words));
     }
-    ExitCode::from(handed_over(status, &mut files).code())
+    let status = handed_over(status, &mut files);
+    tell_fault(&rt, "ompdpark", status, files.fault().or(out.fault()));
+    ExitCode::from(status.code())
 }
