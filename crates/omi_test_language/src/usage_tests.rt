@@ -188,9 +188,9 @@ commands:
   ompd go N COLOR SCRIPT [--seed N] [--break COLOR --count N]
       N: a number from 1 to 20
       COLOR: red blue
-      N: a number from 1 to 20
-      COLOR: red blue
-      N: a number from 1 to 20
+      --seed N: a number from 1 to 20
+      --break COLOR: red blue
+      --count N: a number from 1 to 20
   ompd at N,N,..
       N,N,..: 1 to 3 numbers from 0 to 20
 ompd, version 1.0

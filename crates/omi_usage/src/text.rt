@@ -93,19 +93,20 @@ fn name_of(wanted: &Wanted) -> &'static str {
     }
 }
 
-/// Adds a line of what may stand for a word, where not every word may.
-fn push_range(text: &mut String, wanted: &Wanted) -> Result<(), AllocError> {
+/// Adds a line of what may stand for a word, where not every word may. `front` is the option whose value it is, with a space, or nothing.
+fn push_range(text: &mut String, front: &str, wanted: &Wanted) -> Result<(), AllocError> {
     match wanted {
         Wanted::Verb(_) | Wanted::NoVerb | Wanted::File(_) => Ok(()),
-        Wanted::Number { name, least, most } => {
-            write!(text, "      {name}: a number from {least} to {most}\n")
-        }
+        Wanted::Number { name, least, most } => write!(
+            text,
+            "      {front}{name}: a number from {least} to {most}\n"
+        ),
         Wanted::Numbers { name, many, most } => write!(
             text,
-            "      {name}: 1 to {many} numbers from 0 to {most}\n"
+            "      {front}{name}: 1 to {many} numbers from 0 to {most}\n"
         ),
         Wanted::OneOf { name, names } => {
-            write!(text, "      {name}:")?;
+            write!(text, "      {front}{name}:")?;
             for one in *names {
                 write!(text, " {one}")?;
             }
@@ -150,11 +151,16 @@ fn push_form(text: &mut String, program: &str, form: &Form) -> Result<(), AllocE
     push_options(text, form)?;
     text.push_str("\n")?;
     for wanted in form.words {
-        push_range(text, wanted)?;
+        push_range(text, "", wanted)?;
     }
-    for value in [form.seed, form.on, form.count, form.layout] {
+    for (front, value) in [
+        ("--seed ", form.seed),
+        ("--break ", form.on),
+        ("--count ", form.count),
+        ("--layout ", form.layout),
+    ] {
         if let Some(wanted) = value {
-            push_range(text, &wanted)?;
+            push_range(text, front, &wanted)?;
         }
     }
     Ok(())
