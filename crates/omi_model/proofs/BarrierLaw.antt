@@ -27,7 +27,7 @@ use Rattle.omi_model.specs.State.{State, region_of, task_of}
 use Rattle.omi_model.proofs.BarrierCounts.{barriers_of, counted}
 use Rattle.omi_model.proofs.BarrierOrder.{IsCounted, IsReady, Outside, Phase, Released, Waiting, Wrong, and_left, any_number, arrive_ready, fair, fair_item, main_ready, member_ready, order, pass_ready, release_ready, shown_ready, stays_ready, take_ready, task_ready, wrong}
 use Rattle.omi_model.proofs.BarrierSteps.{Changes, region_changed}
-use Rattle.omi_model.proofs.EachObject.{EachTask, IsTaskLaw, ahead_of_current, over_events, start_list, task_step_from}
+use Rattle.omi_model.proofs.EachObject.{EachTask, IsTaskLaw, ahead_of_current, law_of_lasting, over_events, start_list, task_step_from}
 use Rattle.omi_model.proofs.ListLaws.{take_fits, by_taken}
 use Rattle.omi_model.proofs.MembersKnown.{members_known, members_step}
 use Rattle.omi_model.proofs.OpeningObjects.{each_first_task}
@@ -323,21 +323,14 @@ module _ (p : Program) (b : ℕ → ℕ) (ok : IsCounted p b) (s : State) (i : �
   middle = moved_on s i e the_move.item the_move.behind
 
   law : EachTask (HasPlace b next) middle → IsTaskLaw p middle i e the_move.item next (HasPlace b next)
-  law of_tasks = record {
-    frees = λ k t free how q. q;
-    shows = λ k t x q. q;
-    tools = λ k t x q. q;
-    groups = λ k t count is how q. q;
-    sets = λ k t icv value v f at_set q. q;
-    begins = λ k t waits mine by q. q;
-    finishes = λ k t is over q. q;
+  law of_tasks = law_of_lasting p middle i e the_move.item next (HasPlace b next) (record {
     starts = λ k u j t x is live ex de may of by q.
         (λ im. absurd (false_true (sym ex ∙ im)), λ h. start_ready b t.number x (encounter middle i) u.list (any_number p b ok u.number t.number u.list (q.1 ex)));
     members = λ region team f k t r is found may new of by j m at.
         (λ im. (_, new, member region team f r j m at), λ ex. absurd (false_true (sym ex)));
     deferred = λ task f final seen k t is of fresh. (λ im. absurd (false_true im), λ ex. task_ready p b ok 0 f (fair_of k t is (item.Defer seen f final) of));
     made = λ task f final k t is of fresh by. (λ im. absurd (false_true im), λ ex. task_ready p b ok t.number f (fair_made k t is f final of));
-  }
+  })
     where
       before : IsRelisted s middle
       before = is_relisted s i (stays (encounter s i) e the_move.item the_move.behind)

@@ -19,7 +19,7 @@ use Rattle.omi_model.specs.Rules.{effect}
 use Rattle.omi_model.specs.State.{State, task_of}
 use Rattle.omi_model.proofs.Chains.{Chained, GoesOn, HasChain, chain_later, goes_on, own_effect, top_of}
 use Rattle.omi_model.proofs.EachObject.{is_end, over_events, stays_after}
-use Rattle.omi_model.proofs.EachThread.{EachThread, IsThreadLaw, thread_step}
+use Rattle.omi_model.proofs.EachThread.{EachThread, IsThreadLaw, law_of_current, thread_step}
 use Rattle.omi_model.proofs.MembersKnown.{first_scheduled, members_known, members_step}
 use Rattle.omi_model.proofs.OpeningObjects.{each_first_thread}
 use Rattle.omi_model.proofs.Slots.{some_same}
@@ -37,13 +37,7 @@ current_kept p s i e next step =
   where
     law : (middle : State) → IsRelisted s middle → Stays middle next → EachThread (KeepsCurrent s i) middle
         → IsThreadLaw p middle i e next (KeepsCurrent s i)
-    law middle before later all = record {
-      begins = λ may q. q;
-      offers = λ may of q. q;
-      wants = λ n num may of q. q;
-      asks = λ w got may of q. q;
-      claims = λ w may of q. q;
-      shows = λ state wait of q. q;
+    law middle before later all = law_of_current p middle i e next (KeepsCurrent s i) (record {
       forks = λ region team f k t r is found may new q ne. absurd (ne refl);
       joins_team = λ task may of q ne. absurd (ne refl);
       ends = λ k t r is found im other over q ne. absurd (ne refl);
@@ -51,7 +45,7 @@ current_kept p s i e next step =
       makes = λ task f final k t is new q ne. absurd (ne refl);
       starts = λ task x k t is may new q ne. absurd (ne refl);
       finishes = λ k t is ex over q ne. absurd (ne refl);
-    }
+    })
 
 abbrev pub Chains : State → Type 0
 Chains s = (i : ℕ) → HasChain s i (s.threads i).current

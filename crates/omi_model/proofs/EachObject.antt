@@ -85,6 +85,28 @@ abbrev pub ChangesGroups : State → Event → Tid → Task → ℕ → Type 0
 ChangesGroups s e k t n = ((e ≡ event.GroupBegin) × MayBeginGroup t × (n ≡ suc t.open_groups))
     ⊎ ((e ≡ event.GroupEnd) × MayEndGroup s k t × (n ≡ t.open_groups - 1))
 
+-- what has to be shown of a task that starts behind its being deferred, of the members of a new team, of a task that is deferred, and of one that
+-- starts where it is made
+abbrev pub AtStart : State → ℕ → Event → Item → (Tid → Task → Type 0) → Type 0
+AtStart s i e y P = (k : Tid) (u : Task) (j : Tid) (t : Task) (x : Item) → IsCurrent s i j t → task_of s k ≡ Some u
+    → u.implicit ≡ false → u.progress ≡ Deferred → MayStartAt x j t u → y ≡ x → e ≡ event.Start k → P k u
+    → P k (record (scheduled i j t u) { list = start_list x (encounter s i) u.list })
+
+abbrev pub AtFork : Program → State → ℕ → Event → Item → State → (Tid → Task → Type 0) → Type 0
+AtFork p s i e y next P = (region : Rid) (team : List (Tid × ℕ)) (f : ℕ) (k : Tid) (t : Task) (r : Region)
+    → IsCurrent s i k t → region_of s t.region ≡ Some r → MayFork s i region team
+    → region_of next region ≡ Some (new_region k t r team f) → y ≡ item.Fork f → e ≡ event.Fork region team
+    → (j : ℕ) (m : Tid × ℕ) → slice_get team j ≡ Some m → P m.0 (member_task p region k t r f j m.1)
+
+abbrev pub AtDefer : Program → State → ℕ → Item → (Tid → Task → Type 0) → Type 0
+AtDefer p s i y P = (task : Tid) (f : ℕ) (is_final : Bool) (seen : ℕ) (k : Tid) (t : Task) → IsCurrent s i k t
+    → y ≡ item.Defer seen f is_final → IsFresh s.tasks i task.0 → P task (deferred_task p k t f is_final seen)
+
+abbrev pub AtStartNow : Program → State → ℕ → Event → Item → (Tid → Task → Type 0) → Type 0
+AtStartNow p s i e y P = (task : Tid) (f : ℕ) (is_final : Bool) (k : Tid) (t : Task) → IsCurrent s i k t
+    → (y ≡ item.StartNow f is_final) ⊎ ((seen : ℕ) × (y ≡ item.Defer seen f is_final))
+    → IsFresh s.tasks i task.0 → e ≡ event.StartNow task → P task (scheduled i k t (deferred_task p k t f is_final 0))
+
 -- a law of each task over the effect of an event of thread i that takes an item, from a state to the next one
 pub record IsTaskLaw (p : Program) (s : State) (i : ℕ) (e : Event) (y : Item) (next : State) (P : Tid → Task → Type 0) : Type 0 where
   pub frees : (k : Tid) (t : Task) (free : Option Freeable) → IsFreeing s i e y k free → P k t
@@ -100,20 +122,47 @@ pub record IsTaskLaw (p : Program) (s : State) (i : ℕ) (e : Event) (y : Item) 
       → P k (record t { progress = Begun })
   pub finishes : (k : Tid) (t : Task) → IsCurrent s i k t → is_end e ≡ true → P k t
       → P k (record t { progress = Finished })
-  pub starts : (k : Tid) (u : Task) (j : Tid) (t : Task) (x : Item) → IsCurrent s i j t → task_of s k ≡ Some u
-      → u.implicit ≡ false → u.progress ≡ Deferred → MayStartAt x j t u → y ≡ x → e ≡ event.Start k → P k u
-      → P k (record (scheduled i j t u) { list = start_list x (encounter s i) u.list })
-  pub members : (region : Rid) (team : List (Tid × ℕ)) (f : ℕ) (k : Tid) (t : Task) (r : Region)
-      → IsCurrent s i k t → region_of s t.region ≡ Some r → MayFork s i region team
-      → region_of next region ≡ Some (new_region k t r team f) → y ≡ item.Fork f → e ≡ event.Fork region team
-      → (j : ℕ) (m : Tid × ℕ) → slice_get team j ≡ Some m → P m.0 (member_task p region k t r f j m.1)
-  pub deferred : (task : Tid) (f : ℕ) (is_final : Bool) (seen : ℕ) (k : Tid) (t : Task) → IsCurrent s i k t
-      → y ≡ item.Defer seen f is_final → IsFresh s.tasks i task.0
-      → P task (deferred_task p k t f is_final seen)
-  pub made : (task : Tid) (f : ℕ) (is_final : Bool) (k : Tid) (t : Task) → IsCurrent s i k t
-      → (y ≡ item.StartNow f is_final) ⊎ ((seen : ℕ) × (y ≡ item.Defer seen f is_final))
-      → IsFresh s.tasks i task.0 → e ≡ event.StartNow task
-      → P task (scheduled i k t (deferred_task p k t f is_final 0))
+  pub starts : AtStart s i e y P
+  pub members : AtFork p s i e y next P
+  pub deferred : AtDefer p s i y P
+  pub made : AtStartNow p s i e y P
+
+-- A task but for what an event changes of one that is there already, and isn't its list: these fields are the same for all. So a fact of what is left
+-- has to be shown where a task is made or starts, alone.
+abbrev pub lasting : Task → Task
+lasting t = record t {
+  enter = 0;
+  variables = record { dynamic = false; nthreads = []; schedule = record { kind = 0; chunk = 0 }; device = 0 };
+  tool = 0;
+  progress = Begun;
+  open_groups = 0;
+  frees = None;
+}
+
+abbrev pub OfLasting : (Tid → Task → Type 0) → Tid → Task → Type 0
+OfLasting P k t = P k (lasting t)
+
+pub record IsLastingLaw (p : Program) (s : State) (i : ℕ) (e : Event) (y : Item) (next : State) (P : Tid → Task → Type 0) : Type 0 where
+  pub starts : AtStart s i e y P
+  pub members : AtFork p s i e y next P
+  pub deferred : AtDefer p s i y P
+  pub made : AtStartNow p s i e y P
+
+pub law_of_lasting : (p : Program) (s : State) (i : ℕ) (e : Event) (y : Item) (next : State) (P : Tid → Task → Type 0)
+    → IsLastingLaw p s i e y next (OfLasting P) → IsTaskLaw p s i e y next (OfLasting P)
+law_of_lasting p s i e y next P law = record {
+  frees = λ k t free how q. q;
+  shows = λ k t x q. q;
+  tools = λ k t x q. q;
+  groups = λ k t count is how q. q;
+  sets = λ k t icv value v f at_set q. q;
+  begins = λ k t waits mine by q. q;
+  finishes = λ k t is over q. q;
+  starts = law.starts;
+  members = law.members;
+  deferred = law.deferred;
+  made = law.made;
+}
 
 each_member : (P : Tid → Task → Type 0) (task : ℕ → ℕ → Task) (number : ℕ) (team : List (Tid × ℕ)) (slots : Slots Task)
     → Each (λ n t. P (record { 0 = n }) t) slots

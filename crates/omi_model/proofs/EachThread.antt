@@ -38,6 +38,41 @@ use Rattle.omi_model.proofs.EachObject.{is_end, members_found, stays_after}
 abbrev pub EachThread : (ℕ → Thread → Type 0) → State → Type 0
 EachThread R s = (j : ℕ) → R j (s.threads j)
 
+-- what has to be shown of a thread whose current task changes: it forks, begins its task of a team, ends it, joins, makes a task that starts at once, or
+-- starts or finishes one
+abbrev pub AtFork : Program → State → ℕ → Event → State → (ℕ → Thread → Type 0) → Type 0
+AtFork p s i e next R = (region : Rid) (team : List (Tid × ℕ)) (f : ℕ) (k : Tid) (t : Task) (r : Region)
+    → IsCurrent s i k t → region_of s t.region ≡ Some r → MayFork s i region team
+    → ((j : ℕ) (m : Tid × ℕ) → slice_get team j ≡ Some m → task_of next m.0 ≡ Some (member_task p region k t r f j m.1)) → R i (s.threads i) → R i (record (s.threads i) { current = master_of team })
+
+abbrev pub AtImplicitBegin : State → ℕ → Event → (ℕ → Thread → Type 0) → Type 0
+AtImplicitBegin s i e R = (task : Tid) → MayBeginTask s i task → e ≡ event.ImplicitBegin task → R i (s.threads i)
+    → R i (record (s.threads i) { current = Some task })
+
+abbrev pub AtImplicitEnd : State → ℕ → Event → (ℕ → Thread → Type 0) → Type 0
+AtImplicitEnd s i e R = (k : Tid) (t : Task) (r : Region) → IsCurrent s i k t → region_of s t.region ≡ Some r
+    → t.implicit ≡ true → t.number ≢ 0 → is_end e ≡ true → R i (s.threads i)
+    → R i (record (s.threads i) { current = None })
+
+abbrev pub AtJoin : State → ℕ → Event → (ℕ → Thread → Type 0) → Type 0
+AtJoin s i e R = (k : Tid) (t : Task) (r : Region) → IsCurrent s i k t → region_of s t.region ≡ Some r
+    → MayJoin t.region t r → e ≡ event.Join t.region → R i (s.threads i)
+    → R i (record (s.threads i) { current = r.encountering })
+
+abbrev pub AtStartNow : Program → State → ℕ → State → (ℕ → Thread → Type 0) → Type 0
+AtStartNow p s i next R = (task : Tid) (f : ℕ) (is_final : Bool) (k : Tid) (t : Task) → IsCurrent s i k t
+    → task_of next task ≡ Some (scheduled i k t (deferred_task p k t f is_final 0)) → R i (s.threads i)
+    → R i (record (s.threads i) { current = Some task })
+
+abbrev pub AtStart : State → ℕ → State → (ℕ → Thread → Type 0) → Type 0
+AtStart s i next R = (task : Tid) (x : Item) (k : Tid) (t : Task) → IsCurrent s i k t → MayStart s task x k t
+    → ((u : Task) × (task_of next task ≡ Some u) × (u.progress ≡ Begun) × (u.scheduling ≡ Some k))
+    → R i (s.threads i) → R i (record (s.threads i) { current = Some task })
+
+abbrev pub AtFinish : State → ℕ → Event → (ℕ → Thread → Type 0) → Type 0
+AtFinish s i e R = (k : Tid) (t : Task) → IsCurrent s i k t → t.implicit ≡ false → is_end e ≡ true
+    → R i (s.threads i) → R i (record (s.threads i) { current = t.scheduling })
+
 -- a law of each thread over the effect of an event of thread i
 pub record IsThreadLaw (p : Program) (s : State) (i : ℕ) (e : Event) (next : State) (R : ℕ → Thread → Type 0) : Type 0 where
   pub begins : MayBegin (s.threads i) → R i (s.threads i) → R i (record (s.threads i) { begun = true })
@@ -51,36 +86,53 @@ pub record IsThreadLaw (p : Program) (s : State) (i : ℕ) (e : Event) (next : S
       → R w (record (s.threads w) { claim = claim.By i })
   pub shows : (state wait : ℕ) → e ≡ event.State state wait → R i (s.threads i)
       → R i (record (s.threads i) { state = state; wait = wait })
-  pub forks : (region : Rid) (team : List (Tid × ℕ)) (f : ℕ) (k : Tid) (t : Task) (r : Region)
-      → IsCurrent s i k t → region_of s t.region ≡ Some r → MayFork s i region team
-      → ((j : ℕ) (m : Tid × ℕ) → slice_get team j ≡ Some m → task_of next m.0 ≡ Some (member_task p region k t r f j m.1)) → R i (s.threads i) → R i (record (s.threads i) { current = master_of team })
-  pub joins_team : (task : Tid) → MayBeginTask s i task → e ≡ event.ImplicitBegin task → R i (s.threads i)
-      → R i (record (s.threads i) { current = Some task })
-  pub ends : (k : Tid) (t : Task) (r : Region) → IsCurrent s i k t → region_of s t.region ≡ Some r
-      → t.implicit ≡ true → t.number ≢ 0 → is_end e ≡ true → R i (s.threads i)
-      → R i (record (s.threads i) { current = None })
-  pub joins : (k : Tid) (t : Task) (r : Region) → IsCurrent s i k t → region_of s t.region ≡ Some r
-      → MayJoin t.region t r → e ≡ event.Join t.region → R i (s.threads i)
-      → R i (record (s.threads i) { current = r.encountering })
-  pub makes : (task : Tid) (f : ℕ) (is_final : Bool) (k : Tid) (t : Task) → IsCurrent s i k t
-      → task_of next task ≡ Some (scheduled i k t (deferred_task p k t f is_final 0)) → R i (s.threads i)
-      → R i (record (s.threads i) { current = Some task })
-  pub starts : (task : Tid) (x : Item) (k : Tid) (t : Task) → IsCurrent s i k t → MayStart s task x k t
-      → ((u : Task) × (task_of next task ≡ Some u) × (u.progress ≡ Begun) × (u.scheduling ≡ Some k))
-      → R i (s.threads i) → R i (record (s.threads i) { current = Some task })
-  pub finishes : (k : Tid) (t : Task) → IsCurrent s i k t → t.implicit ≡ false → is_end e ≡ true
-      → R i (s.threads i) → R i (record (s.threads i) { current = t.scheduling })
+  pub forks : AtFork p s i e next R
+  pub joins_team : AtImplicitBegin s i e R
+  pub ends : AtImplicitEnd s i e R
+  pub joins : AtJoin s i e R
+  pub makes : AtStartNow p s i next R
+  pub starts : AtStart s i next R
+  pub finishes : AtFinish s i e R
 
--- a law of lists alone: an effect leaves them
-pub of_lists : (p : Program) (s : State) (i : ℕ) (e : Event) (next : State) (P : ℕ → List Item → Type 0)
-    → IsThreadLaw p s i e next (λ j h. P j h.list)
-of_lists p s i e next P = record {
+-- A thread but for its current task and its list: the other fields are the same for all. So a fact of what is left has to be shown where the current task
+-- changes, alone.
+abbrev pub with_task : Thread → Thread
+with_task h = record h { begun = false; state = 0; wait = 0; claim = claim.Own; wanted = 0; asks = [] }
+
+abbrev pub OfTask : (ℕ → Thread → Type 0) → ℕ → Thread → Type 0
+OfTask R j h = R j (with_task h)
+
+pub record IsCurrentLaw (p : Program) (s : State) (i : ℕ) (e : Event) (next : State) (R : ℕ → Thread → Type 0) : Type 0 where
+  pub forks : AtFork p s i e next R
+  pub joins_team : AtImplicitBegin s i e R
+  pub ends : AtImplicitEnd s i e R
+  pub joins : AtJoin s i e R
+  pub makes : AtStartNow p s i next R
+  pub starts : AtStart s i next R
+  pub finishes : AtFinish s i e R
+
+pub law_of_current : (p : Program) (s : State) (i : ℕ) (e : Event) (next : State) (R : ℕ → Thread → Type 0)
+    → IsCurrentLaw p s i e next (OfTask R) → IsThreadLaw p s i e next (OfTask R)
+law_of_current p s i e next R law = record {
   begins = λ may q. q;
   offers = λ may of q. q;
   wants = λ n num may of q. q;
   asks = λ w got may of q. q;
   claims = λ w may of q. q;
   shows = λ state wait of q. q;
+  forks = law.forks;
+  joins_team = law.joins_team;
+  ends = law.ends;
+  joins = law.joins;
+  makes = law.makes;
+  starts = law.starts;
+  finishes = law.finishes;
+}
+
+-- a law of lists alone: an effect leaves them
+pub of_lists : (p : Program) (s : State) (i : ℕ) (e : Event) (next : State) (P : ℕ → List Item → Type 0)
+    → IsThreadLaw p s i e next (λ j h. P j h.list)
+of_lists p s i e next P = law_of_current p s i e next (λ j h. P j h.list) (record {
   forks = λ region team f k t r is found may new q. q;
   joins_team = λ task may of q. q;
   ends = λ k t r is found im other over q. q;
@@ -88,7 +140,7 @@ of_lists p s i e next P = record {
   makes = λ task f final k t is new q. q;
   starts = λ task x k t is may new q. q;
   finishes = λ k t is ex over q. q;
-}
+})
 
 -- a task that starts has begun afterwards
 started_found : (s : State) (k j : Tid) (f : Task → Task) (t : Task) → task_of s k ≡ Some t

@@ -19,7 +19,7 @@ use Rattle.omi_model.specs.Reached.{Reached, Step}
 use Rattle.omi_model.specs.Rows.{main_items, member_items}
 use Rattle.omi_model.specs.Shapes.{shape_of}
 use Rattle.omi_model.specs.State.{State}
-use Rattle.omi_model.proofs.EachObject.{EachTask, IsTaskLaw, over_events, task_step}
+use Rattle.omi_model.proofs.EachObject.{EachTask, IsTaskLaw, law_of_lasting, over_events, task_step}
 use Rattle.omi_model.proofs.ListLaws.{by_taken, may_pass, passes_front, take_fits, take_keeps, takes_joined}
 use Rattle.omi_model.proofs.OpeningObjects.{each_first_task}
 use Rattle.omi_model.proofs.RowLaws.{KeepsPlain, KeepsRows, barrier_keeps, critical_keeps, drop_keeps, group_keeps, last_keeps, main_keeps, member_keeps, row_keeps, shown_keeps, start_keeps, task_keeps}
@@ -128,20 +128,13 @@ frees_step p s i e next step all = task_step p TaskFrees s i e next step
   where
     law : (middle : State) (y : Item) → IsRelisted s middle → Stays middle next → EachTask TaskFrees middle
         → IsTaskLaw p middle i e y next TaskFrees
-    law middle y before later of_tasks = record {
-      frees = λ k t free how q. q;
-      shows = λ k t x q. q;
-      tools = λ k t x q. q;
-      groups = λ k t count is how q. q;
-      sets = λ k t icv value v f at_set q. q;
-      begins = λ k t waits mine by q. q;
-      finishes = λ k t is over q. q;
+    law middle y before later of_tasks = law_of_lasting p middle i e y next TaskFrees (record {
       starts = λ k u j t x is live ex de may of by q. start_keeps HasNoFrees plain_frees x (encounter middle i) u.list q;
       members = λ region team f k t r is found may new of by j m at.
           member_frees p (record { debug = p.env.debug; number = j; level = r.levels + 1; is_final = false }) f;
       deferred = λ task f final seen k t is of fresh. task_keeps HasNoFrees plain_frees p f tt;
       made = λ task f final k t is of fresh by. task_keeps HasNoFrees plain_frees p f tt;
-    }
+    })
 
 pub no_frees : (p : Program) (events : List (ℕ × Event)) (s : State) → Reached p events s
     → EachTask TaskFrees s

@@ -20,7 +20,7 @@ use Rattle.omi_model.specs.Reached.{Reached, Step}
 use Rattle.omi_model.specs.State.{State, task_of}
 use Rattle.omi_model.specs.Visible.{HasStarted}
 use Rattle.omi_model.proofs.ChainsKept.{current_begun}
-use Rattle.omi_model.proofs.EachObject.{EachTask, IsTaskLaw, task_step}
+use Rattle.omi_model.proofs.EachObject.{EachTask, IsTaskLaw, law_of_lasting, task_step}
 use Rattle.omi_model.proofs.Innermost.{innermost_cases}
 use Rattle.omi_model.proofs.OpeningObjects.{each_first_task}
 use Rattle.omi_model.proofs.ReachedStates.{over_reached}
@@ -142,19 +142,12 @@ module _ (p : Program) (events : List (ℕ × Event)) (s : State) (reached : Rea
     where
       law : (middle : State) (y : Item) → IsRelisted s middle → Stays middle next
           → EachTask (HasLine next) middle → IsTaskLaw p middle i e y next (HasLine next)
-      law middle y before later of_tasks = record {
-        frees = λ k t free how q. q;
-        shows = λ k t x q. q;
-        tools = λ k t x q. q;
-        groups = λ k t count is how q. q;
-        sets = λ k t icv value v f at_set q. q;
-        begins = λ k t waits mine by q. q;
-        finishes = λ k t is over q. q;
+      law middle y before later of_tasks = law_of_lasting p middle i e y next (HasLine next) (record {
         starts = λ k u j t x is live ex de may of by q. q;
         members = λ region team f k t r is found may new of by j n at. ([], refl, λ g none. absurd (none_some refl none));
         deferred = λ task f final seen k t is of fresh. under all middle before k t is;
         made = λ task f final k t is of fresh by. under all middle before k t is;
-      }
+      })
 
 pub have_line : (p : Program) (events : List (ℕ × Event)) (s : State) → Reached p events s
     → EachTask (HasLine s) s

@@ -34,7 +34,7 @@ use Rattle.omi_model.specs.Freeing.{freed}
 use Rattle.omi_model.specs.Tasking.{deferred, finished, started, started_alone, started_now}
 use Rattle.omi_model.specs.Teams.{forked, joined, task_ended}
 use Rattle.omi_model.proofs.ChainsKept.{current_begun}
-use Rattle.omi_model.proofs.EachObject.{EachTask, IsTaskLaw, ahead_of_current, start_list, task_step_from}
+use Rattle.omi_model.proofs.EachObject.{EachTask, IsTaskLaw, ahead_of_current, law_of_lasting, start_list, task_step_from}
 use Rattle.omi_model.proofs.EachThread.{EachThread, of_lists, thread_step}
 use Rattle.omi_model.proofs.ListLaws.{take_fits, take_keeps, by_taken}
 use Rattle.omi_model.proofs.LockLists.{Gives, is_lock_event, main_back, member_back, start_back, stays_back, take_back, task_back}
@@ -218,14 +218,7 @@ module _ (k : ℕ) (p : Program) (events : List (ℕ × Event)) (s : State) (rea
       of_start n u x found de (inr (apart, gives)) = (apart, start_back k x (encounter middle i) u.list gives)
 
       law : EachTask (Owns k after_holder) middle → IsTaskLaw p middle i e m.item next (Owns k after_holder)
-      law of_tasks = record {
-        frees = λ n t free how q. q;
-        shows = λ n t x q. q;
-        tools = λ n t x q. q;
-        groups = λ n t count is how q. q;
-        sets = λ n t icv value v f at_set q. q;
-        begins = λ n t waits mine by q. q;
-        finishes = λ n t is over q. q;
+      law of_tasks = law_of_lasting p middle i e m.item next (Owns k after_holder) (record {
         starts = λ n u j t x is found ex de may of by q. inr (of_start n u x found de q);
         members = λ region team f n t r is found may new of by j a at.
             inr (
@@ -234,7 +227,7 @@ module _ (k : ℕ) (p : Program) (events : List (ℕ × Event)) (s : State) (rea
             );
         deferred = λ task f final seen n t is of fresh. inr (new_name task fresh, task_back k p f);
         made = λ task f final n t is of fresh by. inr (new_name task fresh, task_back k p f);
-      }
+      })
 
   -- the same holder, where the lock is as it was
   thread_next : (holder : Option Tid) → next.locks k ≡ s.locks k → IsThreadOf s k holder

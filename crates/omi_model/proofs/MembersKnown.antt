@@ -13,7 +13,7 @@ use Rattle.omi_model.specs.LawStays.{Stays}
 use Rattle.omi_model.specs.Opening.{initial_region, opening, opening_region}
 use Rattle.omi_model.specs.Reached.{Reached, Step}
 use Rattle.omi_model.specs.State.{State, region_of, task_of}
-use Rattle.omi_model.proofs.EachObject.{EachTask, IsRegionLaw, IsTaskLaw, over_events, region_step, task_step}
+use Rattle.omi_model.proofs.EachObject.{EachTask, IsRegionLaw, IsTaskLaw, law_of_lasting, over_events, region_step, task_step}
 use Rattle.omi_model.proofs.OpeningObjects.{each_first_region, each_first_task}
 use Rattle.omi_model.proofs.Slots.{false_true, some_same}
 use Rattle.omi_model.proofs.StaysKept.{needed_region, stays_step}
@@ -106,19 +106,12 @@ members_step p s i e next step known = record {
 
     task_law : (middle : State) (y : Item) → IsRelisted s middle → Stays middle next
         → EachTask (IsMemberByNumber next) middle → IsTaskLaw p middle i e y next (IsMemberByNumber next)
-    task_law middle y before later all = record {
-      frees = λ k t free how q. q;
-      shows = λ k t x q. q;
-      tools = λ k t x q. q;
-      groups = λ k t count is how q. q;
-      sets = λ k t icv value v f at_set q. q;
-      begins = λ k t waits mine by q. q;
-      finishes = λ k t is over q. q;
+    task_law middle y before later all = law_of_lasting p middle i e y next (IsMemberByNumber next) (record {
       starts = λ k u j t x is live ex de may of by q implicit. absurd (false_true (sym ex ∙ implicit));
       members = λ region team f k t r is found may new of by j m at implicit. (_, new, at);
       deferred = λ task f final seen k t is of fresh implicit. absurd (false_true implicit);
       made = λ task f final k t is of fresh by implicit. absurd (false_true implicit);
-    }
+    })
 
 pub members_known : (p : Program) (events : List (ℕ × Event)) (s : State) → Reached p events s
     → AreMembersKnown s

@@ -18,7 +18,7 @@ use Rattle.omi_model.specs.Reached.{Reached, Step}
 use Rattle.omi_model.specs.State.{State, region_of, task_of}
 use Rattle.omi_model.specs.Teams.{master_of, member_task}
 use Rattle.omi_model.proofs.EachObject.{EachRegion, EachTask, IsRegionLaw, IsTaskLaw, region_step, task_step}
-use Rattle.omi_model.proofs.EachThread.{EachThread, IsThreadLaw, thread_step}
+use Rattle.omi_model.proofs.EachThread.{EachThread, IsThreadLaw, law_of_current, thread_step}
 use Rattle.omi_model.proofs.MembersKnown.{first_scheduled, members_known}
 use Rattle.omi_model.proofs.NamesKept.{names_kept}
 use Rattle.omi_model.proofs.NeededTasks.{needed_current, needed_encountering, needed_scheduling}
@@ -214,13 +214,7 @@ module _ (p : Program) (events : List (ℕ × Event)) (s : State) (reached : Rea
 
   thread_law : (middle : State) → IsRelisted s middle → Stays middle next → EachThread Current middle
       → IsThreadLaw p middle i e next Current
-  thread_law middle before later all = record {
-    begins = λ may q. q;
-    offers = λ may of q. q;
-    wants = λ n num may of q. q;
-    asks = λ w got may of q. q;
-    claims = λ w may of q. q;
-    shows = λ state wait of q. q;
+  thread_law middle before later all = law_of_current p middle i e next Current (record {
     forks = λ region team f k t r is found may new q n g. first_name next team n (λ j m at. (_, new j m at, not_deferred (j == 0))) g;
     joins_team = λ task may of q n g. subst (IsLiveTask next) (some_same refl g) (live_task middle next later task (may.member, may.live, λ d. not_waiting may.member may.waiting d) (λ t live. needed_waiting middle task t (ap (λ (x : Task). x.progress) (some_same live may.live) ∙ may.waiting)));
     ends = λ k t r is found im other over q n g. absurd (none_some refl g);
@@ -228,7 +222,7 @@ module _ (p : Program) (events : List (ℕ × Event)) (s : State) (reached : Rea
     makes = λ task f final k t is new q n g. subst (IsLiveTask next) (some_same refl g) (_, new, λ d. not_deferred true d);
     starts = λ task x k t is may (u, found, begun, from) q n g. subst (IsLiveTask next) (some_same refl g) (u, found, λ d. not_deferred true (sym begun ∙ d));
     finishes = λ k t is ex over q n g. from_scheduling k t is n g;
-  }
+  })
     where
       from_scheduling : (k : Tid) (t : Task) → IsCurrent middle i k t → (n : Tid) → t.scheduling ≡ Some n
           → IsLiveTask next n

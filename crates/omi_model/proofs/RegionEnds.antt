@@ -24,7 +24,7 @@ use Rattle.omi_model.proofs.BarrierLaw.{Stands, near, number_met, placed}
 use Rattle.omi_model.proofs.BarrierOrder.{IsReady, Outside, Phase, Released, Waiting, Wrong, is_barrier_event, is_outside, left, order, take_ready}
 use Rattle.omi_model.proofs.BarrierSteps.{Changes, IsUntouched, region_changed}
 use Rattle.omi_model.proofs.Covered.{Covers, HasBehind, main_covers, member_covers, stays_covers, take_covers}
-use Rattle.omi_model.proofs.EachObject.{EachTask, IsTaskLaw, ahead_of_current, over_events, task_step, task_step_from}
+use Rattle.omi_model.proofs.EachObject.{EachTask, IsTaskLaw, ahead_of_current, law_of_lasting, over_events, task_step, task_step_from}
 use Rattle.omi_model.proofs.LastItems.{Closes, main_closes, member_closes, start_closes, stays_closes, take_closes, task_closes}
 use Rattle.omi_model.proofs.ListLaws.{by_taken, is_frees, take_fits, taken_other, taken_plain}
 use Rattle.omi_model.proofs.OpenNames.{open_names}
@@ -49,19 +49,12 @@ covered_step p s i e next step all = task_step p (IsCovered p) s i e next step
   where
     law : (middle : State) (y : Item) → IsRelisted s middle → Stays middle next
         → EachTask (IsCovered p) middle → IsTaskLaw p middle i e y next (IsCovered p)
-    law middle y before later of_tasks = record {
-      frees = λ k t free how q. q;
-      shows = λ k t x q. q;
-      tools = λ k t x q. q;
-      groups = λ k t count is how q. q;
-      sets = λ k t icv value v f at_set q. q;
-      begins = λ k t waits mine by q. q;
-      finishes = λ k t is over q. q;
+    law middle y before later of_tasks = law_of_lasting p middle i e y next (IsCovered p) (record {
       starts = λ k u j t x is live ex de may of by q im. absurd (false_true (sym ex ∙ im));
       members = λ region team f k t r is found may new of by j m at im. member_covers (barriers_of p) p (record { debug = p.env.debug; number = j; level = r.levels + 1; is_final = false }) f;
       deferred = λ task f final seen k t is of fresh im. absurd (false_true im);
       made = λ task f final k t is of fresh by im. absurd (false_true im);
-    }
+    })
 
 covered : (p : Program) (events : List (ℕ × Event)) (s : State) → Reached p events s
     → EachTask (IsCovered p) s
@@ -199,20 +192,13 @@ module _ (p : Program) (events : List (ℕ × Event)) (s : State) (reached : Rea
       (defers_only e seen f final (fits_item (item.Defer seen f final) of))
 
   rest_law : EachTask (Rests p next) middle → IsTaskLaw p middle i e m.item next (Rests p next)
-  rest_law of_tasks = record {
-    frees = λ k t free how q. q;
-    shows = λ k t x q. q;
-    tools = λ k t x q. q;
-    groups = λ k t count is how q. q;
-    sets = λ k t icv value v f at_set q. q;
-    begins = λ k t waits mine by q. q;
-    finishes = λ k t is over q. q;
+  rest_law of_tasks = law_of_lasting p middle i e m.item next (Rests p next) (record {
     starts = λ k u j t x is live ex de may of by q. q;
     members = λ region team f k t r is found may new of by j n at ex. absurd (false_true (sym ex));
     deferred = λ task f final seen k t is of fresh ex r found rested.
         no_new k t is (item.Defer seen f final) of (λ h. h) refl (defers_only e seen f final (fits_item (item.Defer seen f final) of)) r found rested;
     made = λ task f final k t is of fresh by ex r found rested. no_new_now k t is f final of r found rested;
-  }
+  })
 
   -- a task that was there
   still : (k : Tid) (t : Task) → task_of s k ≡ Some t → Rests p s k t → Rests p next k t
@@ -262,19 +248,12 @@ lasts_step p s i e next step all = task_step p HasLast s i e next step
   where
     law : (middle : State) (y : Item) → IsRelisted s middle → Stays middle next → EachTask HasLast middle
         → IsTaskLaw p middle i e y next HasLast
-    law middle y relists later of_tasks = record {
-      frees = λ k t free how q. q;
-      shows = λ k t x q. q;
-      tools = λ k t x q. q;
-      groups = λ k t count is how q. q;
-      sets = λ k t icv value v f at_set q. q;
-      begins = λ k t waits mine by q. q;
-      finishes = λ k t is over q. q;
+    law middle y relists later of_tasks = law_of_lasting p middle i e y next HasLast (record {
       starts = λ k u j t x is live ex de may of by q. start_closes (MayClose u.implicit) x (encounter middle i) u.list q;
       members = λ region team f k t r is found may new of by j m at. member_closes (MayClose true) p (record { debug = p.env.debug; number = j; level = r.levels + 1; is_final = false }) f (λ done. refl);
       deferred = λ task f final seen k t is of fresh. task_closes (MayClose false) p (λ done. absurd (cc done)) f;
       made = λ task f final k t is of fresh by. task_closes (MayClose false) p (λ done. absurd (cc done)) f;
-    }
+    })
 
 lasts : (p : Program) (events : List (ℕ × Event)) (s : State) → Reached p events s → EachTask HasLast s
 lasts p events s reached =

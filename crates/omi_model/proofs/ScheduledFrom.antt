@@ -21,7 +21,7 @@ use Rattle.omi_model.specs.State.{State, task_of}
 use Rattle.omi_model.specs.Tasking.{MayStartAt}
 use Rattle.omi_model.proofs.ChainsKept.{current_begun}
 use Rattle.omi_model.proofs.Innermost.{innermost_own}
-use Rattle.omi_model.proofs.EachObject.{EachTask, IsTaskLaw, ahead_of_current, task_step_from}
+use Rattle.omi_model.proofs.EachObject.{EachTask, IsTaskLaw, ahead_of_current, law_of_lasting, task_step_from}
 use Rattle.omi_model.proofs.ListLaws.{take_fits, taken_plain}
 use Rattle.omi_model.proofs.OpeningObjects.{each_first_task}
 use Rattle.omi_model.proofs.ReachedStates.{over_reached}
@@ -118,19 +118,12 @@ module _ (p : Program) (events : List (ℕ × Event)) (s : State) (reached : Rea
 
   from_law : EachTask (IsScheduledFrom next) middle
       → IsTaskLaw p middle i e m.item next (IsScheduledFrom next)
-  from_law all = record {
-    frees = λ k t free how q. q;
-    shows = λ k t x q. q;
-    tools = λ k t x q. q;
-    groups = λ k t count is how q. q;
-    sets = λ k t icv value v f at_set q. q;
-    begins = λ k t waits mine by q. q;
-    finishes = λ k t is over q. q;
+  from_law all = law_of_lasting p middle i e m.item next (IsScheduledFrom next) (record {
     starts = λ k u j t x is live ex de may of by q. from_current j u ex (starts_under x of j t is u may);
     members = λ region team f k t r is found may new of by j n at. of_first region (j == 0) k;
     deferred = λ task f final seen k t is of fresh n from. absurd (none_some refl from);
     made = λ task f final k t is of fresh by n from. inl from;
-  }
+  })
     where
       of_first : (region : Rid) (b : Bool) (k n : Tid) → (if b then Some k else None) ≡ Some n
           → (◌≡◌ {A = Option Tid} (Some k) (Some n))

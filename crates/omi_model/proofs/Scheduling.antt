@@ -25,7 +25,7 @@ use Rattle.omi_model.specs.State.{State, task_of}
 use Rattle.omi_model.specs.Tasking.{MayStartAt}
 use Rattle.omi_model.proofs.BarrierLaw.{placed}
 use Rattle.omi_model.proofs.BarrierOrder.{Outside, order, wrong}
-use Rattle.omi_model.proofs.EachObject.{EachTask, IsTaskLaw, ahead_of_current, over_events, task_step}
+use Rattle.omi_model.proofs.EachObject.{EachTask, IsTaskLaw, ahead_of_current, law_of_lasting, over_events, task_step}
 use Rattle.omi_model.proofs.OpeningObjects.{each_first_task}
 use Rattle.omi_model.proofs.Slots.{false_true, none_some, some_same}
 use Rattle.omi_model.proofs.Steps.{IsRelisted}
@@ -44,19 +44,12 @@ waits_step p s i e next step all = task_step p TaskWaits s i e next step
   where
     law : (middle : State) (y : Item) → IsRelisted s middle → Stays middle next → EachTask TaskWaits middle
         → IsTaskLaw p middle i e y next TaskWaits
-    law middle y before later of_tasks = record {
-      frees = λ k t free how q. q;
-      shows = λ k t x q. q;
-      tools = λ k t x q. q;
-      groups = λ k t count is how q. q;
-      sets = λ k t icv value v f at_set q. q;
-      begins = λ k t waits mine by q. q;
-      finishes = λ k t is over q. q;
+    law middle y before later of_tasks = law_of_lasting p middle i e y next TaskWaits (record {
       starts = λ k u j t x is live ex de may of by q. start_waits x (encounter middle i) u.list q;
       members = λ region team f k t r is found may new of by j m at. member_waits p (record { debug = p.env.debug; number = j; level = r.levels + 1; is_final = false }) f;
       deferred = λ task f final seen k t is of fresh. task_waits p f;
       made = λ task f final k t is of fresh by. task_waits p f;
-    }
+    })
 
 pub waits_reached : (p : Program) (events : List (ℕ × Event)) (s : State) → Reached p events s
     → EachTask TaskWaits s

@@ -27,7 +27,7 @@ use Rattle.omi_model.specs.Teams.{asked}
 use Rattle.omi_model.proofs.claims.AsksPlaced.{StartsPlaced, asks_at_head, asks_taken, is_asking, is_forking, main_plain, member_plain, start_plain, stays_asking, stays_placed, take_placed, task_plain, Placed}
 use Rattle.omi_model.proofs.BarrierSteps.{current_after}
 use Rattle.omi_model.proofs.ChainsKept.{current_begun, current_kept, have_chains}
-use Rattle.omi_model.proofs.EachObject.{EachTask, IsFreeing, IsGoingOn, IsTaskLaw, ahead_of_current, task_step_from}
+use Rattle.omi_model.proofs.EachObject.{EachTask, IsFreeing, IsGoingOn, IsTaskLaw, ahead_of_current, law_of_lasting, task_step_from}
 use Rattle.omi_model.proofs.MembersKnown.{first_scheduled, members_known}
 use Rattle.omi_model.proofs.ListLaws.{take_fits, by_taken, is_frees, taken_plain}
 use Rattle.omi_model.proofs.OpenNames.{open_names}
@@ -284,14 +284,7 @@ module _ (p : Program) (events : List (ℕ × Event)) (s : State) (reached : Rea
           false_true (sym ((all k v found).first d) ∙ asks)
 
       law : EachTask (KeepsAsks s i) middle → IsTaskLaw p middle i e m.item next (KeepsAsks s i)
-      law of_tasks = record {
-        frees = λ k t free how q. q;
-        shows = λ k t x q. q;
-        tools = λ k t x q. q;
-        groups = λ k t count is how q. q;
-        sets = λ k t icv value v f at_set q. q;
-        begins = λ k t waits mine by q. q;
-        finishes = λ k t is over q. q;
+      law of_tasks = law_of_lasting p middle i e m.item next (KeepsAsks s i) (record {
         starts = λ k u j t x is live ex de may of by q v found asks ne. absurd (was_deferred k u live de v found asks);
         members = λ region team f k t r is found may new of by j n at v was asks ne.
             absurd (new_name s i (stays (encounter s i) e m.item m.behind) n.0 v
@@ -299,7 +292,7 @@ module _ (p : Program) (events : List (ℕ × Event)) (s : State) (reached : Rea
             (may.tasks_new j n (slice_get_within team j n at))) was);
         deferred = λ task f final seen k t is of fresh v was asks ne. absurd (new_name s i (stays (encounter s i) e m.item m.behind) task v fresh was);
         made = λ task f final k t is of fresh by v was asks ne. absurd (new_name s i (stays (encounter s i) e m.item m.behind) task v fresh was);
-      }
+      })
 
   -- ---- forks in the making
 

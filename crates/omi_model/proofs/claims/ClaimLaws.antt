@@ -25,7 +25,7 @@ use Rattle.omi_model.proofs.claims.AsksPlaced.{asks_taken, is_forking}
 use Rattle.omi_model.proofs.claims.AsksOrder.{at_contains, at_got, contains_at, in_order, map_at}
 use Rattle.omi_model.proofs.claims.ClaimSteps.{ClaimIs, ask_item, by_ask, by_fork, claim_after, fork_item, forking_item_of, item_fits, offer_frees}
 use Rattle.omi_model.proofs.claims.ClaimsKept.{AreClaimsKept, other_busy, other_free, other_got, other_meant, other_waits, own_busy, own_by, own_free, own_free_kept, own_not_got, own_unmeant, same_by}
-use Rattle.omi_model.proofs.EachObject.{EachTask, IsTaskLaw, ahead_of_current, task_step}
+use Rattle.omi_model.proofs.EachObject.{EachTask, IsTaskLaw, ahead_of_current, law_of_lasting, task_step}
 use Rattle.omi_model.proofs.EachThread.{EachThread}
 use Rattle.omi_model.proofs.claims.FirstThread.{HasTask, RunsElsewhere, first_step}
 use Rattle.omi_model.proofs.ListLaws.{take_fits}
@@ -43,19 +43,12 @@ module _ (p : Program) (events : List (ℕ × Event)) (s : State) (reached : Rea
     where
       law : (middle : State) (y : Item) → IsRelisted s middle → Stays middle next
           → EachTask RunsElsewhere middle → IsTaskLaw p middle i e y next RunsElsewhere
-      law middle y before later of_tasks = record {
-        frees = λ k t free how q. q;
-        shows = λ k t x q. q;
-        tools = λ k t x q. q;
-        groups = λ k t count is how q. q;
-        sets = λ k t icv value v f at_set q. q;
-        begins = λ k t waits mine by q. q;
-        finishes = λ k t is over q. q;
+      law middle y before later of_tasks = law_of_lasting p middle i e y next RunsElsewhere (record {
         starts = λ k u j t x is live ex de may of by q im. absurd (false_true (sym ex ∙ im));
         members = λ region team f k t r is found may new of by j n at im other. elsewhere region team may by j n at other;
         deferred = λ task f final seen k t is of fresh im. absurd (false_true im);
         made = λ task f final k t is of fresh by im. absurd (false_true im);
-      }
+      })
         where
           elsewhere : (region : Rid) (team : List (Tid × ℕ)) → MayFork middle i region team
               → e ≡ event.Fork region team → (j : ℕ) (n : Tid × ℕ) → slice_get team j ≡ Some n → j ≢ 0

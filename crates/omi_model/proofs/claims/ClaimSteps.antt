@@ -26,7 +26,7 @@ use Rattle.omi_model.proofs.claims.AsksCurrent.{new_name}
 use Rattle.omi_model.proofs.claims.AsksPlaced.{is_asking, is_forking}
 use Rattle.omi_model.proofs.ChainsKept.{current_begun}
 use Rattle.omi_model.proofs.EachObject.{EachTask, IsTaskLaw, members_found, task_step, task_step_from}
-use Rattle.omi_model.proofs.EachThread.{EachThread, IsThreadLaw, of_lists, thread_step}
+use Rattle.omi_model.proofs.EachThread.{EachThread, IsThreadLaw, law_of_current, of_lists, thread_step}
 use Rattle.omi_model.proofs.ListLaws.{take_fits}
 use Rattle.omi_model.proofs.Slots.{false_true, put_other, put_same, some_same}
 use Rattle.omi_model.proofs.StaysKept.{needed_waiting, new_team, stays_step}
@@ -239,13 +239,7 @@ module _ (p : Program) (s : State) (i : ℕ) (e : Event) (next : State) (step : 
     where
       law : (u : State) → IsRelisted s u → Stays u next → EachThread HadTask u
           → IsThreadLaw p u i e next HadTask
-      law u relists later all = record {
-        begins = λ may q. q;
-        offers = λ may of q. q;
-        wants = λ n num may of q. q;
-        asks = λ w got may of q. q;
-        claims = λ w may of q. q;
-        shows = λ state wait of q. q;
+      law u relists later all = law_of_current p u i e next HadTask (record {
         forks = λ region team f k t r is found may new q some. had k t is;
         joins_team = λ task may of q some. inr (refl, task, of);
         ends = λ k t r is found im other over q some. had k t is;
@@ -253,7 +247,7 @@ module _ (p : Program) (s : State) (i : ℕ) (e : Event) (next : State) (step : 
         makes = λ task f final k t is new q some. had k t is;
         starts = λ task x k t is may new q some. had k t is;
         finishes = λ k t is ex over q some. had k t is;
-      }
+      })
         where
           had : (k : Tid) (t : Task) → IsCurrent u i k t
               → IsSome (s.threads i).current ⊎ ((i ≡ i) × (task : Tid) × (e ≡ event.ImplicitBegin task))

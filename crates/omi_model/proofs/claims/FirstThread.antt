@@ -24,7 +24,7 @@ use Rattle.omi_model.proofs.ChainsKept.{current_begun}
 use Rattle.omi_model.proofs.members.ClosingItems.{IsIt, closing_of, last_items}
 use Rattle.omi_model.proofs.LastItems.{Closes, take_closes}
 use Rattle.omi_model.proofs.EachObject.{EachTask, IsTaskLaw, ahead_of_current, task_step}
-use Rattle.omi_model.proofs.EachThread.{EachThread, IsThreadLaw, thread_step}
+use Rattle.omi_model.proofs.EachThread.{EachThread, IsThreadLaw, law_of_current, thread_step}
 use Rattle.omi_model.proofs.ListLaws.{take_fits, taken_other}
 use Rattle.omi_model.proofs.MembersKnown.{members_known}
 use Rattle.omi_model.proofs.OpeningObjects.{each_first_task}
@@ -132,13 +132,7 @@ module _ (p : Program) (events : List (ℕ × Event)) (s : State) (reached : Rea
     where
       law : (middle : State) → IsRelisted s middle → Stays middle next → EachThread HasTask middle
           → IsThreadLaw p middle i e next HasTask
-      law middle before later of_threads = record {
-        begins = λ may q. q;
-        offers = λ may of q. q;
-        wants = λ n num may of q. q;
-        asks = λ w got may of q. q;
-        claims = λ w may of q. q;
-        shows = λ state wait of q. q;
+      law middle before later of_threads = law_of_current p middle i e next HasTask (record {
         forks = λ region team f k t r is found may new q first. some_first team _ may.threads;
         joins_team = λ task may of q first. refl;
         ends = λ k t r is found im other over q first. absurd (elsewhere_current k t is im other first);
@@ -153,7 +147,7 @@ module _ (p : Program) (events : List (ℕ × Event)) (s : State) (reached : Rea
             have_scheduling p events s reached k v cur.live (ap (λ (x : Task). x.implicit) (sym same) ∙ ex)
             (λ d. begun_deferred (sym (current_begun p events s reached i k v cur.name cur.live).0 ∙ d)) in
             ap is_some (ap (λ (x : Task). x.scheduling) same ∙ from);
-      }
+      })
         where
           was : (k : Tid) (t : Task) → IsCurrent middle i k t
               → (v : Task) × (xs : Option Freeable × List Item) × IsCurrent s i k v × (t ≡ relisted_to xs v)

@@ -15,13 +15,13 @@ use Rattle.omi_model.specs.declared.task.Task.{Task}
 use Rattle.omi_model.specs.Changes.{IsCurrent, ahead_of, encounter}
 use Rattle.omi_model.specs.Groups.{AreMembersFinished, MayEndGroup, group_within}
 use Rattle.omi_model.specs.LawStays.{Stays}
-use Rattle.omi_model.specs.Lists.{fits, stays}
+use Rattle.omi_model.specs.Lists.{fits}
 use Rattle.omi_model.specs.Opening.{opening}
 use Rattle.omi_model.specs.Reached.{Reached, Step}
 use Rattle.omi_model.specs.Rules.{Rule}
 use Rattle.omi_model.specs.State.{State, task_of}
 use Rattle.omi_model.proofs.ChainsKept.{current_begun}
-use Rattle.omi_model.proofs.EachObject.{ChangesGroups, EachTask, IsTaskLaw, task_step, task_step_from}
+use Rattle.omi_model.proofs.EachObject.{ChangesGroups, EachTask, IsTaskLaw, law_of_lasting, task_step, task_step_from}
 use Rattle.omi_model.proofs.freeing.SlotNames.{task_named}
 use Rattle.omi_model.proofs.GeneratingChains.{explicit_on, generated_on, have_line, was}
 use Rattle.omi_model.proofs.Innermost.{innermost_cases, innermost_own}
@@ -142,19 +142,12 @@ module _ (p : Program) (events : List (ℕ × Event)) (s : State) (reached : Rea
 
       law : (middle : State) (y : Item) → IsRelisted s middle → Stays middle next → EachTask LowIndex middle
           → IsTaskLaw p middle i e y next LowIndex
-      law middle y before later of_tasks = record {
-        frees = λ k t free how q. q;
-        shows = λ k t x q. q;
-        tools = λ k t x q. q;
-        groups = λ k t count is how q. q;
-        sets = λ k t icv value v f at_set q. q;
-        begins = λ k t waits mine by q. q;
-        finishes = λ k t is over q. q;
+      law middle y before later of_tasks = law_of_lasting p middle i e y next LowIndex (record {
         starts = λ k u j t x is live ex de may of by q. q;
         members = λ region team f k t r is found may new of by j a at g none. absurd (none_some refl none);
         deferred = λ task f final seen k t is of fresh g has. within middle before of_tasks k t is g has;
         made = λ task f final k t is of fresh by g has. within middle before of_tasks k t is g has;
-      }
+      })
 
 pub are_few : (p : Program) (events : List (ℕ × Event)) (s : State) → Reached p events s → AreFew s
 are_few p events s reached =

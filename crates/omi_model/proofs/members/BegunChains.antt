@@ -32,7 +32,7 @@ use Rattle.omi_model.proofs.claims.AsksOrder.{at_contains, map_at}
 use Rattle.omi_model.proofs.BarrierSteps.{current_after}
 use Rattle.omi_model.proofs.ChainsKept.{current_kept, have_chains}
 use Rattle.omi_model.proofs.EachObject.{EachTask, IsTaskLaw, is_end, task_step_from}
-use Rattle.omi_model.proofs.EachThread.{EachThread, IsThreadLaw, thread_step}
+use Rattle.omi_model.proofs.EachThread.{EachThread, IsThreadLaw, law_of_current, thread_step}
 use Rattle.omi_model.proofs.members.MemberEnds.{ends_as_finished, over_finished}
 use Rattle.omi_model.proofs.MembersKnown.{members_known}
 use Rattle.omi_model.proofs.OpenNames.{open_names}
@@ -170,13 +170,7 @@ module _ (p : Program) (events : List (ℕ × Event)) (s : State) (reached : Rea
     where
       law : (u : State) → IsRelisted s u → Stays u next → EachThread MovesOwn u
           → IsThreadLaw p u i e next MovesOwn
-      law u relists later of_threads = record {
-        begins = λ may q. q;
-        offers = λ may of q. q;
-        wants = λ n num may of q. q;
-        asks = λ w got may of q. q;
-        claims = λ w may of q. q;
-        shows = λ state wait of q. q;
+      law u relists later of_threads = law_of_current p u i e next MovesOwn (record {
         forks = λ region team f k t r is found may new q own. inr (inl (of_team region team f k t r is may new));
         joins_team = λ task may of q own. inr (inr (inr (sym (relists.currents i) ∙ may.idle)));
         ends = λ k t r is found im other over q own. inr (inr (inl (popped k t is over (ended k t r is found im other))));
@@ -184,7 +178,7 @@ module _ (p : Program) (events : List (ℕ × Event)) (s : State) (reached : Rea
         makes = λ task f final k t is new q own. inr (inl (pushed task k t is (ap (option_and_then (λ (x : Task). x.scheduling)) new)));
         starts = λ task x k t is may (v, found, begun, from) q own. inr (inl (pushed task k t is (ap (option_and_then (λ (x : Task). x.scheduling)) found ∙ from)));
         finishes = λ k t is ex over q own. inr (inr (inl (popped k t is over refl)));
-      }
+      })
         where
           name : (k : Tid) (t : Task) → IsCurrent u i k t → (s.threads i).current ≡ Some k
           name k t is = sym (relists.currents i) ∙ is.name

@@ -17,7 +17,7 @@ use Rattle.omi_model.specs.State.{State, task_of}
 use Rattle.omi_model.specs.Teams.{got_threads}
 use Rattle.omi_model.proofs.claims.AsksOrder.{map_at}
 use Rattle.omi_model.proofs.ChainsKept.{current_begun}
-use Rattle.omi_model.proofs.EachObject.{EachTask, IsTaskLaw, task_step}
+use Rattle.omi_model.proofs.EachObject.{EachTask, IsTaskLaw, law_of_lasting, task_step}
 use Rattle.omi_model.proofs.GeneratingChains.{OwnersIn, have_line, was}
 use Rattle.omi_model.proofs.claims.FirstThread.{have_scheduling}
 use Rattle.omi_model.proofs.NeededTasks.{needed_current, needed_scheduling}
@@ -61,19 +61,12 @@ module _ (p : Program) (events : List (ℕ × Event)) (s : State) (reached : Rea
     where
       law : (middle : State) (y : Item) → IsRelisted s middle → Stays middle next
           → EachTask (RunsAbove next) middle → IsTaskLaw p middle i e y next (RunsAbove next)
-      law middle y before later of_tasks = record {
-        frees = λ k t free how q. q;
-        shows = λ k t x q. q;
-        tools = λ k t x q. q;
-        groups = λ k t count is how q. q;
-        sets = λ k t icv value v f at_set q. q;
-        begins = λ k t waits mine by q. q;
-        finishes = λ k t is over q. q;
+      law middle y before later of_tasks = law_of_lasting p middle i e y next (RunsAbove next) (record {
         starts = λ k u j t x is live ex de may of by q n from. above j (on_thread_of middle before j t is) n from;
         members = λ region team f k t r is found may new of by j n at o from. of_number k (on_thread_of middle before k t is) j n team (got_threads (middle.threads i).asks) may.threads at o from;
         deferred = λ task f final seen k t is of fresh n from. absurd (none_some refl from);
         made = λ task f final k t is of fresh by n from. above k (on_thread_of middle before k t is) n from;
-      }
+      })
         where
           above : (k : Tid)
               → (v : Task) × (task_of next k ≡ Some v) × (v.progress ≡ Deferred → ⊥) × (v.thread ≡ i)

@@ -22,7 +22,7 @@ use Rattle.omi_model.specs.State.{State, task_of}
 use Rattle.omi_model.proofs.BarrierCounts.{barriers_of}
 use Rattle.omi_model.proofs.BarrierLaw.{number_met, placed}
 use Rattle.omi_model.proofs.BarrierOrder.{Outside as Clear, left, order, wrong}
-use Rattle.omi_model.proofs.EachObject.{EachTask, IsTaskLaw, over_events, task_step}
+use Rattle.omi_model.proofs.EachObject.{EachTask, IsTaskLaw, law_of_lasting, over_events, task_step}
 use Rattle.omi_model.proofs.ListLaws.{take_keeps, by_taken}
 use Rattle.omi_model.proofs.OpeningObjects.{each_first_task}
 use Rattle.omi_model.proofs.RowLaws.{KeepsPlain, KeepsRows, barrier_keeps, critical_keeps, group_keeps, last_keeps, main_keeps, member_keeps, row_keeps, shown_keeps}
@@ -162,19 +162,12 @@ ordered_step p s i e next step all = task_step p IsOrdered s i e next step
   where
     law : (middle : State) (y : Item) → IsRelisted s middle → Stays middle next → EachTask IsOrdered middle
         → IsTaskLaw p middle i e y next IsOrdered
-    law middle y before later of_tasks = record {
-      frees = λ k t free how q. q;
-      shows = λ k t x q. q;
-      tools = λ k t x q. q;
-      groups = λ k t count is how q. q;
-      sets = λ k t icv value v f at_set q. q;
-      begins = λ k t waits mine by q. q;
-      finishes = λ k t is over q. q;
+    law middle y before later of_tasks = law_of_lasting p middle i e y next IsOrdered (record {
       starts = λ k u j t x is live ex de may of by q im. absurd (false_true (sym ex ∙ im));
       members = λ region team f k t r is found may new of by j m at im. (Outside, member_order j p (record { debug = p.env.debug; number = j; level = r.levels + 1; is_final = false }) f refl);
       deferred = λ task f final seen k t is of fresh im. absurd (false_true im);
       made = λ task f final k t is of fresh by im. absurd (false_true im);
-    }
+    })
 
 ordered : (p : Program) (events : List (ℕ × Event)) (s : State) → Reached p events s → EachTask IsOrdered s
 ordered p events s reached =

@@ -18,7 +18,7 @@ use Rattle.omi_model.specs.Reached.{Reached, Step}
 use Rattle.omi_model.specs.State.{State, task_of}
 use Rattle.omi_model.specs.Visible.{IsVisibleRegion}
 use Rattle.omi_model.proofs.ChainsKept.{current_begun}
-use Rattle.omi_model.proofs.EachObject.{EachRegion, EachTask, IsRegionLaw, IsTaskLaw, region_step, task_step}
+use Rattle.omi_model.proofs.EachObject.{EachRegion, EachTask, IsRegionLaw, IsTaskLaw, law_of_lasting, region_step, task_step}
 use Rattle.omi_model.proofs.members.EncounterLaws.{open_around, visible_open}
 use Rattle.omi_model.proofs.GeneratingChains.{was}
 use Rattle.omi_model.proofs.OpenNames.{open_names}
@@ -98,19 +98,12 @@ module _ (p : Program) (events : List (ℕ × Event)) (s : State) (reached : Rea
       task_law : (middle : State) (y : Item) → IsRelisted s middle → Stays middle next
           → EachTask (λ k t. t.implicit ≡ false → IsVisibleRegion next t.region) middle
           → IsTaskLaw p middle i e y next (λ k t. t.implicit ≡ false → IsVisibleRegion next t.region)
-      task_law middle y before later of_tasks = record {
-        frees = λ k t free how q. q;
-        shows = λ k t x q. q;
-        tools = λ k t x q. q;
-        groups = λ k t count is how q. q;
-        sets = λ k t icv value v f at_set q. q;
-        begins = λ k t waits mine by q. q;
-        finishes = λ k t is over q. q;
+      task_law middle y before later of_tasks = law_of_lasting p middle i e y next (λ k t. t.implicit ≡ false → IsVisibleRegion next t.region) (record {
         starts = λ k u j t x is live ex de may of by q. q;
         members = λ region team f k t r is found may new of by j n at ex. absurd (false_true (sym ex));
         deferred = λ task f final seen k t is of fresh ex. own_region middle before k t is;
         made = λ task f final k t is of fresh by ex. own_region middle before k t is;
-      }
+      })
 
 pub are_whole : (p : Program) (events : List (ℕ × Event)) (s : State) → Reached p events s → AreWhole s
 are_whole p events s reached =
