@@ -17,11 +17,21 @@ fn words_of(alloc: Global, line: &str) -> Result<Vec<String>, AllocError> {
 }
 
 /// What a call left.
-#[derive(Drop)]
 pub struct Done {
     pub status: Status,
     pub files: MemFiles,
     pub out: MemSink,
+}
+
+// Written out: docs/DECISIONS.md, "A drop written out".
+impl Drop for Done {
+    fn drop(self) {
+        let Done {
+            status: _status,
+            files: _files,
+            out: _out,
+        } = self;
+    }
 }
 
 impl Done {

@@ -31,10 +31,19 @@ struct Failing {
 }
 
 /// Files whose reads and writes are short, and interrupted each second time.
-#[derive(Drop)]
 pub struct Unruly {
     rt: HostRuntime,
     failing: Failing,
+}
+
+// Written out: docs/DECISIONS.md, "A drop written out".
+impl Drop for Unruly {
+    fn drop(self) {
+        let Unruly {
+            rt: _rt,
+            failing: _failing,
+        } = self;
+    }
 }
 
 impl Unruly {
@@ -74,13 +83,25 @@ impl Unruly {
 
 /// An open file of the stand-in, with the numbers of its reads and writes, and whether the next of
 /// them is interrupted.
-#[derive(Drop)]
 pub struct UnrulyFile {
     file: File,
     failing: Failing,
     reads: u64,
     writes: u64,
     interrupts: bool,
+}
+
+// Written out: docs/DECISIONS.md, "A drop written out".
+impl Drop for UnrulyFile {
+    fn drop(self) {
+        let UnrulyFile {
+            file: _file,
+            failing: _failing,
+            reads: _reads,
+            writes: _writes,
+            interrupts: _interrupts,
+        } = self;
+    }
 }
 
 impl UnrulyFile {
@@ -210,11 +231,21 @@ impl fs::Files for Unruly {
 }
 
 /// An output that goes to a file, and fails at one put by its number from 1, or at none.
-#[derive(Drop)]
 pub struct UnrulyOutput {
     file: File,
     failing: u64,
     puts: Cell<u64>,
+}
+
+// Written out: docs/DECISIONS.md, "A drop written out".
+impl Drop for UnrulyOutput {
+    fn drop(self) {
+        let UnrulyOutput {
+            file: _file,
+            failing: _failing,
+            puts: _puts,
+        } = self;
+    }
 }
 
 impl UnrulyOutput {

@@ -68,11 +68,21 @@ impl Log {
 }
 
 /// Files in memory that note each call before they make it.
-#[derive(Drop)]
 pub struct Watched<'a> {
     pub files: MemFiles,
     pub object: Object,
     pub log: &'a Log,
+}
+
+// Written out: docs/DECISIONS.md, "A drop written out".
+impl Drop for Watched<'_> {
+    fn drop(self) {
+        let Watched {
+            files: _files,
+            object: _object,
+            log: _log,
+        } = self;
+    }
 }
 
 impl<'a> Files for Watched<'a> {
