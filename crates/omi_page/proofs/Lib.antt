@@ -1,4 +1,3 @@
-pub mod Pieces
 pub mod Taking
 pub mod FrontsOfFiles
 pub mod Segments

@@ -10,7 +10,8 @@ use Rattle.omi_corefile.proofs.FileLaws.{parts_of, reading_again, some_answer}
 use Rattle.omi_calls.specs.Memory.{told_by}
 use Rattle.omi_page.specs.declared.fault.PageError.{PageError}
 use Rattle.omi_page.specs.declared.fault.PageError.TheVariants.{Fault, NoFile, Failed, OutOfMemory}
-use Rattle.omi_page.specs.Outcomes.{Fails, Holds, IsFaultOf, UnlessFreeError}
+use Rattle.omi_page.specs.Outcomes.{Fails, IsFaultOf, UnlessFreeError}
+use Rattle.omi_read.specs.Holding.{Holds}
 use Rattle.omi_page.specs.Told.{told_by_reading, told_by_file}
 
 -- a core is read as what it holds

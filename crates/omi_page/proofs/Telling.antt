@@ -13,7 +13,7 @@ use Rattle.omi_word.specs.SymbolTable.{symbol_in}
 use Rattle.omi_calls.specs.CoreWords.{word_of, words_of_segments}
 use Rattle.omi_calls.proofs.ToldSymbols.{same_symbols}
 use Rattle.omi_page.specs.declared.span.Span.{Span}
-use Rattle.omi_page.specs.Outcomes.{Holds}
+use Rattle.omi_read.specs.Holding.{Holds}
 use Rattle.omi_page.specs.Spans.{eight_at, word_there, words_there, segment_there, segments_there, place_of, place_in}
 use Rattle.omi_page.specs.Told.{told_by_reading, told_by_file}
 use Rattle.omi_page.specs.Paging.{IsPage, ArePartsOf}

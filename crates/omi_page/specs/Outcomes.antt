@@ -1,7 +1,6 @@
 -- What an opening call answers beside what reading a core file gives. Want of memory and a failed read may stand in place of any
 -- answer.
-use Rattle.std.specs.Prelude.{◌≡◌, ℕ, List, Option, Some, Result, Ok, Err}
-use Rattle.omi_outside.specs.Outside.{Told, content_len}
+use Rattle.std.specs.Prelude.{◌≡◌, ℕ, List, Result, Ok, Err}
 use Rattle.omi_corefile.specs.Refusals.{ReadRefusal, CoreRefused}
 use Rattle.omi_page.specs.declared.fault.PageError.{PageError}
 use Rattle.omi_page.specs.declared.fault.PageError.TheVariants.{Fault, NoFile, Failed, OutOfMemory}
@@ -17,14 +16,6 @@ Fails OutOfMemory read = Unit {0}
 abbrev pub Gives : {X Y : Type 0} → (X → Y) → Result X PageError → Result Y ReadRefusal → Type 0
 Gives view (Ok x) read = read ≡ Ok (view x)
 Gives view (Err e) read = Fails e read
-
--- the file has this many bytes
-abbrev pub IsLength : Told → ℕ → Type 0
-IsLength told len = (content : Option (List ℕ)) → told ≡ Some content → content_len content ≡ len
-
--- the file holds these bytes
-abbrev pub Holds : Told → List ℕ → Type 0
-Holds told bytes = told ≡ Some (Some bytes)
 
 -- the fault of a refusal is that of the file's bytes
 abbrev pub IsFaultOf : List ℕ → PageError → Type 0

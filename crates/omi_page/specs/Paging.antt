@@ -8,7 +8,7 @@ use Rattle.omi_page.specs.declared.span.Span.{Span}
 use Rattle.omi_page.specs.declared.limits.TheConstants.{PAGE_BYTES}
 use Rattle.omi_page.specs.Spans.{eight_at, segments_there, place_in}
 use Rattle.omi_page.specs.Bounds.{EndWithin}
-use Rattle.omi_page.specs.Outcomes.{IsLength, Holds}
+use Rattle.omi_read.specs.Holding.{IsLength, Holds}
 
 -- the pages that are kept, by their numbers
 abbrev pub Kept : Type 0

@@ -9,7 +9,6 @@ mod loading;
 mod opened;
 mod opening;
 mod pages;
-mod reading;
 mod span;
 mod symbol_table;
 

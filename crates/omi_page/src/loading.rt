@@ -4,15 +4,15 @@ ghost use Rattle.std.specs.Prelude.{◌≡◌, ◌+◌, ◌*◌, ◌%◌, ◌^�
 ghost use Rattle.std.specs.Option.{is_some};
 ghost use Rattle.omi_page.specs.declared.limits.TheConstants.{WORDS_END};
 ghost use Rattle.omi_outside.specs.Outside.{HasCause, content_len};
-ghost use Rattle.omi_page.specs.Outcomes.{IsLength, Holds};
+ghost use Rattle.omi_read.specs.Holding.{IsLength, Holds};
 ghost use Rattle.omi_page.specs.Spans.{eight_at, is_in, place_of, place_in};
 ghost use Rattle.omi_page.specs.Bounds.{EndWithin};
 ghost use Rattle.omi_page.specs.Paging.{IsPage};
 
 use crate::PAGE_BYTES;
-use crate::reading::fill;
 use crate::span::{Span, SpanList};
 use omi_outside::{Failed, Files};
+use omi_read::fill;
 
 /// Whether a word of a segment stands at an address.
 fn stands_in(span: &Span, addr: u64) -> bool

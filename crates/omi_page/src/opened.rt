@@ -9,7 +9,8 @@ ghost use Rattle.omi_corefile.specs.declared.core_image.CoreImage.{CoreImage};
 ghost use Rattle.omi_corefile.specs.declared.fault.CoreFault.{CoreFault};
 ghost use Rattle.omi_corefile.specs.declared.limits.TheConstants.{MOST_CONTEXTS};
 ghost use Rattle.omi_page.specs.declared.limits.TheConstants.{MOST_PAGES, PAGE_BYTES};
-ghost use Rattle.omi_page.specs.Outcomes.{Holds, IsFaultOf, UnlessFree};
+ghost use Rattle.omi_page.specs.Outcomes.{IsFaultOf, UnlessFree};
+ghost use Rattle.omi_read.specs.Holding.{Holds};
 ghost use Rattle.omi_page.specs.Paging.{IsOpened};
 
 use crate::keeping::Kept;

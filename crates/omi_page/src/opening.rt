@@ -7,19 +7,20 @@ ghost use Rattle.omi_corefile.specs.Refusals.{header_at, contexts_at, segment_at
 ghost use Rattle.omi_corefile.specs.declared.fault.CoreFault.{CoreFault};
 ghost use Rattle.omi_corefile.specs.Outcomes.{Gives as ReadGives};
 ghost use Rattle.omi_corefile.specs.declared.limits.TheConstants.{MOST_SEGMENT_WORDS, MOST_CONTEXTS};
-ghost use Rattle.omi_page.specs.Outcomes.{Gives, IsLength, Holds, UnlessFree};
+ghost use Rattle.omi_page.specs.Outcomes.{Gives, UnlessFree};
+ghost use Rattle.omi_read.specs.Holding.{IsLength, Holds};
 ghost use Rattle.omi_page.specs.Spans.{segment_there, segments_there};
 ghost use Rattle.omi_page.specs.Bounds.{bounds_at, EndWithin};
 
 use crate::PageError;
 use crate::limits::{CONTEXT_BYTES, HEADER_BYTES, SPAN_BYTES};
-use crate::reading::front;
 use crate::span::{Span, SpanList};
 use omi_corefile::decoding::{Counts, contexts, header};
 use omi_corefile::fields::short;
 use omi_corefile::judging::{start, word_count};
 use omi_corefile::{CoreError, CoreFault, MOST_SEGMENT_WORDS};
 use omi_outside::Files;
+use omi_read::front;
 use omi_word::{FIRST_ADDRESS, Natives};
 use std::alloc::Global;
 

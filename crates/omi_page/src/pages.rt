@@ -16,7 +16,8 @@ ghost use Rattle.omi_calls.specs.Kept.{IsOrderOf};
 ghost use Rattle.omi_calls.specs.Memory.{told_by};
 ghost use Rattle.omi_page.specs.declared.limits.TheConstants.{MOST_PAGES, PAGE_BYTES};
 ghost use Rattle.omi_page.specs.Left.{LeavesFiles};
-ghost use Rattle.omi_page.specs.Outcomes.{IsLength, Holds, IsFaultOf, UnlessFree};
+ghost use Rattle.omi_page.specs.Outcomes.{IsFaultOf, UnlessFree};
+ghost use Rattle.omi_read.specs.Holding.{IsLength, Holds};
 ghost use Rattle.omi_page.specs.Bounds.{EndWithin};
 ghost use Rattle.omi_page.specs.Paging.{AreLong, ArePages, ArePartsOf, IsOpened};
 

@@ -1,5 +1,5 @@
 use Rattle.std.proofs.Common.{rules, ◌+◌, ◌-◌, ◌*◌, arith, ap, ◌∙◌}
-use Rattle.omi_page.specs.Outcomes.{Holds}
+use Rattle.omi_read.specs.Holding.{Holds}
 use Rattle.omi_page.proofs.Placing.{page_more}
 use Rattle.omi_page.proofs.loading.load.Goals as goal
 

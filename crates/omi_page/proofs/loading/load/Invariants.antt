@@ -1,6 +1,6 @@
 use Rattle.std.proofs.Common.{◌≡◌, ◌+◌, ◌%◌, ◌<◌, ◌≤◌, ℕ, List, length, drop, Some}
 use Rattle.omi_page.specs.declared.limits.TheConstants.{PAGE_BYTES}
-use Rattle.omi_page.specs.Outcomes.{Holds}
+use Rattle.omi_read.specs.Holding.{Holds}
 use Rattle.omi_page.specs.Spans.{eight_at, place_in}
 use Rattle.omi_page.proofs.loading.load.Given as goal
 

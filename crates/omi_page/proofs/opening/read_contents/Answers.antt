@@ -1,6 +1,6 @@
 use Rattle.std.proofs.Common.{Some, arith, ap, ◌∙◌}
 use Rattle.std.proofs.lemmas.Result.{err_from_is_err_and}
-use Rattle.omi_page.specs.Outcomes.{Holds}
+use Rattle.omi_read.specs.Holding.{Holds}
 use Rattle.omi_page.proofs.WholeFiles.{header_fails, contexts_fail, segments_fail, file_whole, file_trailing}
 use Rattle.omi_page.proofs.opening.read_contents.Goals as goal
 

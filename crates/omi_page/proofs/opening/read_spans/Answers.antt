@@ -2,7 +2,7 @@ use Rattle.std.proofs.Common.{rules, arith, ap, ◌∙◌, subst, sym}
 use Rattle.std.proofs.lemmas.Result.{err_from_is_err_and}
 use Rattle.omi_corefile.specs.Refusals.{segment_at, left_after, segments_at}
 use Rattle.omi_corefile.proofs.Rows.{row_ends}
-use Rattle.omi_page.specs.Outcomes.{Holds}
+use Rattle.omi_read.specs.Holding.{Holds}
 use Rattle.omi_page.specs.Bounds.{EndWithin}
 use Rattle.omi_page.specs.Spans.{segments_there}
 use Rattle.omi_page.proofs.Segments.{segment_more, segments_fault, ends_push}

@@ -2,7 +2,7 @@ use Rattle.std.proofs.Common.{◌≡◌, ◌-◌, ◌≤◌, List, ℕ, drop}
 use Rattle.omi_corefile.specs.declared.limits.TheConstants.{MOST_SEGMENT_WORDS}
 use Rattle.omi_corefile.specs.Refusals.{row_at, segment_at, left_after, segments_at}
 use Rattle.omi_corefile.proofs.Rows.{with_front}
-use Rattle.omi_page.specs.Outcomes.{Holds}
+use Rattle.omi_read.specs.Holding.{Holds}
 use Rattle.omi_page.specs.Spans.{segments_there}
 use Rattle.omi_page.specs.Bounds.{EndWithin}
 use Rattle.omi_page.proofs.opening.read_spans.Given as goal

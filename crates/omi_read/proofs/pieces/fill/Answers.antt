@@ -1,7 +1,7 @@
 use Rattle.std.proofs.Common.{rules, arith, ap, ◌∙◌}
-use Rattle.omi_page.specs.Outcomes.{Holds}
-use Rattle.omi_page.proofs.Pieces.{read_on}
-use Rattle.omi_page.proofs.reading.fill.Goals as goal
+use Rattle.omi_read.specs.Holding.{Holds}
+use Rattle.omi_read.proofs.Longer.{read_on}
+use Rattle.omi_read.proofs.pieces.fill.Goals as goal
 
 pub loop-done-preserved : goal.loop-done-preserved
 loop-done-preserved g c = record {

@@ -1,6 +1,6 @@
 use Rattle.std.proofs.Common.{◌-◌, ◌≡◌, ◌≤◌, List, ℕ, length, take, drop}
-use Rattle.omi_page.specs.Outcomes.{Holds}
-use Rattle.omi_page.proofs.reading.fill.Given as goal
+use Rattle.omi_read.specs.Holding.{Holds}
+use Rattle.omi_read.proofs.pieces.fill.Given as goal
 
 abbrev pub invariant-loop-done : goal.invariant-loop-done
 invariant-loop-done g l = record {

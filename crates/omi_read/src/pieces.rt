@@ -2,7 +2,7 @@
 
 ghost use Rattle.std.specs.Prelude.{◌≡◌, ◌+◌, ◌-◌, ◌^◌, ◌<◌, ◌≤◌, List, ℕ, length, take, drop, min, IfOk, OnOk, IsErr, Option, Some};
 ghost use Rattle.omi_outside.specs.Outside.{content_len, HasCause};
-ghost use Rattle.omi_page.specs.Outcomes.{IsLength, Holds};
+ghost use Rattle.omi_read.specs.Holding.{IsLength, Holds};
 
 use omi_outside::{Failed, Files};
 

@@ -1,0 +1,2 @@
+-- What a file that is read piece by piece holds.
+pub mod Holding
