@@ -27,6 +27,7 @@ use Rattle.omi_elf.specs.Segments.{by_start, first_overlap, count_apart, word_in
 use Rattle.omi_elf.specs.Table.{judgement, is_unaligned, words_of_all}
 use Rattle.omi_elf.specs.Gathered.{words_of, segment_of, gathered}
 use Rattle.omi_elf.specs.ElfCore.{ElfCore}
+use Rattle.omi_elf.specs.ElfParts.{segments_in}
 use Rattle.omi_elf.specs.Outcomes.{Fails, UnlessMemory}
 use Rattle.omi_elf.proofs.Kept.{all_kept}
 use Rattle.omi_elf.proofs.Tables.{length-numbers_from}
@@ -110,10 +111,6 @@ any_gathered order bytes [] address word has = has
 any_gathered order bytes (h ∷ hs) address word (inl one) = gathered_front order bytes (segment_of order bytes h) hs address word one
 any_gathered order bytes (h ∷ hs) address word (inr rest) = gathered_rest order bytes (segment_of order bytes h) hs address word rest
 
--- the segments of the file
-abbrev pub segments_in : List ℕ → List Segment
-segments_in bytes = gathered (order_of bytes) bytes (by_start (kept_segments bytes))
-
 pub word_spelled : (bytes : List ℕ) (address word : ℕ) → IsWordAt (segments_in bytes) address word → IsSpelledAt bytes address word
 word_spelled bytes address word h =
     any_spelled bytes address word
@@ -179,10 +176,6 @@ limits_kept bytes are e =
     let is : is_order order ≡ true = le-leb order 1 p.order in
     let known : are_contexts (contexts_of bytes) ≡ true = rw (contexts_are bytes p.note) contexts in
     rw (is, known, segments) refl
-
--- the parts of a file
-abbrev pub parts_in : List ℕ → Parts
-parts_in bytes = record { order = order_of bytes; contexts = contexts_of bytes; segments = segments_in bytes }
 
 -- a core that the file stands for has these parts
 pub core_has : (bytes : List ℕ) (c : CoreImage) → AreBytes bytes → ElfCore bytes c → c.segments ≡ segments_in bytes

@@ -26,12 +26,12 @@ use Rattle.omi_elf.proofs.Words.{WordIn, AnyWord}
 
 -- ---- places of two lists joined
 
-get_left : {X : Type 0} (xs ys : List X) (k : ℕ) → k < length xs → slice_get (xs ++ ys) k ≡ slice_get xs k
+pub get_left : {X : Type 0} (xs ys : List X) (k : ℕ) → k < length xs → slice_get (xs ++ ys) k ≡ slice_get xs k
 get_left [] ys k lt = absurd (omega (arith, lt))
 get_left (x ∷ xs) ys zero lt = refl
 get_left (x ∷ xs) ys (suc k) lt = get_left xs ys k (omega (arith, lt))
 
-get_right : {X : Type 0} (xs ys : List X) (k : ℕ) → slice_get (xs ++ ys) (length xs + k) ≡ slice_get ys k
+pub get_right : {X : Type 0} (xs ys : List X) (k : ℕ) → slice_get (xs ++ ys) (length xs + k) ≡ slice_get ys k
 get_right [] ys k = let e : 0 + k ≡ k = omega arith in rw e refl
 get_right (x ∷ xs) ys k =
     let e : length (x ∷ xs) + k ≡ suc (length xs + k) = omega arith in rw e (get_right xs ys k)

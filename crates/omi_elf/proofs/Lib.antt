@@ -1,10 +1,13 @@
 pub mod FileLaws
+pub mod Front
 pub mod Gathers
 pub mod HeadersPut
 pub mod Ids
 pub mod Joined
+pub mod Judgements
 pub mod Kept
 pub mod Neighbours
+pub mod NoteBeginnings
 pub mod NoteSegments
 pub mod NoteSteps
 pub mod Order
@@ -13,6 +16,7 @@ pub mod Placed
 pub mod SegmentRows
 pub mod Sorts
 pub mod Tables
+pub mod Within
 pub mod Words
 pub mod WrittenCore
 pub mod WrittenHeader

@@ -1,15 +1,19 @@
 -- The search for our note goes from segment to segment.
-use Rattle.std.proofs.Common.{◌≡◌, ℕ, ◌+◌, ◌<◌, true, false, List, ◌∷◌, ◌++◌, length, drop, get_or, Option, Some, None, Ok, Err, refl, ap, sym, ◌∙◌}
+use Rattle.std.proofs.Common.{◌≡◌, ℕ, suc, ◌+◌, ◌<◌, true, false, List, ◌∷◌, ◌++◌, length, drop, get_or, Option, Some, None, Ok, Err, refl, ap, sym, ◌∙◌}
 use Rattle.std.specs.Prelude.{is_some, find, filter}
 use Rattle.std.specs.List.{flat_map}
 use Rattle.std.proofs.lemmas.List.{drop_more}
 use Rattle.std.proofs.lemmas.List.Folds.{find-append}
 use Rattle.omi_elf.specs.declared.fault.ElfError.{ElfError}
 use Rattle.omi_elf.specs.declared.fault.ElfError.TheVariants.{Fault, OutOfMemory}
+use Rattle.omi_elf.specs.declared.fault.ElfReadError.{ElfReadError}
+use Rattle.omi_elf.specs.declared.fault.ElfReadError.TheVariants as read
+use Rattle.omi_elf.specs.declared.notes.Note.{Note}
+use Rattle.omi_elf.specs.Faults.{read_error_of}
 use Rattle.omi_elf.specs.declared.program_header.ProgramHeader.{ProgramHeader}
 use Rattle.omi_elf.specs.Header.{is_note_segment}
 use Rattle.omi_elf.specs.Notes.{NotePlace, notes_in, is_last_read}
-use Rattle.omi_elf.specs.Found.{IsFound, last_in}
+use Rattle.omi_elf.specs.Found.{IsFound, IsPlace, IsReadPlace, last_from, last_in}
 
 -- what stands in for a program header that isn't there
 abbrev pub no_header : ProgramHeader
@@ -69,17 +73,31 @@ passes_over_at order bytes hs i lt e =
     ∙ passes_over order bytes (get_or hs i no_header) (drop (i + 1) hs) e)
 
 -- what was found in one segment was found in all
-pub found_failed : (bytes : List ℕ) (e : ElfError) (f g : Option NotePlace)
+pub found_failed : (bytes : List ℕ) (e : ElfReadError) (f g : Option NotePlace)
     → ((x : NotePlace) → f ≡ Some x → g ≡ Some x) → IsFound bytes (Err e) f → IsFound bytes (Err e) g
-found_failed bytes (Fault at why) f g h found = (h None found.0, found.1)
-found_failed bytes OutOfMemory f g h found = tt
+found_failed bytes (read.Fault at why) f g h found = (h None found.0, found.1)
+found_failed bytes read.Failed f g h found = tt
+found_failed bytes read.OutOfMemory f g h found = tt
 
-pub found_here : (bytes : List ℕ) (r : Option ℕ) (f g : Option NotePlace) → is_some r ≡ true
+pub found_here : (bytes : List ℕ) (r : Option Note) (f g : Option NotePlace) → is_some r ≡ true
     → ((x : NotePlace) → f ≡ Some x → g ≡ Some x) → IsFound bytes (Ok r) f → IsFound bytes (Ok r) g
 found_here bytes None f g e h found = absurd cc
-found_here bytes (Some at) f g e h found = h (Some at) found
+found_here bytes (Some note) f g e h found = h (Some note.at) found
 
-pub found_none : (bytes : List ℕ) (r : Option ℕ) (f : Option NotePlace) → is_some r ≡ false
+pub found_none : (bytes : List ℕ) (r : Option Note) (f : Option NotePlace) → is_some r ≡ false
     → IsFound bytes (Ok r) f → f ≡ None
 found_none bytes None f e found = found
-found_none bytes (Some at) f e found = absurd cc
+found_none bytes (Some note) f e found = absurd cc
+
+-- what was judged of a note that was read
+pub read_place : (order : ℕ) (bytes : List ℕ) (at left : ℕ) (e : ElfError) → IsPlace order bytes at left (Err e)
+    → IsReadPlace order bytes at left (Err (read_error_of e))
+read_place order bytes at left (Fault place why) is = is
+read_place order bytes at left OutOfMemory is = tt
+
+-- the search in one segment ends where the place ends it
+pub found_cut : (order : ℕ) (bytes : List ℕ) (at left most : ℕ) (e : ElfReadError) (f : Option NotePlace) → last_from order bytes (suc most) at left ≡ f
+    → IsReadPlace order bytes at left (Err e) → IsFound bytes (Err e) f
+found_cut order bytes at left most (read.Fault place why) f is cut = (sym is ∙ cut.1 most, cut.0)
+found_cut order bytes at left most read.Failed f is cut = tt
+found_cut order bytes at left most read.OutOfMemory f is cut = tt

@@ -7,12 +7,13 @@ use Rattle.omi_corefile.specs.Limits.{rises_from}
 use Rattle.omi_corefile.specs.declared.limits.TheConstants.{MOST_SEGMENTS, MOST_SEGMENT_WORDS}
 use Rattle.omi_elf.specs.declared.fault.ElfFault.{ElfFault}
 use Rattle.omi_elf.specs.declared.fault.ElfFault.TheVariants.{Unaligned, Overlap}
+use Rattle.omi_elf.specs.declared.limits.TheConstants.{MOST_ID_BYTES}
 use Rattle.omi_elf.specs.declared.program_header.ProgramHeader.{ProgramHeader}
 use Rattle.omi_elf.specs.Header.{ei_data, order_of, kept_segments}
 use Rattle.omi_elf.specs.Notes.{NotePlace, note_found, n_descsz, ids_of}
 use Rattle.omi_elf.specs.Segments.{by_start, first_overlap, count_apart}
 use Rattle.omi_elf.specs.Table.{Judged, ◌>>=◌, fault_if, short_if, fault_of, length_row, magic_row, class_row, data_row, program_headers_row, segments_row, notes_row, unaligned_row}
-use Rattle.omi_elf.specs.Table.{words_row, overlap_row, count_row, contexts_row, header_rows, segment_rows, judgement, is_unaligned, words_of_all, is_cut, judged_note, lists_ids, MOST_ID_BYTES}
+use Rattle.omi_elf.specs.Table.{words_row, overlap_row, count_row, contexts_row, header_rows, segment_rows, judgement, is_unaligned, words_of_all, is_cut, judged_note, lists_ids}
 
 -- a row that tells no fault lets the next be judged
 pub both : (a : Judged) (f : Unit {0} → Judged) → (a >>= f) ≡ Ok tt → (a ≡ Ok tt) × (f tt ≡ Ok tt)
@@ -52,10 +53,10 @@ pub record Passed (bytes : List ℕ) : Type 0 where
   pub few : count_apart (by_start (kept_segments bytes)) ≤ MOST_SEGMENTS
   pub note : PassedNote bytes
 
-order_passed : (bytes : List ℕ) → data_row bytes ≡ Ok tt → order_of bytes ≤ 1
+order_passed : (bytes : List ℕ) → data_row bytes (length bytes) ≡ Ok tt → order_of bytes ≤ 1
 unfolding data_row
 order_passed bytes e =
-    let a = both (short_if bytes (nat_lt (length bytes) 6)) (λ u. fault_if (not (ei_data bytes == 1 || ei_data bytes == 2)) 5 (ElfFault.Order (ei_data bytes))) e in
+    let a = both (short_if (length bytes) (nat_lt (length bytes) 6)) (λ u. fault_if (not (ei_data bytes == 1 || ei_data bytes == 2)) 5 (ElfFault.Order (ei_data bytes))) e in
     let b = no_fault (not (ei_data bytes == 1 || ei_data bytes == 2)) 5 (ElfFault.Order (ei_data bytes)) a.1 in
     let c = or_cases (ei_data bytes == 1) (ei_data bytes == 2) (not-false (ei_data bytes == 1 || ei_data bytes == 2) b) in
     elim c [
@@ -79,13 +80,13 @@ note_passed bytes (Some (Some at)) e cut row =
       rise = a.1;
     }
 
-data_passed : (bytes : List ℕ) → header_rows bytes ≡ Ok tt → data_row bytes ≡ Ok tt
+data_passed : (bytes : List ℕ) → header_rows bytes (length bytes) ≡ Ok tt → data_row bytes (length bytes) ≡ Ok tt
 unfolding header_rows
 data_passed bytes e =
-    let a = both (length_row bytes) _ e in
+    let a = both (length_row bytes (length bytes)) _ e in
     let b = both (magic_row bytes) _ a.1 in
-    let c = both (class_row bytes) _ b.1 in
-    (both (data_row bytes) _ c.1).0
+    let c = both (class_row bytes (length bytes)) _ b.1 in
+    (both (data_row bytes (length bytes)) _ c.1).0
 
 pub record SegmentRows (bytes : List ℕ) : Type 0 where
   pub notes : notes_row bytes ≡ Ok tt
@@ -106,10 +107,10 @@ segment_rows_passed bytes e =
     let g = both (count_row bytes) _ f.1 in
     record { notes = b.0; aligned = c.0; words = d.0; apart = f.0; few = g.0; contexts = g.1 }
 
-rows_passed : (bytes : List ℕ) → judgement bytes ≡ Ok tt → (header_rows bytes ≡ Ok tt) × (segment_rows bytes ≡ Ok tt)
+rows_passed : (bytes : List ℕ) → judgement bytes ≡ Ok tt → (header_rows bytes (length bytes) ≡ Ok tt) × (segment_rows bytes ≡ Ok tt)
 unfolding judgement
 rows_passed bytes e =
-    let a = both (header_rows bytes) _ e in
+    let a = both (header_rows bytes (length bytes)) _ e in
     let b = both (program_headers_row bytes) _ a.1 in
     (a.0, b.1)
 

@@ -11,6 +11,7 @@ use Rattle.omi_corefile.specs.Limits.{total_words}
 use Rattle.omi_corefile.proofs.Bounds.{bounds, order_known}
 use Rattle.omi_elf.specs.declared.fault.ElfFault.TheVariants.{Short, Unaligned, TooLarge, Overlap, TooMany}
 use Rattle.omi_elf.specs.declared.limits.TheConstants.{HEADER_BYTES, MOST_ELF_BYTES, NOTE_SEGMENT, PROGRAM_HEADER_BYTES}
+use Rattle.omi_elf.specs.declared.notes.Note.{Note}
 use Rattle.omi_elf.specs.declared.program_header.ProgramHeader.{ProgramHeader}
 use Rattle.omi_elf.specs.Header.{e_phoff, e_phnum, program_header, headers_from, program_headers, is_kept, kept_segments}
 use Rattle.omi_elf.specs.Notes.{note_found, ids_found, contexts_of}
@@ -21,7 +22,8 @@ use Rattle.omi_elf.specs.Spelling.{elf_header, header_bytes, segment_headers, no
 use Rattle.omi_elf.specs.ElfCore.{ElfCore}
 use Rattle.omi_elf.specs.Found.{last_in}
 use Rattle.omi_elf.specs.Gathered.{gathered}
-use Rattle.omi_elf.proofs.FileLaws.{segments_in, word_spelled, spelled_word}
+use Rattle.omi_elf.specs.ElfParts.{segments_in}
+use Rattle.omi_elf.proofs.FileLaws.{word_spelled, spelled_word}
 use Rattle.omi_elf.proofs.SegmentRows.{segments_is, unaligned_is, words_is, overlap_is, count_is, notes_passed, contexts_is, all_pass}
 use Rattle.omi_elf.proofs.Placed.{Has, has_all, has_first, has_next, has_same, from_first_5}
 use Rattle.omi_elf.proofs.WrittenHeader.{SaysHeader, length-elf_header, header_said, passes, not_told, header_passes, headers_pass}
@@ -137,12 +139,16 @@ is_read c bytes w =
 
 -- ---- no row tells a fault
 
+-- the note, by its place
+abbrev written_note : CoreImage → Note
+written_note c = record { at = note_at c; description = note_at c + 20; size = 8 * length c.contexts }
+
 rows_pass : (c : CoreImage) (bytes : List ℕ) → IsWritten c bytes → IsRead c bytes → segment_rows bytes ≡ Ok tt
 rows_pass c bytes w r =
     let k = bounds c in
     let hs = loads c in
-    let within = sym (segments_is bytes hs (sym r.kept))
-    ∙ not_told (not (list_all (lies_within bytes) hs)) (length bytes) (Short (length bytes)) (ap not (all_within c.order bytes 120 (words_at c) c.segments w.words)) in
+    let within = sym (segments_is bytes (length bytes) hs refl (sym r.kept))
+    ∙ not_told (not (list_all (lies_within (length bytes)) hs)) (length bytes) (Short (length bytes)) (ap not (all_within c.order bytes 120 (words_at c) c.segments w.words)) in
     let aligned = sym (unaligned_is bytes hs (sym r.kept))
     ∙ ap (fault_of Unaligned) (none_unaligned 120 (words_at c) FIRST_ADDRESS c.segments k.segments_rise) in
     let words = sym (words_is bytes hs (sym r.kept))
@@ -152,15 +158,15 @@ rows_pass c bytes w r =
     ∙ ap (fault_of Overlap) (none_overlaps 120 (words_at c) FIRST_ADDRESS c.segments k.segments_rise) in
     let few = sym (count_is bytes hs (sym r.sorted))
     ∙ not_told (nat_lt MOST_SEGMENTS (count_apart hs)) 0 (TooMany (count_apart hs)) (le-ltb MOST_SEGMENTS (count_apart hs) (omega (arith, few_apart 120 (words_at c) c.segments, k.few_segments))) in
-    let contexts = sym (contexts_is bytes (Some (note_at c)) r.found)
+    let contexts = sym (contexts_is bytes (Some (written_note c)) r.found)
     ∙ note_passes c.order bytes (note_at c) c.contexts r.says.order_is k.few_contexts k.contexts_rise r.note in
-    all_pass bytes (within, notes_passed bytes (Some (note_at c)) r.found, aligned) (words, apart, few) contexts
+    all_pass bytes (within, notes_passed bytes (Some (written_note c)) r.found, aligned) (words, apart, few) contexts
 
 faultless_is : (c : CoreImage) (bytes : List ℕ) → IsWritten c bytes → IsRead c bytes → judgement bytes ≡ Ok tt
 unfolding judgement
 faultless_is c bytes w r =
     let room : HEADER_BYTES + PROGRAM_HEADER_BYTES * (length c.segments + 1) ≤ length bytes = omega (arith, r.note.room) in
-    passes (header_rows bytes) _ (header_passes c.order (length c.segments + 1) bytes (order_known c) w.few r.says)
+    passes (header_rows bytes (length bytes)) _ (header_passes c.order (length c.segments + 1) bytes (order_known c) w.few r.says)
     (passes (program_headers_row bytes) _ (headers_pass c.order (length c.segments + 1) bytes room r.says) (rows_pass c bytes w r))
 
 -- ---- the core

@@ -175,16 +175,16 @@ pub not_told : (wrong : Bool) (place : ℕ) (why : ElfFault) → wrong ≡ false
 not_told wrong place why e = rw e refl
 
 good_field : (bytes : List ℕ) (end : ℕ) (good : Bool) (place : ℕ) (why : ElfFault) → end ≤ length bytes → good ≡ true
-    → field_row bytes end good place why ≡ Ok tt
+    → field_row (length bytes) end good place why ≡ Ok tt
 good_field bytes end good place why le e =
     let there = le-ltb (length bytes) end le in rw (there, e) refl
 
-class_passes : (order count : ℕ) (bytes : List ℕ) → SaysHeader order count bytes → class_row bytes ≡ Ok tt
+class_passes : (order count : ℕ) (bytes : List ℕ) → SaysHeader order count bytes → class_row bytes (length bytes) ≡ Ok tt
 unfolding class_row
 class_passes order count bytes says =
     good_field bytes 5 (ei_class bytes == 2) 4 (Class (ei_class bytes)) (omega (arith, says.room)) (eq-eqb (ei_class bytes) 2 says.class)
 
-data_passes : (order count : ℕ) (bytes : List ℕ) → order ≤ 1 → SaysHeader order count bytes → data_row bytes ≡ Ok tt
+data_passes : (order count : ℕ) (bytes : List ℕ) → order ≤ 1 → SaysHeader order count bytes → data_row bytes (length bytes) ≡ Ok tt
 unfolding data_row
 data_passes order count bytes known says =
     let good : (ei_data bytes == 1 || ei_data bytes == 2) ≡ true =
@@ -194,29 +194,29 @@ data_passes order count bytes known says =
     ] in
     good_field bytes 6 (ei_data bytes == 1 || ei_data bytes == 2) 5 (ElfFault.Order (ei_data bytes)) (omega (arith, says.room)) good
 
-type_passes : (order count : ℕ) (bytes : List ℕ) → SaysHeader order count bytes → type_row bytes ≡ Ok tt
+type_passes : (order count : ℕ) (bytes : List ℕ) → SaysHeader order count bytes → type_row bytes (length bytes) ≡ Ok tt
 unfolding type_row
 type_passes order count bytes says =
     good_field bytes 18 (e_type bytes == CORE_TYPE) 16 (NotCore (e_type bytes)) (omega (arith, says.room)) (eq-eqb (e_type bytes) CORE_TYPE says.core)
 
-size_passes : (order count : ℕ) (bytes : List ℕ) → SaysHeader order count bytes → entry_size_row bytes ≡ Ok tt
+size_passes : (order count : ℕ) (bytes : List ℕ) → SaysHeader order count bytes → entry_size_row bytes (length bytes) ≡ Ok tt
 unfolding entry_size_row
 size_passes order count bytes says =
     good_field bytes 56 (e_phentsize bytes == PROGRAM_HEADER_BYTES) 54 (HeaderSize (e_phentsize bytes)) (omega (arith, says.room)) (eq-eqb (e_phentsize bytes) PROGRAM_HEADER_BYTES says.size)
 
 pub header_passes : (order count : ℕ) (bytes : List ℕ) → order ≤ 1 → length bytes ≤ MOST_ELF_BYTES → SaysHeader order count bytes
-    → header_rows bytes ≡ Ok tt
+    → header_rows bytes (length bytes) ≡ Ok tt
 unfolding header_rows
 header_passes order count bytes known few says =
     let begins = says.begins in
-    passes (length_row bytes) _
+    passes (length_row bytes (length bytes)) _
     (not_told (begins_as_elf bytes && nat_lt MOST_ELF_BYTES (length bytes)) 0 (TooLarge (length bytes))
     (and_right (begins_as_elf bytes) (nat_lt MOST_ELF_BYTES (length bytes)) (le-ltb MOST_ELF_BYTES (length bytes) few)))
     (passes (magic_row bytes) _ (not_told (not (begins_as_elf bytes)) 0 NotElf (ap not begins))
-    (passes (class_row bytes) _ (class_passes order count bytes says)
-    (passes (data_row bytes) _ (data_passes order count bytes known says)
-    (passes (type_row bytes) _ (type_passes order count bytes says)
-    (passes (entry_size_row bytes) _ (size_passes order count bytes says)
+    (passes (class_row bytes (length bytes)) _ (class_passes order count bytes says)
+    (passes (data_row bytes (length bytes)) _ (data_passes order count bytes known says)
+    (passes (type_row bytes (length bytes)) _ (type_passes order count bytes says)
+    (passes (entry_size_row bytes (length bytes)) _ (size_passes order count bytes says)
     (not_told (nat_lt (length bytes) HEADER_BYTES) (length bytes) (ElfFault.Short (length bytes)) (le-ltb (length bytes) HEADER_BYTES says.room)))))))
 
 pub headers_pass : (order count : ℕ) (bytes : List ℕ) → HEADER_BYTES + PROGRAM_HEADER_BYTES * count ≤ length bytes → SaysHeader order count bytes

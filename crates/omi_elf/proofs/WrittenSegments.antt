@@ -86,7 +86,7 @@ others_there order bytes offset s ss has = (
 )
 
 pub all_within : (order : ℕ) (bytes : List ℕ) (place offset : ℕ) (ss : List Segment) → Has bytes offset (words_of_segments order ss)
-    → list_all (lies_within bytes) (load_headers place offset ss) ≡ true
+    → list_all (lies_within (length bytes)) (load_headers place offset ss) ≡ true
 all_within order bytes place offset [] has = refl
 all_within order bytes place offset (s ∷ ss) has =
     let there = others_there order bytes offset s ss has in

@@ -1,7 +1,11 @@
--- The number and the name of each fault of an ELF core file.
+-- The number and the name of each fault of an ELF core file, and what an error is where the file is read in pieces.
 use Rattle.std.specs.Prelude.{ℕ, List, codes}
+use Rattle.omi_elf.specs.declared.fault.ElfError.{ElfError}
+use Rattle.omi_elf.specs.declared.fault.ElfError.TheVariants as decoded
 use Rattle.omi_elf.specs.declared.fault.ElfFault.{ElfFault}
 use Rattle.omi_elf.specs.declared.fault.ElfFault.TheVariants.{NotElf, Class, Order, NotCore, HeaderSize, Short, Unaligned, TooLarge, Overlap, NoContexts, BadContext, TooMany}
+use Rattle.omi_elf.specs.declared.fault.ElfReadError.{ElfReadError}
+use Rattle.omi_elf.specs.declared.fault.ElfReadError.TheVariants as read
 
 abbrev pub elf_fault_number : ElfFault → ℕ
 elf_fault_number NotElf = 21
@@ -30,3 +34,8 @@ elf_fault_text (Overlap n) = codes "Overlap"
 elf_fault_text NoContexts = codes "NoContexts"
 elf_fault_text (BadContext n) = codes "BadContext"
 elf_fault_text (TooMany n) = codes "TooMany"
+
+-- the error of bytes in memory, as one of reading
+abbrev pub read_error_of : ElfError → ElfReadError
+read_error_of (decoded.Fault at why) = read.Fault at why
+read_error_of decoded.OutOfMemory = read.OutOfMemory

@@ -6,7 +6,8 @@ pub mod Table
 pub mod Faults
 pub mod Spelling
 pub mod ElfCore
--- What a reading function of the code answers, and how the words are gathered.
+-- How the words are gathered, and what is read by it; what a reading function of the code answers.
+pub mod Gathered
+pub mod ElfParts
 pub mod Found
 pub mod Outcomes
-pub mod Gathered

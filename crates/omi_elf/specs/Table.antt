@@ -2,10 +2,10 @@
 use Rattle.std.specs.Prelude.{◌≡◌, ℕ, ◌+◌, ◌*◌, ◌%◌, Bool, true, false, ◌&&◌, ◌||◌, not, ◌==◌, nat_lt, nat_le, List, length, find, sum_by, Option, Some, None, Result, Ok, Err, if◌then◌else◌}
 use Rattle.std.specs.List.{list_all}
 use Rattle.omi_corefile.specs.Limits.{rises_from}
-use Rattle.omi_corefile.specs.declared.limits.TheConstants.{MOST_CONTEXTS, MOST_SEGMENTS, MOST_SEGMENT_WORDS}
+use Rattle.omi_corefile.specs.declared.limits.TheConstants.{MOST_SEGMENTS, MOST_SEGMENT_WORDS}
 use Rattle.omi_elf.specs.declared.fault.ElfFault.{ElfFault}
 use Rattle.omi_elf.specs.declared.fault.ElfFault.TheVariants.{NotElf, Class, Order, NotCore, HeaderSize, Short, Unaligned, TooLarge, Overlap, NoContexts, BadContext, TooMany}
-use Rattle.omi_elf.specs.declared.limits.TheConstants.{CORE_TYPE, HEADER_BYTES, MOST_ELF_BYTES, PROGRAM_HEADER_BYTES}
+use Rattle.omi_elf.specs.declared.limits.TheConstants.{CORE_TYPE, HEADER_BYTES, MOST_ELF_BYTES, MOST_ID_BYTES, PROGRAM_HEADER_BYTES}
 use Rattle.omi_elf.specs.declared.program_header.ProgramHeader.{ProgramHeader}
 use Rattle.omi_elf.specs.Header.{begins_as_elf, ei_class, ei_data, order_of, e_type, e_phoff, e_phentsize, e_phnum, word_count, rounded_size, kept_segments}
 use Rattle.omi_elf.specs.Notes.{NotePlace, note_found, n_descsz, description_place, ids_of}
@@ -28,56 +28,58 @@ abbrev pub ◌>>=◌ : {A B : Type 0} → Result A ElfRefusal → (A → Result 
 abbrev pub fault_if : Bool → ℕ → ElfFault → Judged
 fault_if wrong at why = if wrong then Err (at, why) else Ok tt
 
--- the file ends inside something that has to be read
-abbrev pub short_if : List ℕ → Bool → Judged
-short_if bytes wrong = fault_if wrong (length bytes) (Short (length bytes))
+-- a file of so many bytes ends inside something that has to be read
+abbrev pub short_if : ℕ → Bool → Judged
+short_if len wrong = fault_if wrong len (Short len)
+
+-- The rows of the header are said of the front of a file of `len` bytes.
 
 -- 28: an ELF file that is too long
-abbrev pub length_row : List ℕ → Judged
-length_row bytes =
-    fault_if (begins_as_elf bytes && nat_lt MOST_ELF_BYTES (length bytes)) 0 (TooLarge (length bytes))
+abbrev pub length_row : List ℕ → ℕ → Judged
+length_row bytes len = fault_if (begins_as_elf bytes && nat_lt MOST_ELF_BYTES len) 0 (TooLarge len)
 
 -- 21: another file
 abbrev pub magic_row : List ℕ → Judged
 magic_row bytes = fault_if (not (begins_as_elf bytes)) 0 NotElf
 
 -- a field of the header, which is judged once the file has it: it ends at this place
-abbrev pub field_row : List ℕ → ℕ → Bool → ℕ → ElfFault → Judged
-field_row bytes end good at why = do
-  there ← short_if bytes (nat_lt (length bytes) end)
+abbrev pub field_row : ℕ → ℕ → Bool → ℕ → ElfFault → Judged
+field_row len end good at why = do
+  there ← short_if len (nat_lt len end)
   fault_if (not good) at why
 
 -- 22 to 25, each with 26 in front of it
-unfoldable pub class_row : List ℕ → Judged
-class_row bytes = field_row bytes 5 (ei_class bytes == 2) 4 (Class (ei_class bytes))
+unfoldable pub class_row : List ℕ → ℕ → Judged
+class_row bytes len = field_row len 5 (ei_class bytes == 2) 4 (Class (ei_class bytes))
 
-unfoldable pub data_row : List ℕ → Judged
-data_row bytes = field_row bytes 6 (ei_data bytes == 1 || ei_data bytes == 2) 5 (Order (ei_data bytes))
+unfoldable pub data_row : List ℕ → ℕ → Judged
+data_row bytes len = field_row len 6 (ei_data bytes == 1 || ei_data bytes == 2) 5 (Order (ei_data bytes))
 
-unfoldable pub type_row : List ℕ → Judged
-type_row bytes = field_row bytes 18 (e_type bytes == CORE_TYPE) 16 (NotCore (e_type bytes))
+unfoldable pub type_row : List ℕ → ℕ → Judged
+type_row bytes len = field_row len 18 (e_type bytes == CORE_TYPE) 16 (NotCore (e_type bytes))
 
-unfoldable pub entry_size_row : List ℕ → Judged
-entry_size_row bytes =
-    field_row bytes 56 (e_phentsize bytes == PROGRAM_HEADER_BYTES) 54 (HeaderSize (e_phentsize bytes))
+unfoldable pub entry_size_row : List ℕ → ℕ → Judged
+entry_size_row bytes len =
+    field_row len 56 (e_phentsize bytes == PROGRAM_HEADER_BYTES) 54 (HeaderSize (e_phentsize bytes))
 
 -- 26: the rest of the header
-abbrev pub header_row : List ℕ → Judged
-header_row bytes = short_if bytes (nat_lt (length bytes) HEADER_BYTES)
+abbrev pub header_row : ℕ → Judged
+header_row len = short_if len (nat_lt len HEADER_BYTES)
 
 -- 26: the program headers
 unfoldable pub program_headers_row : List ℕ → Judged
 program_headers_row bytes =
-    short_if bytes (nat_lt 0 (e_phnum bytes)
+    short_if (length bytes) (nat_lt 0 (e_phnum bytes)
     && nat_lt (length bytes) (e_phoff bytes + PROGRAM_HEADER_BYTES * e_phnum bytes))
 
--- all bytes of a kept segment stand in the file
-abbrev pub lies_within : List ℕ → ProgramHeader → Bool
-lies_within bytes h = nat_le (h.p_offset + rounded_size h) (length bytes)
+-- all bytes of a kept segment stand in a file of so many bytes
+abbrev pub lies_within : ℕ → ProgramHeader → Bool
+lies_within len h = nat_le (h.p_offset + rounded_size h) len
 
 -- 26: the bytes of the kept segments
 unfoldable pub segments_row : List ℕ → Judged
-segments_row bytes = short_if bytes (not (list_all (lies_within bytes) (kept_segments bytes)))
+segments_row bytes =
+    short_if (length bytes) (not (list_all (lies_within (length bytes)) (kept_segments bytes)))
 
 -- the search for native ids ends at a note inside which the file ends
 abbrev pub is_cut : Option NotePlace → Bool
@@ -87,7 +89,7 @@ is_cut (Some (Some at)) = false
 
 -- 26: the notes that are read
 unfoldable pub notes_row : List ℕ → Judged
-notes_row bytes = short_if bytes (is_cut (note_found bytes))
+notes_row bytes = short_if (length bytes) (is_cut (note_found bytes))
 
 abbrev pub is_unaligned : ProgramHeader → Bool
 is_unaligned h = not (h.p_vaddr % 8 == 0)
@@ -121,10 +123,6 @@ count_row bytes =
     fault_if (nat_lt MOST_SEGMENTS (count_apart (by_start (kept_segments bytes)))) 0
     (TooMany (count_apart (by_start (kept_segments bytes))))
 
--- the most bytes of a description
-abbrev pub MOST_ID_BYTES : ℕ
-MOST_ID_BYTES = 8 * MOST_CONTEXTS
-
 -- the description of a note is a list of few enough ids that rise
 abbrev pub lists_ids : List ℕ → ℕ → Bool
 lists_ids bytes at = n_descsz (order_of bytes) bytes at % 8 == 0
@@ -143,15 +141,15 @@ unfoldable pub contexts_row : List ℕ → Judged
 contexts_row bytes = judged_note bytes (note_found bytes)
 
 -- the rows of the header
-unfoldable pub header_rows : List ℕ → Judged
-header_rows bytes = do
-  length ← length_row bytes
+unfoldable pub header_rows : List ℕ → ℕ → Judged
+header_rows bytes len = do
+  length ← length_row bytes len
   magic ← magic_row bytes
-  class ← class_row bytes
-  order ← data_row bytes
-  core ← type_row bytes
-  size ← entry_size_row bytes
-  header_row bytes
+  class ← class_row bytes len
+  order ← data_row bytes len
+  core ← type_row bytes len
+  size ← entry_size_row bytes len
+  header_row len
 
 -- the rows of what the program headers say
 unfoldable pub segment_rows : List ℕ → Judged
@@ -167,7 +165,7 @@ segment_rows bytes = do
 -- the whole table: the first row that tells a fault
 unfoldable pub judgement : List ℕ → Judged
 judgement bytes = do
-  header ← header_rows bytes
+  header ← header_rows bytes (length bytes)
   headers ← program_headers_row bytes
   segment_rows bytes
 

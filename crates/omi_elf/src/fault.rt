@@ -2,8 +2,11 @@
 
 ghost use Rattle.std.specs.Prelude.{◌≡◌};
 ghost use Rattle.omi_elf.specs.Faults.{elf_fault_number, elf_fault_text};
+ghost use Rattle.omi_elf.specs.Faults.{read_error_of};
 ghost use Rattle.omi_elf.specs.declared.fault.ElfError.TheVariants.{OutOfMemory as memory};
+ghost use Rattle.omi_elf.specs.declared.fault.ElfReadError.TheVariants.{Failed as failed, OutOfMemory as no_memory};
 
+use omi_outside::Failed as ReadFailed;
 use std::alloc::AllocError;
 use thiserror::Error;
 
@@ -93,5 +96,45 @@ impl From<AllocError> for ElfError {
 
     fn from(_e: AllocError) -> ElfError {
         ElfError::OutOfMemory
+    }
+}
+
+/// Why an ELF core file, of which pieces are read, could not be read.
+#[derive(Clone, Copy, Debug, PartialEq, Eq, Error)]
+pub enum ElfReadError {
+    /// The file is no ELF core file, by what stands at this place.
+    #[error("no ELF core: {why:?} at {at}")]
+    Fault { at: u64, why: ElfFault },
+    /// A fault of reading, which the files counted.
+    #[error("reading failed")]
+    Failed,
+    #[error("out of memory")]
+    OutOfMemory,
+}
+
+impl From<AllocError> for ElfReadError {
+    ghost from_gives = { λ _ e. e ≡ no_memory };
+
+    fn from(_: AllocError) -> ElfReadError {
+        ElfReadError::OutOfMemory
+    }
+}
+
+impl From<ReadFailed> for ElfReadError {
+    ghost from_gives = { λ _ e. e ≡ failed };
+
+    fn from(_: ReadFailed) -> ElfReadError {
+        ElfReadError::Failed
+    }
+}
+
+impl From<ElfError> for ElfReadError {
+    ghost from_gives = { λ error e. e ≡ read_error_of error };
+
+    fn from(error: ElfError) -> ElfReadError {
+        match error {
+            ElfError::Fault { at, why } => ElfReadError::Fault { at, why },
+            ElfError::OutOfMemory => ElfReadError::OutOfMemory,
+        }
     }
 }

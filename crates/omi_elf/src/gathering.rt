@@ -1,20 +1,25 @@
 //! The native ids and the words of a file that no row of the table refuses.
 
-ghost use Rattle.std.specs.Prelude.{◌≡◌, ◌≤◌, ◌<◌, ◌+◌, ◌*◌, ◌++◌, length, IfOk, OnOk, Some, All};
-ghost use Rattle.std.specs.Option.{option_map};
+ghost use Rattle.std.specs.Prelude.{◌≡◌, ◌≤◌, ◌<◌, ◌+◌, ◌*◌, ◌/◌, ◌^◌, ◌++◌, List, ℕ, length, IfOk, IsErrOf, OnOk, Some, All};
+ghost use Rattle.omi_outside.specs.Outside.{HasCause};
+ghost use Rattle.omi_read.specs.Holding.{Holds, IsLength};
 ghost use Rattle.omi_corefile.specs.Limits.{rises_from};
+ghost use Rattle.omi_corefile.specs.declared.limits.TheConstants.{MOST_CONTEXTS};
 ghost use Rattle.omi_elf.specs.Header.{numbers_from, order_of};
 ghost use Rattle.omi_elf.specs.Notes.{ids_of as ids_at, ids_found};
-ghost use Rattle.omi_elf.specs.Found.{IsReadable, IsBounded, IsWholeIfAny};
+ghost use Rattle.omi_elf.specs.Found.{IsReadable, IsBounded, IsDescribed, IsDescribedIfAny, EndsWithin, EndsWithinIfAny, place_found};
 ghost use Rattle.omi_elf.specs.Gathered.{segment_of as segment_at, gathered as all_of};
 ghost use Rattle.omi_elf.specs.Table.{judged_note};
-ghost use Rattle.omi_elf.specs.Outcomes.{Judges};
+ghost use Rattle.omi_elf.specs.Outcomes.{ReadJudges};
 
-use crate::fault::{ElfError, ElfFault};
-use crate::notes::{description_size, to_description};
+use crate::fault::{ElfFault, ElfReadError};
+use crate::limits::MOST_ID_BYTES;
+use crate::notes::Note;
 use crate::numbers::number64;
 use crate::{OutOfMemory, ProgramHeader};
-use omi_corefile::{MOST_CONTEXTS, SegList, Segment};
+use omi_corefile::{SegList, Segment};
+use omi_outside::Files;
+use omi_read::front;
 use omi_word::Natives;
 use std::alloc::Global;
 use std::mem::replace;
@@ -54,45 +59,88 @@ fn rise(ids: &Natives) -> bool
     true
 }
 
-/// The native ids that the description of a note lists.
-fn ids_of(alloc: Global, order: u8, bytes: &[u8], at: usize) -> Result<Natives, ElfError>
-    requires order { order ≡ order_of bytes.now }
-    requires whole { IsWholeIfAny order bytes.now (Some at) }
-    ensures row { Judges result (judged_note bytes.now (Some (Some at))) }
-    ensures ids { IfOk result (λ ids. ids ≡ ids_at order bytes.now at) }
+/// The native ids of which these are the bytes.
+fn ids_in(alloc: Global, order: u8, listed: &[u8]) -> Result<Natives, OutOfMemory>
+    ensures { IfOk result (λ ids. ids ≡ numbers_from order listed.now 0 (length listed.now / 8)) }
 {
-    let place = at as u64 + to_description(order, bytes, at);
-    let size = u64::from(description_size(order, bytes, at));
     let mut ids = Natives::new(alloc);
-    let why = ElfFault::BadContext(place);
-    if size % 8 != 0 || size > 8 * u64::from(MOST_CONTEXTS) {
-        return Err(ElfError::Fault { at: place, why });
+    put_words(&mut ids, order, listed, 0, listed.len() as u64 / 8)?;
+    Ok(ids)
+}
+
+/// The native ids that the description of a note lists.
+fn ids_of<F: Files>(
+    alloc: Global,
+    files: &mut F,
+    name: &str,
+    len: u64,
+    order: u8,
+    note: Note,
+) -> Result<Natives, ElfReadError>
+    requires len { IsLength (F.told files.old name.now) len }
+    requires low { len < 2 ^ 63 }
+    requires within { EndsWithin len note }
+    ensures row { (bytes : List ℕ) → Holds (F.told files.old name.now) bytes
+        → order ≡ order_of bytes → IsDescribed order bytes note
+        → ReadJudges result (judged_note bytes (Some (Some note.at))) }
+    ensures ids { (bytes : List ℕ) → Holds (F.told files.old name.now) bytes
+        → IsDescribed order bytes note
+        → IfOk result (λ ids. ids ≡ ids_at order bytes note.at) }
+    ensures few { IfOk result (λ ids. length ids ≤ MOST_CONTEXTS) }
+
+    // No bytes change. A fault is counted as one of reading.
+    ensures same { F.told files.new ≡ F.told files.old }
+    ensures cause { HasCause (F.reads files.old) (F.reads files.new)
+        (IsErrOf result ElfReadError.Failed) }
+    ensures writes { F.writes files.new ≡ F.writes files.old }
+{
+    let at = note.description;
+    let size = note.size as usize;
+    let why = ElfFault::BadContext(at);
+    if size % 8 != 0 || size > MOST_ID_BYTES {
+        return Err(ElfReadError::Fault { at, why });
     }
-    put_words(&mut ids, order, bytes, place as usize, size / 8)?;
+    let mut piece = [0u8; MOST_ID_BYTES];
+    let count = front(files, name, len, at, size, &mut piece)?;
+    let ids = ids_in(alloc, order, &piece[..count])?;
     if !rise(&ids) {
-        return Err(ElfError::Fault { at: place, why });
+        return Err(ElfReadError::Fault { at, why });
     }
     Ok(ids)
 }
 
-/// The contexts of a file whose search for native ids ended at this note.
-pub fn contexts(
+/// The contexts of a file of `len` bytes in which the search for native ids ended at this note.
+pub fn contexts<F: Files>(
     alloc: Global,
+    files: &mut F,
+    name: &str,
+    len: u64,
     order: u8,
-    bytes: &[u8],
-    note: Option<u64>,
-) -> Result<Natives, ElfError>
-    requires order { order ≡ order_of bytes.now }
-    requires whole { IsWholeIfAny order bytes.now note }
-    ensures row { Judges result (judged_note bytes.now (option_map Some note)) }
-    ensures ids { IfOk result (λ ids. ids ≡ ids_found order bytes.now (option_map Some note)) }
+    note: Option<Note>,
+) -> Result<Natives, ElfReadError>
+    requires len { IsLength (F.told files.old name.now) len }
+    requires low { len < 2 ^ 63 }
+    requires within { EndsWithinIfAny len note }
+    ensures row { (bytes : List ℕ) → Holds (F.told files.old name.now) bytes
+        → order ≡ order_of bytes → IsDescribedIfAny order bytes note
+        → ReadJudges result (judged_note bytes (place_found note)) }
+    ensures ids { (bytes : List ℕ) → Holds (F.told files.old name.now) bytes
+        → IsDescribedIfAny order bytes note
+        → IfOk result (λ ids. ids ≡ ids_found order bytes (place_found note)) }
+    ensures few { IfOk result (λ ids. length ids ≤ MOST_CONTEXTS) }
+
+    // No bytes change. A fault is counted as one of reading.
+    ensures same { F.told files.new ≡ F.told files.old }
+    ensures cause { HasCause (F.reads files.old) (F.reads files.new)
+        (IsErrOf result ElfReadError.Failed) }
+    ensures writes { F.writes files.new ≡ F.writes files.old }
 {
     match note {
         None => {
             let why = ElfFault::NoContexts;
-            Err(ElfError::Fault { at: 0, why })
+            Err(ElfReadError::Fault { at: 0, why })
         }
-        Some(at) => ids_of(alloc, order, bytes, at as usize),
+        Some(note) => ids_of(alloc, files, name, len, order, note),
     }
 }
 
@@ -103,7 +151,7 @@ fn segment_of(
     bytes: &[u8],
     h: ProgramHeader,
 ) -> Result<Segment, OutOfMemory>
-    requires { IsReadable bytes.now h }
+    requires { IsReadable (length bytes.now) h }
     ensures { IfOk result (λ s. s ≡ segment_at order bytes.now h) }
 {
     let start = h.p_vaddr;
@@ -125,7 +173,7 @@ pub fn gathered(
     bytes: &[u8],
     sorted: &[ProgramHeader],
 ) -> Result<SegList, OutOfMemory>
-    requires readable { All (IsReadable bytes.now) sorted.now }
+    requires readable { All (IsReadable (length bytes.now)) sorted.now }
     requires bounded { All IsBounded sorted.now }
     ensures { IfOk result (λ segments. segments ≡ all_of order bytes.now sorted.now) }
 {

@@ -1,6 +1,7 @@
-//! The header of a file: each field is judged once the file has it.
+//! The header of a file: each field is judged once the file has it. What is judged is the front of the file, its first 64 bytes or all of
+//! them, and how many bytes the file has.
 
-ghost use Rattle.std.specs.Prelude.{◌≡◌, ◌≤◌, true, length, IfOk, OnOk, Err};
+ghost use Rattle.std.specs.Prelude.{◌≡◌, ◌≤◌, true, length, min, IfOk, OnOk, Err};
 ghost use Rattle.omi_elf.specs.Header.{begins_as_elf as begins, order_of, e_phoff, e_phnum};
 ghost use Rattle.omi_elf.specs.Table.{length_row, magic_row, class_row, data_row, type_row, entry_size_row, header_row, header_rows};
 ghost use Rattle.omi_elf.specs.Outcomes.{Judges};
@@ -17,29 +18,27 @@ pub struct Header {
     pub phnum: u16,
 }
 
-/// The fault of a file that ends inside something that has to be read.
-pub fn short(bytes: &[u8]) -> ElfError
-    ensures { result ≡ ElfError.Fault (length bytes.now) (ElfFault.Short (length bytes.now)) }
+/// The fault of a file of so many bytes that ends inside something that has to be read.
+pub fn short(len: u64) -> ElfError
+    ensures { result ≡ ElfError.Fault len (ElfFault.Short len) }
 {
-    let at = bytes.len() as u64;
-    let why = ElfFault::Short(at);
-    ElfError::Fault { at, why }
+    let why = ElfFault::Short(len);
+    ElfError::Fault { at: len, why }
 }
 
 /// The file begins as every ELF file does.
-pub fn begins_as_elf(bytes: &[u8]) -> bool
-    ensures { result ≡ begins bytes.now }
+pub fn begins_as_elf(front: &[u8]) -> bool
+    ensures { result ≡ begins front.now }
 {
-    bytes.starts_with(&ELF_MAGIC)
+    front.starts_with(&ELF_MAGIC)
 }
 
 /// An ELF file has at most `MOST_ELF_BYTES`.
-fn judge_length(bytes: &[u8]) -> Result<(), ElfError>
-    ensures row { Judges result (length_row bytes.now) }
-    ensures small { OnOk result (begins bytes.now ≡ true → length bytes.now ≤ MOST_ELF_BYTES) }
+fn judge_length(front: &[u8], len: u64) -> Result<(), ElfError>
+    ensures row { Judges result (length_row front.now len) }
+    ensures small { OnOk result (begins front.now ≡ true → len ≤ MOST_ELF_BYTES) }
 {
-    let len = bytes.len() as u64;
-    if begins_as_elf(bytes) && MOST_ELF_BYTES < len {
+    if begins_as_elf(front) && MOST_ELF_BYTES < len {
         let why = ElfFault::TooLarge(len);
         return Err(ElfError::Fault { at: 0, why });
     }
@@ -47,10 +46,10 @@ fn judge_length(bytes: &[u8]) -> Result<(), ElfError>
 }
 
 /// The file is an ELF file.
-fn judge_magic(bytes: &[u8]) -> Result<(), ElfError>
-    ensures { Judges result (magic_row bytes.now) }
+fn judge_magic(front: &[u8]) -> Result<(), ElfError>
+    ensures { Judges result (magic_row front.now) }
 {
-    if !begins_as_elf(bytes) {
+    if !begins_as_elf(front) {
         let why = ElfFault::NotElf;
         return Err(ElfError::Fault { at: 0, why });
     }
@@ -59,13 +58,14 @@ fn judge_magic(bytes: &[u8]) -> Result<(), ElfError>
 
 /// The class, which is that of 64 bits.
 #[tactic(auto, unfolding(crate::specs::Table::class_row))]
-fn judge_class(bytes: &[u8]) -> Result<(), ElfError>
-    ensures { Judges result (class_row bytes.now) }
+fn judge_class(front: &[u8], len: u64) -> Result<(), ElfError>
+    requires { length front.now ≡ min HEADER_BYTES len }
+    ensures { Judges result (class_row front.now len) }
 {
-    if bytes.len() < 5 {
-        return Err(short(bytes));
+    if len < 5 {
+        return Err(short(len));
     }
-    let class = bytes[4];
+    let class = front[4];
     if class != 2 {
         let why = ElfFault::Class(class);
         return Err(ElfError::Fault { at: 4, why });
@@ -75,14 +75,15 @@ fn judge_class(bytes: &[u8]) -> Result<(), ElfError>
 
 /// The order of the file's numbers.
 #[tactic(auto, unfolding(crate::specs::Table::data_row))]
-fn judge_data(bytes: &[u8]) -> Result<u8, ElfError>
-    ensures row { Judges result (data_row bytes.now) }
-    ensures order { IfOk result (λ order. order ≡ order_of bytes.now) }
+fn judge_data(front: &[u8], len: u64) -> Result<u8, ElfError>
+    requires { length front.now ≡ min HEADER_BYTES len }
+    ensures row { Judges result (data_row front.now len) }
+    ensures order { IfOk result (λ order. order ≡ order_of front.now) }
 {
-    if bytes.len() < 6 {
-        return Err(short(bytes));
+    if len < 6 {
+        return Err(short(len));
     }
-    let data = bytes[5];
+    let data = front[5];
     if data == 1 || data == 2 {
         return Ok(data - 1);
     }
@@ -92,14 +93,15 @@ fn judge_data(bytes: &[u8]) -> Result<u8, ElfError>
 
 /// The type, which is that of a core.
 #[tactic(auto, unfolding(crate::specs::Table::type_row))]
-fn judge_type(bytes: &[u8], order: u8) -> Result<(), ElfError>
-    requires { order ≡ order_of bytes.now }
-    ensures { Judges result (type_row bytes.now) }
+fn judge_type(front: &[u8], len: u64, order: u8) -> Result<(), ElfError>
+    requires room { length front.now ≡ min HEADER_BYTES len }
+    requires order { order ≡ order_of front.now }
+    ensures { Judges result (type_row front.now len) }
 {
-    if bytes.len() < 18 {
-        return Err(short(bytes));
+    if len < 18 {
+        return Err(short(len));
     }
-    let e_type = number16(order, bytes, 16);
+    let e_type = number16(order, front, 16);
     if e_type != CORE_TYPE {
         let why = ElfFault::NotCore(e_type);
         return Err(ElfError::Fault { at: 16, why });
@@ -109,14 +111,15 @@ fn judge_type(bytes: &[u8], order: u8) -> Result<(), ElfError>
 
 /// The size of a program header.
 #[tactic(auto, unfolding(crate::specs::Table::entry_size_row))]
-fn judge_entry_size(bytes: &[u8], order: u8) -> Result<(), ElfError>
-    requires { order ≡ order_of bytes.now }
-    ensures { Judges result (entry_size_row bytes.now) }
+fn judge_entry_size(front: &[u8], len: u64, order: u8) -> Result<(), ElfError>
+    requires room { length front.now ≡ min HEADER_BYTES len }
+    requires order { order ≡ order_of front.now }
+    ensures { Judges result (entry_size_row front.now len) }
 {
-    if bytes.len() < 56 {
-        return Err(short(bytes));
+    if len < 56 {
+        return Err(short(len));
     }
-    let size = number16(order, bytes, 54);
+    let size = number16(order, front, 54);
     if u64::from(size) != PROGRAM_HEADER_BYTES {
         let why = ElfFault::HeaderSize(size);
         return Err(ElfError::Fault { at: 54, why });
@@ -125,34 +128,35 @@ fn judge_entry_size(bytes: &[u8], order: u8) -> Result<(), ElfError>
 }
 
 /// The rest of the header is there.
-fn judge_rest(bytes: &[u8]) -> Result<(), ElfError>
-    ensures row { Judges result (header_row bytes.now) }
-    ensures there { OnOk result (HEADER_BYTES ≤ length bytes.now) }
+fn judge_rest(len: u64) -> Result<(), ElfError>
+    ensures row { Judges result (header_row len) }
+    ensures there { OnOk result (HEADER_BYTES ≤ len) }
 {
-    if (bytes.len() as u64) < HEADER_BYTES {
-        return Err(short(bytes));
+    if len < HEADER_BYTES {
+        return Err(short(len));
     }
     Ok(())
 }
 
-/// What the header says.
+/// What the header says of a file of `len` bytes that begins with `front`.
 #[tactic(auto, unfolding(crate::specs::Table::header_rows))]
-pub fn header_of(bytes: &[u8]) -> Result<Header, ElfError>
-    ensures rows { Judges result (header_rows bytes.now) }
-    ensures order { IfOk result (λ h. h.order ≡ order_of bytes.now) }
-    ensures phoff { IfOk result (λ h. h.phoff ≡ e_phoff bytes.now) }
-    ensures phnum { IfOk result (λ h. h.phnum ≡ e_phnum bytes.now) }
-    ensures small { OnOk result (length bytes.now ≤ MOST_ELF_BYTES) }
+pub fn header_of(front: &[u8], len: u64) -> Result<Header, ElfError>
+    requires { length front.now ≡ min HEADER_BYTES len }
+    ensures rows { Judges result (header_rows front.now len) }
+    ensures order { IfOk result (λ h. h.order ≡ order_of front.now) }
+    ensures phoff { IfOk result (λ h. h.phoff ≡ e_phoff front.now) }
+    ensures phnum { IfOk result (λ h. h.phnum ≡ e_phnum front.now) }
+    ensures small { OnOk result (len ≤ MOST_ELF_BYTES) }
 {
-    judge_length(bytes)?;
-    judge_magic(bytes)?;
-    judge_class(bytes)?;
-    let order = judge_data(bytes)?;
-    judge_type(bytes, order)?;
-    judge_entry_size(bytes, order)?;
-    judge_rest(bytes)?;
-    let phoff = number64(order, bytes, 32);
-    let phnum = number16(order, bytes, 56);
+    judge_length(front, len)?;
+    judge_magic(front)?;
+    judge_class(front, len)?;
+    let order = judge_data(front, len)?;
+    judge_type(front, len, order)?;
+    judge_entry_size(front, len, order)?;
+    judge_rest(len)?;
+    let phoff = number64(order, front, 32);
+    let phnum = number16(order, front, 56);
     Ok(Header {
         order,
         phoff,

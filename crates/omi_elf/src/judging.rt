@@ -1,8 +1,8 @@
 //! The rows of the table that judge the kept segments.
 
-ghost use Rattle.std.specs.Prelude.{◌≡◌, ◌≤◌, ◌<◌, List, length, filter, find, not, nat_lt, All, OnOk, IfOk, IsPermutation};
+ghost use Rattle.std.specs.Prelude.{◌≡◌, ◌≤◌, ◌<◌, ◌%◌, List, length, filter, find, not, nat_lt, All, OnOk, IfOk, IsPermutation};
 ghost use Rattle.std.specs.List.{list_all};
-ghost use Rattle.omi_elf.specs.Header.{is_kept, segment_end};
+ghost use Rattle.omi_elf.specs.Header.{is_kept, segment_end, word_count};
 ghost use Rattle.omi_elf.specs.Segments.{by_start as in_order, first_overlap, count_apart};
 ghost use Rattle.omi_elf.specs.Table.{fault_of, fault_if, short_if, is_unaligned, words_of_all, lies_within as within};
 ghost use Rattle.omi_elf.specs.declared.program_header.ProgramHeader.{ProgramHeader};
@@ -26,32 +26,30 @@ pub fn kept(alloc: Global, headers: &[ProgramHeader]) -> Result<Vec<ProgramHeade
         .collect(alloc)
 }
 
-/// All bytes of a segment stand in the file.
-fn lies_within(bytes: &[u8], h: &ProgramHeader) -> bool
-    ensures { result ≡ within bytes.now h.now }
+/// All bytes of a segment stand in a file of `len` bytes.
+fn lies_within(len: u64, h: &ProgramHeader) -> bool
+    ensures { result ≡ within len h.now }
 {
-    let len = bytes.len() as u64;
     h.p_offset <= len && 8 * h.word_count() <= len - h.p_offset
 }
 
-/// All bytes of all segments stand in the file.
-fn all_within(bytes: &[u8], kept: &[ProgramHeader]) -> bool
-    ensures { result ≡ list_all (within bytes.now) kept.now }
+/// All bytes of all segments stand in a file of `len` bytes.
+fn all_within(len: u64, kept: &[ProgramHeader]) -> bool
+    ensures { result ≡ list_all (within len) kept.now }
 {
-    kept.iter().all(|h| lies_within(bytes, h))
+    kept.iter().all(|h| lies_within(len, h))
 }
 
-/// The bytes of the kept segments stand in the file.
-pub fn judge_segments(bytes: &[u8], kept: &[ProgramHeader]) -> Result<(), ElfError>
+/// The bytes of the kept segments stand in a file of `len` bytes.
+pub fn judge_segments(len: u64, kept: &[ProgramHeader]) -> Result<(), ElfError>
     requires kept { (headers : List ProgramHeader) × (kept.now ≡ filter is_kept headers) }
-    requires short { length bytes.now ≤ MOST_ELF_BYTES }
-    ensures row { Judges result
-        (short_if bytes.now (not (list_all (within bytes.now) kept.now))) }
-    ensures readable { OnOk result (All (IsReadable bytes.now) kept.now) }
+    requires short { len ≤ MOST_ELF_BYTES }
+    ensures row { Judges result (short_if len (not (list_all (within len) kept.now))) }
+    ensures readable { OnOk result (All (IsReadable len) kept.now) }
     ensures bounded { OnOk result (All IsBounded kept.now) }
 {
-    if !all_within(bytes, kept) {
-        return Err(short(bytes));
+    if !all_within(len, kept) {
+        return Err(short(len));
     }
     Ok(())
 }
@@ -66,7 +64,8 @@ fn fault_at(h: ProgramHeader, why: ElfFault) -> ElfError
 
 /// Each kept segment starts at a multiple of 8.
 pub fn judge_starts(kept: &[ProgramHeader]) -> Result<(), ElfError>
-    ensures { Judges result (fault_of ElfFault.Unaligned (find is_unaligned kept.now)) }
+    ensures row { Judges result (fault_of ElfFault.Unaligned (find is_unaligned kept.now)) }
+    ensures aligned { OnOk result (All (λ h. h.p_vaddr % 8 ≡ 0) kept.now) }
 {
     for h in kept {
         if h.p_vaddr % 8 != 0 {
@@ -81,9 +80,10 @@ pub fn judge_starts(kept: &[ProgramHeader]) -> Result<(), ElfError>
 pub fn judge_words(kept: &[ProgramHeader]) -> Result<(), ElfError>
     requires few { length kept.now < 65536 }
     requires bounded { All IsBounded kept.now }
-    ensures { Judges result
+    ensures row { Judges result
         (fault_if (nat_lt MOST_SEGMENT_WORDS (words_of_all kept.now)) 0
         (ElfFault.TooLarge (words_of_all kept.now))) }
+    ensures few { OnOk result (All (λ h. word_count h ≤ MOST_SEGMENT_WORDS) kept.now) }
 {
     let mut words = 0;
     for h in kept {

@@ -13,9 +13,10 @@ mod numbers;
 mod program_header;
 mod reading;
 
-pub use decoding::decode_elf;
+pub use decoding::{ElfContents, decode_elf, read_elf};
 pub use encoding::encode_elf;
-pub use fault::{ElfError, ElfFault};
+pub use fault::{ElfError, ElfFault, ElfReadError};
+pub use header::begins_as_elf;
 pub use limits::{
     CORE_TYPE, ELF_MAGIC, HEADER_BYTES, LOAD_SEGMENT, MOST_ELF_BYTES, NOTE_FRONT_BYTES, NOTE_NAME,
     NOTE_SEGMENT, NOTE_TYPE, PROGRAM_HEADER_BYTES,

@@ -29,3 +29,9 @@ pub const NOTE_TYPE: u32 = 1;
 
 /// The name of that note, with the zero byte that ends it.
 pub const NOTE_NAME: [u8; 5] = [0x4f, 0x4d, 0x50, 0x44, 0];
+
+/// The bytes with which the note that holds native ids begins: what stands in front of its name, and the name.
+pub const NOTE_BEGINNING: usize = 17;
+
+/// The most bytes of the ids that it lists: those of the most contexts that a core has.
+pub const MOST_ID_BYTES: usize = 512;

@@ -1,4 +1,4 @@
-use Rattle.std.proofs.Common.{◌∷◌, sym, refl, arith}
+use Rattle.std.proofs.Common.{◌∷◌, length, sym, refl, arith}
 use Rattle.std.proofs.lemmas.List.Elements.{All-get_or, All-same, All-head, All-tail}
 use Rattle.omi_elf.specs.Found.{IsReadable, IsBounded}
 use Rattle.omi_elf.proofs.NoteSegments.{no_header}
@@ -8,23 +8,23 @@ use Rattle.omi_elf.proofs.gathering.gathered.Goals.{then-open-len+in_ok-put_word
 
 pub loop-h-init : goal.loop-h-init
 loop-h-init c =
-    let readable = All-same (IsReadable c.args.bytes.now) (c.in-Some.first.now ∷ c.in-Some.others.now) c.args.sorted.now (sym c.in-Some.ensures.cases.0) c.requires.readable in
+    let readable = All-same (IsReadable (length c.args.bytes.now)) (c.in-Some.first.now ∷ c.in-Some.others.now) c.args.sorted.now (sym c.in-Some.ensures.cases.0) c.requires.readable in
     let bounded = All-same IsBounded (c.in-Some.first.now ∷ c.in-Some.others.now) c.args.sorted.now (sym c.in-Some.ensures.cases.0) c.requires.bounded in
     record {
       all = rw (c.new-segments.ensures, c.in_ok-open.ensures, c.in-Some.ensures.cases.0) refl;
       low = rw c.in_ok-open.ensures (end_of_segment c.args.order c.args.bytes.now c.in-Some.first.now (All-head IsBounded c.in-Some.first.now c.in-Some.others.now bounded));
-      readable = All-tail (IsReadable c.args.bytes.now) c.in-Some.first.now c.in-Some.others.now readable;
+      readable = All-tail (IsReadable (length c.args.bytes.now)) c.in-Some.first.now c.in-Some.others.now readable;
       bounded = All-tail IsBounded c.in-Some.first.now c.in-Some.others.now bounded;
     }
 
 pub put_words-requires : goal.put_words-requires
 put_words-requires c =
-    let h = All-get_or (IsReadable c.args.bytes.now) c.in-Some.others.now c.loop-h.h-index no_header c.loop-h-test.true c.loop-h.invariant.readable in
+    let h = All-get_or (IsReadable (length c.args.bytes.now)) c.in-Some.others.now c.loop-h.h-index no_header c.loop-h-test.true c.loop-h.invariant.readable in
     omega (arith, h.within, c.word_count.ensures)
 
 pub segment_of-requires-else-open-len : goal.segment_of-requires-else-open-len
 segment_of-requires-else-open-len c =
-    All-get_or (IsReadable c.args.bytes.now) c.in-Some.others.now c.loop-h.h-index no_header c.loop-h-test.true c.loop-h.invariant.readable
+    All-get_or (IsReadable (length c.args.bytes.now)) c.in-Some.others.now c.loop-h.h-index no_header c.loop-h-test.true c.loop-h.invariant.readable
 
 pub loop-h-preserved : goal.loop-h-preserved
 loop-h-preserved c =

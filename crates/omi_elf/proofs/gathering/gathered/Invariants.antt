@@ -8,6 +8,6 @@ abbrev pub invariant-loop-h : goal.invariant-loop-h
 invariant-loop-h l = record {
   all : l.segments ++ gathered_behind l.order l.bytes l.open (drop l.h-index l.others) ≡ gathered l.order l.bytes l.sorted;
   low : l.open.start + 8 * length l.open.words < 2 ^ 60;
-  readable : All (IsReadable l.bytes) l.others;
+  readable : All (IsReadable (length l.bytes)) l.others;
   bounded : All IsBounded l.others;
 }

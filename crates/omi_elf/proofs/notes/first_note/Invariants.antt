@@ -1,7 +1,13 @@
-use Rattle.std.proofs.Common.{◌≡◌, drop}
+use Rattle.std.proofs.Common.{◌≡◌, ◌≤◌, List, ℕ, drop}
+use Rattle.omi_read.specs.Holding.{Holds}
 use Rattle.omi_elf.specs.Found.{last_in}
 use Rattle.omi_elf.proofs.notes.first_note.Given as goal
 
 abbrev pub invariant-loop-header : goal.invariant-loop-header
-invariant-loop-header l =
-    last_in l.order l.bytes (drop l.header-index l.headers) ≡ last_in l.order l.bytes l.headers
+invariant-loop-header g l = record {
+  sought : (bytes : List ℕ) → Holds (g.F.Files.told l.fn.files l.name) bytes
+      → last_in l.order bytes (drop l.header-index l.headers) ≡ last_in l.order bytes l.headers;
+  same : g.F.Files.told l.files ≡ g.F.Files.told l.fn.files;
+  later : g.F.Files.reads l.fn.files ≤ g.F.Files.reads l.files;
+  writes : g.F.Files.writes l.files ≡ g.F.Files.writes l.fn.files;
+}

@@ -1,52 +1,40 @@
-use Rattle.std.proofs.Common.{◌≡◌, ◌+◌, arith, refl, ap, sym, ◌∙◌}
-use Rattle.omi_elf.specs.Notes.{padded, to_next}
-use Rattle.omi_elf.proofs.NoteSteps.{no_front, cut_front, no_rest, cut_rest, ours_there, other_there}
-use Rattle.omi_elf.proofs.notes.note_at.Goals as goal
+use Rattle.std.proofs.Common.{ℕ, Some, ap, sym, arith}
+use Rattle.std.proofs.lemmas.Result.{err_from_is_err_and}
+use Rattle.omi_elf.specs.declared.fault.ElfFault.TheVariants.{Short}
+use Rattle.omi_elf.proofs.NoteSteps.{no_front, cut_front}
+use Rattle.omi_elf.proofs.NoteSegments.{read_place}
+use Rattle.omi_elf.proofs.Within.{front_piece}
 use Rattle.omi_elf.proofs.notes.note_at.Goals.{then-len-at-via-then-len-at, then-len-at-via-else-len-at+then-len-at-lt-NOTE_FRONT_BYTES}
+use Rattle.omi_elf.proofs.notes.note_at.Goals as goal
 
 pub returns-then-left-lt-NOTE_FRONT_BYTES-clause-place : goal.returns-then-left-lt-NOTE_FRONT_BYTES-clause-place
-returns-then-left-lt-NOTE_FRONT_BYTES-clause-place c = λ most.
-    no_front c.args.order c.args.bytes.now c.args.at c.args.left most c.if-left-lt-NOTE_FRONT_BYTES.true
+returns-then-left-lt-NOTE_FRONT_BYTES-clause-place g c = λ bytes told most.
+    no_front c.args.order bytes c.args.at c.args.left most c.if-left-lt-NOTE_FRONT_BYTES.true
 
 pub returns-then-len-at-clause-place : goal.returns-then-len-at-clause-place
-returns-then-len-at-clause-place c =
-    rw c.short.ensures (
-      record { place = refl; fault = refl },
-      λ most. cut_front c.args.order c.args.bytes.now c.args.at c.args.left most (omega arith)
-          (elim c.then-len-at.branch [ then-len-at-via-then-len-at w ↦ omega arith | then-len-at-via-else-len-at+then-len-at-lt-NOTE_FRONT_BYTES w ↦ omega arith ]),
+returns-then-len-at-clause-place g c = λ bytes told.
+    let long = c.requires.len (Some bytes) told in
+    rw (c.into.ensures, c.short.ensures) (
+      record { place = sym long; fault = ap (λ (n : ℕ). Short n) (sym long) },
+      λ most. cut_front c.args.order bytes c.args.at c.args.left most (omega arith)
+          (elim c.then-len-at.branch [ then-len-at-via-then-len-at w ↦ omega (arith, long) | then-len-at-via-else-len-at+then-len-at-lt-NOTE_FRONT_BYTES w ↦ omega (arith, long) ]),
     )
 
-pub returns-then-left-end-clause-place : goal.returns-then-left-end-clause-place
-returns-then-left-end-clause-place c = λ most.
-    no_rest c.args.order c.args.bytes.now c.args.at c.args.left most (omega arith) (omega arith)
-    (omega (arith, c.to_description-front.ensures.value, c.description_size-size.ensures))
-
-pub returns-then-len-at-2-clause-place : goal.returns-then-len-at-2-clause-place
-returns-then-len-at-2-clause-place c =
-    rw c.short-then-len-at-2.ensures (
-      record { place = refl; fault = refl },
-      λ most. cut_rest c.args.order c.args.bytes.now c.args.at c.args.left most (omega arith) (omega arith)
-          (omega (arith, c.to_description-front.ensures.value, c.description_size-size.ensures))
-          (omega (arith, c.to_description-front.ensures.value, c.description_size-size.ensures)),
-    )
-
-pub returns-then-is_ours-clause-place : goal.returns-then-is_ours-clause-place
-returns-then-is_ours-clause-place c = λ most.
-    ours_there c.args.order c.args.bytes.now c.args.at c.args.left most (omega arith) (omega arith)
-    (omega (arith, c.to_description-front.ensures.value, c.description_size-size.ensures))
-    (omega (arith, c.to_description-front.ensures.value, c.description_size-size.ensures))
-    (sym c.is_ours.ensures ∙ c.if-is_ours.true)
+pub returns-in_err-place-clause-place : goal.returns-in_err-place-clause-place
+returns-in_err-place-clause-place g c = λ bytes told.
+    let long = c.requires.len (Some bytes) told in
+    let piece = front_piece bytes c.front.new.to c.args.at c.in_ok-count.count (omega (arith, c.in_ok-count.ensures.count, c.in_ok-count.ensures.length)) (c.in_ok-count.ensures.bytes bytes told) in
+    let p = err_from_is_err_and c.from_residual-in_err-place.result c.from_residual-in_err-place.ensures.1 in
+    rw (p.1, p.2) (read_place c.args.order bytes c.args.at c.args.left c.in_err-place.field-0.0 (c.in_err-place.ensures.place bytes long piece))
 
 pub returns-clause-place : goal.returns-clause-place
-returns-clause-place c =
-    let order = c.args.order in let bytes = c.args.bytes.now in
-    let step : c.to_description-front.result + c.padded.result ≡ to_next order bytes c.args.at =
-    omega (arith, c.to_description-front.ensures.value, c.padded.ensures, ap padded c.description_size-size.ensures) in (
-      omega (arith, c.to_description-front.ensures.value, c.padded.ensures, c.description_size-size.ensures),
-      λ most.
-          rw step
-          (other_there order bytes c.args.at c.args.left most (omega arith) (omega arith)
-          (omega (arith, c.to_description-front.ensures.value, c.description_size-size.ensures))
-          (omega (arith, c.to_description-front.ensures.value, c.description_size-size.ensures))
-          (sym c.is_ours.ensures ∙ c.if-is_ours.false)),
-    )
+returns-clause-place g c = λ bytes told.
+    let long = c.requires.len (Some bytes) told in
+    let piece = front_piece bytes c.front.new.to c.args.at c.in_ok-count.count (omega (arith, c.in_ok-count.ensures.count, c.in_ok-count.ensures.length)) (c.in_ok-count.ensures.bytes bytes told) in
+    c.in_ok-place.ensures.place bytes long piece
+
+pub returns-clause-described : goal.returns-clause-described
+returns-clause-described g c = λ bytes told.
+    let long = c.requires.len (Some bytes) told in
+    let piece = front_piece bytes c.front.new.to c.args.at c.in_ok-count.count (omega (arith, c.in_ok-count.ensures.count, c.in_ok-count.ensures.length)) (c.in_ok-count.ensures.bytes bytes told) in
+    c.in_ok-place.ensures.described bytes long piece
