@@ -95,6 +95,7 @@ pub fn read_elf<F: Files>(
         → ReadJudges result (judgement bytes) }
     ensures order { (bytes : List ℕ) → Holds (F.told files.old name.now) bytes
         → IfOk result (λ x. x.order ≡ order_of bytes) }
+    ensures known { IfOk result (λ x. x.order ≤ 1) }
     ensures contexts { (bytes : List ℕ) → Holds (F.told files.old name.now) bytes
         → IfOk result (λ x. x.contexts ≡ contexts_of bytes) }
     ensures few { IfOk result (λ x. length x.contexts ≤ MOST_CONTEXTS) }

@@ -79,6 +79,7 @@ fn judge_data(front: &[u8], len: u64) -> Result<u8, ElfError>
     requires { length front.now ≡ min HEADER_BYTES len }
     ensures row { Judges result (data_row front.now len) }
     ensures order { IfOk result (λ order. order ≡ order_of front.now) }
+    ensures known { IfOk result (λ order. order ≤ 1) }
 {
     if len < 6 {
         return Err(short(len));
@@ -144,6 +145,7 @@ pub fn header_of(front: &[u8], len: u64) -> Result<Header, ElfError>
     requires { length front.now ≡ min HEADER_BYTES len }
     ensures rows { Judges result (header_rows front.now len) }
     ensures order { IfOk result (λ h. h.order ≡ order_of front.now) }
+    ensures known { IfOk result (λ h. h.order ≤ 1) }
     ensures phoff { IfOk result (λ h. h.phoff ≡ e_phoff front.now) }
     ensures phnum { IfOk result (λ h. h.phnum ≡ e_phnum front.now) }
     ensures small { OnOk result (len ≤ MOST_ELF_BYTES) }

@@ -24,6 +24,7 @@ pub fn read_header<F: Files>(files: &mut F, name: &str, len: u64) -> Result<Head
         → ReadJudges result (header_rows bytes (length bytes)) }
     ensures says { (bytes : List ℕ) → Holds (F.told files.old name.now) bytes
         → IfOk result (IsHeaderOf bytes) }
+    ensures known { IfOk result (λ h. h.order ≤ 1) }
     ensures small { OnOk result (len ≤ MOST_ELF_BYTES) }
 
     // No bytes change. A fault is counted as one of reading.
