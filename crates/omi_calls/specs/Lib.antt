@@ -1,4 +1,5 @@
 pub mod Told
+pub mod Asked
 pub mod Answers
 pub mod Kept
 pub mod CoreWords

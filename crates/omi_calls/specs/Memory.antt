@@ -1,5 +1,5 @@
 -- What callbacks over a core in memory tell, and which of their calls are to fail.
-use Rattle.std.specs.Prelude.{◌==◌, ℕ, ◌+◌, ◌-◌, ◌^◌, Bool, min, Some}
+use Rattle.std.specs.Prelude.{◌==◌, ℕ, ◌+◌, ◌-◌, ◌^◌, Bool, min, Some, None}
 use Rattle.std.specs.List.{list_any}
 use Rattle.omi_corefile.specs.declared.core_image.CoreImage.{CoreImage}
 use Rattle.omi_calls.specs.declared.memory.MemCalls.{MemCalls}
@@ -25,6 +25,7 @@ told_by core = record {
   order = Some core.order;
   words = λ _. Some (words_of_segments core.segments);
   symbols = Some (symbol_in (aligned_word_at (words_of_segments core.segments)));
+  fails = None;
   sizes = usual_sizes;
 }
 

@@ -1,5 +1,5 @@
--- What callbacks may tell of a target: the order of a word's bytes, its words and its symbols.
-use Rattle.std.specs.Prelude.{◌==◌, ℕ, ◌%◌, List, Option, None, if◌then◌else◌}
+-- What callbacks may tell of a target: the order of a word's bytes, its words and its symbols, and which reads fail.
+use Rattle.std.specs.Prelude.{◌==◌, ℕ, Bool, ◌%◌, List, Option, None, if◌then◌else◌}
 use Rattle.omi_word.specs.Words.{Words}
 use Rattle.omi_calls.specs.declared.callbacks.Sizes.{Sizes}
 
@@ -14,6 +14,8 @@ pub record Told : Type 0 where
   -- the target's words, by those that are not told: where all are told, those make no difference
   pub words : Words → Option Words
   pub symbols : Option Symbols
+  -- the addresses at which each read fails, where it depends on the address alone
+  pub fails : Option (ℕ → Bool)
   pub sizes : Sizes
 
 -- the word at an address, which is a multiple of 8

@@ -1,11 +1,12 @@
 //! The callbacks that a debugger hands in, by OpenMP 5.0, chapter 5.
 
-ghost use Rattle.std.specs.Prelude.{◌≡◌, ◌≤◌, ◌+◌, ℕ, Some};
+ghost use Rattle.std.specs.Prelude.{◌≡◌, ℕ, Some};
 ghost use Rattle.omi_outside.specs.Outside.{HasCause};
 ghost use Rattle.omi_word.specs.Words.{Words};
 ghost use Rattle.omi_corefile.specs.ByteOrder.{number_of};
 ghost use Rattle.omi_calls.specs.Told.{Told, Symbols, aligned_word_at};
 ghost use Rattle.omi_calls.specs.Answers.{SaysMapped, SaysPlace};
+ghost use Rattle.omi_calls.specs.Asked.{Asked, AsksWord, Symbol, asked_after, unlisted};
 ghost use Rattle.omi_word.specs.SymbolTable.{symbol_in};
 
 /// What a read of a word answers.
@@ -47,7 +48,7 @@ pub struct Sizes {
 /// leave each of them untold; the clauses on what a call answers of them then say nothing. It may
 /// tell some of the words: what is told is all of them by the `rest`, which stands for the others,
 /// and the clauses hold whatever that is. No call changes what is told, and each read and look-up
-/// counts as one at most.
+/// is one that was asked for.
 pub trait Callbacks {
     /// What is told of the target.
     ghost told: { Self → Told };
@@ -55,8 +56,8 @@ pub trait Callbacks {
     /// How many calls have failed.
     ghost faults: { Self → ℕ };
 
-    /// How many reads and look-ups were asked for. It stays 0 where they aren't counted.
-    ghost asked: { Self → ℕ };
+    /// What was asked for so far. Nothing is listed and kept where an implementation doesn't say.
+    ghost asked: { Self → Asked } = { λ _. unlisted };
 
     /// Reads the word at a byte address, and leaves its bytes in the target's order. Where words
     /// are told, NotMapped comes exactly where the address is unaligned or no word stands there.
@@ -67,7 +68,8 @@ pub trait Callbacks {
             → (told self.old).order ≡ Some order → result ≡ Got.Bytes
             → aligned_word_at words addr ≡ Some (number_of order to.new) }
         ensures same { told self.new ≡ told self.old }
-        ensures asked { asked self.new ≤ asked self.old + 1 }
+        ensures asked { AsksWord (told self.old) addr (asked self.old) (asked self.new)
+            (result ≡ Got.Failed) }
         ensures cause { HasCause (faults self.old) (faults self.new) (result ≡ Got.Failed) };
 
     /// Looks up the byte address of a symbol. Where words are told, the answer is by the symbol
@@ -78,7 +80,7 @@ pub trait Callbacks {
         ensures table { (words rest : Words) → (told self.old).words rest ≡ Some words
             → SaysPlace result (symbol_in (aligned_word_at words) name.now) }
         ensures same { told self.new ≡ told self.old }
-        ensures asked { asked self.new ≤ asked self.old + 1 }
+        ensures asked { asked self.new ≡ asked_after (Symbol name.now) (asked self.old) }
         ensures cause { HasCause (faults self.old) (faults self.new) (result ≡ Place.Failed) };
 
     /// The sizes of the target's basic types.

@@ -35,8 +35,6 @@ impl Callbacks for CoreCalls {
 
     ghost faults = { λ _. 0 };
 
-    ghost asked = { λ _. 0 };
-
     fn read_memory(&mut self, addr: u64, to: &mut [u8; 8]) -> Got {
         self.calls.read_memory(addr, to)
     }

@@ -1,12 +1,13 @@
 //! Callbacks over a core in memory, with a list of the calls that are to fail.
 
-ghost use Rattle.std.specs.Prelude.{◌≡◌, ◌↔◌, ◌≤◌, ◌+◌, ℕ, ◌==◌, Some, IsTrue, if◌then◌else◌};
+ghost use Rattle.std.specs.Prelude.{◌≡◌, ◌↔◌, ◌≤◌, ℕ, ◌==◌, Some, IsTrue, if◌then◌else◌};
 ghost use Rattle.std.specs.List.{list_any};
 ghost use Rattle.omi_outside.specs.Outside.{HasCause, Rose};
 ghost use Rattle.omi_word.specs.Words.{Words};
 ghost use Rattle.omi_corefile.specs.ByteOrder.{number_of};
 ghost use Rattle.omi_calls.specs.Told.{Symbols, aligned_word_at};
 ghost use Rattle.omi_calls.specs.Answers.{SaysMapped, SaysPlace};
+ghost use Rattle.omi_calls.specs.Asked.{AsksWord, Symbol, asked_after, unlisted};
 ghost use Rattle.omi_word.specs.SymbolTable.{symbol_in};
 ghost use Rattle.omi_calls.specs.Memory.{told_by, told_of, calls_made, faults_counted, is_to_fail, next_count};
 
@@ -79,8 +80,6 @@ impl Callbacks for MemCalls {
 
     ghost faults = { faults_counted };
 
-    ghost asked = { calls_made };
-
     fn read_memory(&mut self, addr: u64, to: &mut [u8; 8]) -> Got
         ensures mapped { (words rest : Words) → (told_of self.old).words rest ≡ Some words
             → SaysMapped result (aligned_word_at words addr) }
@@ -90,7 +89,7 @@ impl Callbacks for MemCalls {
         ensures same { told_of self.new ≡ told_of self.old }
         ensures cause { HasCause (faults_counted self.old) (faults_counted self.new)
             (result ≡ Got.Failed) }
-        ensures asked { calls_made self.new ≤ calls_made self.old + 1 }
+        ensures asked { AsksWord (told_of self.old) addr unlisted unlisted (result ≡ Got.Failed) }
         ensures made { calls_made self.new ≡ next_count (calls_made self.old) }
         ensures fails { (result ≡ Got.Failed)
             ↔ IsTrue (is_to_fail self.old (calls_made self.new)) }
@@ -116,7 +115,7 @@ impl Callbacks for MemCalls {
         ensures same { told_of self.new ≡ told_of self.old }
         ensures cause { HasCause (faults_counted self.old) (faults_counted self.new)
             (result ≡ Place.Failed) }
-        ensures asked { calls_made self.new ≤ calls_made self.old + 1 }
+        ensures asked { unlisted ≡ asked_after (Symbol name.now) unlisted }
         ensures made { calls_made self.new ≡ next_count (calls_made self.old) }
         ensures fails { (result ≡ Place.Failed)
             ↔ IsTrue (is_to_fail self.old (calls_made self.new)) }

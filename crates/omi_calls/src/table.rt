@@ -1,11 +1,12 @@
 //! The table of callbacks, with the conversion of the target's bytes to a number.
 
-ghost use Rattle.std.specs.Prelude.{◌≡◌, ◌≤◌, ◌+◌, ℕ, ◌↔◌, List, Some, IsErr, IfOk, IsSome};
+ghost use Rattle.std.specs.Prelude.{◌≡◌, ℕ, ◌↔◌, List, Some, IsErr, IfOk, IsSome};
 ghost use Rattle.omi_outside.specs.Outside.{HasCause};
 ghost use Rattle.omi_word.specs.Words.{Words};
 ghost use Rattle.omi_corefile.specs.ByteOrder.{number_of};
 ghost use Rattle.omi_calls.specs.Told.{Symbols, aligned_word_at};
 ghost use Rattle.omi_calls.specs.Answers.{SaysPlace};
+ghost use Rattle.omi_calls.specs.Asked.{AsksWord, Symbol, asked_after};
 ghost use Rattle.omi_word.specs.SymbolTable.{symbol_in};
 ghost use Rattle.omi_calls.specs.Kept.{IsOrderOf, TakesAll, GivesNumbers};
 
@@ -102,7 +103,8 @@ impl<C: Callbacks, F: ToHost> Table<C, F> {
         ensures same { C.told self.new.calls ≡ C.told self.old.calls }
         ensures order { self.new.order ≡ self.old.order }
         ensures to_host { self.new.to_host ≡ self.old.to_host }
-        ensures asked { C.asked self.new.calls ≤ C.asked self.old.calls + 1 }
+        ensures asked { AsksWord (C.told self.old.calls) addr (C.asked self.old.calls)
+            (C.asked self.new.calls) (IsErr result) }
         ensures cause { HasCause (C.faults self.old.calls) (C.faults self.new.calls)
             (IsErr result) }
     {
@@ -124,7 +126,8 @@ impl<C: Callbacks, F: ToHost> Table<C, F> {
         ensures same { C.told self.new.calls ≡ C.told self.old.calls }
         ensures order { self.new.order ≡ self.old.order }
         ensures to_host { self.new.to_host ≡ self.old.to_host }
-        ensures asked { C.asked self.new.calls ≤ C.asked self.old.calls + 1 }
+        ensures asked { C.asked self.new.calls
+            ≡ asked_after (Symbol name.now) (C.asked self.old.calls) }
         ensures cause { HasCause (C.faults self.old.calls) (C.faults self.new.calls)
             (result ≡ Place.Failed) }
     {
