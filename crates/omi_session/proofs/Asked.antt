@@ -1,22 +1,16 @@
 -- What a call answers after one of its parts has answered.
-use Rattle.std.proofs.Common.{◌≡◌, ℕ, ◌+◌, ◌*◌, ◌≤◌, arith, cond, Bool, true, false, List, ◌∷◌, ◌++◌, length, Option, refl, sym, ap, subst, ◌∙◌}
-use Rattle.std.specs.Prelude.{Result, Ok, Err, IsErrAnd, is_some}
-use Rattle.std.specs.Option.{option_and_then, ok_or}
+use Rattle.std.proofs.Common.{◌≡◌, ◌≢◌, inl, inr, ℕ, ◌+◌, ◌≤◌, arith, cond, Bool, true, false, List, [], ◌∷◌, ◌++◌, length, Option, Some, None, refl, sym, ap, subst, ◌∙◌}
+use Rattle.std.specs.Prelude.{Result, Ok, Err, IsErr, IsErrAnd, is_err}
+use Rattle.std.specs.Option.{option_map_or}
 use Rattle.std.proofs.lemmas.List.{length-append}
 use Rattle.std.proofs.lemmas.Result.{err_from_is_err_and}
-use Rattle.omi_handle.specs.declared.handle.Kind.{Kind}
-use Rattle.omi_layout.specs.declared.field.Field.{Field}
-use Rattle.omi_layout.specs.Named.{number}
-use Rattle.omi_layout.specs.Table.{offset}
-use Rattle.omi_rep.specs.Look.{slot_at, life_of}
 use Rattle.omi_word.specs.Words.{Words}
+use Rattle.omi_calls.specs.Asked.{Asked, Wanted, Word, AsksWord, asked_after, listed_after, how_many}
 use Rattle.omi_calls.specs.Told.{Told}
 use Rattle.omi_session.specs.declared.rc.Rc.{Rc}
-use Rattle.omi_session.specs.declared.rc.Rc.TheVariants.{CallbackError, Error}
-use Rattle.omi_session.specs.Named.{record_kind}
-use Rattle.omi_session.specs.Inquiry.{place_of, word_of, object, lead}
+use Rattle.omi_session.specs.declared.rc.Rc.TheVariants.{CallbackError}
 use Rattle.omi_session.specs.Opened.{Opened}
-use Rattle.omi_session.specs.Reads.{ReadsOr, Reads, Answer, Read, answer_on, addresses_on, after, then_reads, IsAnswer, ReadsAtMost, Answers}
+use Rattle.omi_session.specs.Reads.{ReadsOr, Reads, Answer, Read, answer_on, addresses_on, after, then_reads, Ran, IsAnswer, ReadsAtMost, Answers}
 use Rattle.omi_session.specs.Tells.{Tells}
 use Rattle.omi_session.proofs.Told.{still_tells}
 
@@ -35,43 +29,81 @@ addresses_then memory (Answer result) more = refl
 addresses_then memory (Read addr next) more =
     ap (λ addresses. addr ∷ addresses) (addresses_then memory (next (memory addr)) more)
 
--- how many words they read
-count_then : {E A B : Type 0} (memory : Words) (reads : ReadsOr E A) (more : A → ReadsOr E B)
-    → length (addresses_on memory (then_reads reads more)) ≡ length (addresses_on memory reads) + length (addresses_on memory (after (answer_on memory reads) more))
-count_then memory reads more =
-    ap length (addresses_then memory reads more)
-    ∙ length-append (addresses_on memory reads) (addresses_on memory (after (answer_on memory reads) more))
+-- ---- what is listed
 
-module _ {C F : Type 0} (told : C → Told) (asked : C → ℕ) (s t : Opened C F) where
-  -- the words of the first part are among those of both
-  pub most_first : {E A B : Type 0} (reads : ReadsOr E A) (more : A → ReadsOr E B)
-      → ReadsAtMost told asked s t reads → ReadsAtMost told asked s t (then_reads reads more)
-  most_first reads more first =
-      λ memory tells. omega (arith, first memory tells, count_then memory reads more)
+more_listed : (wanted : Wanted) (listed : Option (List Wanted))
+    → option_map_or length (listed_after wanted listed) 0 ≤ option_map_or length listed 0 + 1
+more_listed wanted None = omega arith
+more_listed wanted (Some before) = omega (arith, length-append before (wanted ∷ []))
 
-  -- the first part answered this, and the rest reads what follows it
-  pub most_then : {E A B : Type 0} (u : Opened C F) (reads : ReadsOr E A) (more : A → ReadsOr E B) (x : A)
-      → told t.table.calls ≡ told s.table.calls
-      → ((memory : Words) → Tells (told s.table.calls) memory → answer_on memory reads ≡ Ok x)
-      → ReadsAtMost told asked s t reads → ReadsAtMost told asked t u (more x) → ReadsAtMost told asked s u (then_reads reads more)
-  most_then u reads more x same is first rest = λ memory tells.
-      let second = rest memory (still_tells (told s.table.calls) (told t.table.calls) memory same tells) in
-      let count =
-      count_then memory reads more
-      ∙ ap (λ r. length (addresses_on memory reads) + length (addresses_on memory (after r more)))
-      (is memory tells) in
-      omega (arith, first memory tells, second, count)
+-- ---- reads over a memory
 
-module _ {C F : Type 0} {told : C → Told} {asked : C → ℕ} {s t : Opened C F} where
+module _ {E : Type 0} (told : Told) (memory : Words) (failed : E) where
+  -- the first reads answered this, and those that depend on it were made
+  pub ran_then : {A B : Type 0} (reads : ReadsOr E A) (more : A → ReadsOr E B) (before mid now : Asked) (x : A) (result : Result B E)
+      → Ran told memory failed reads before mid (Ok x) → Ran told memory failed (more x) mid now result
+      → Ran told memory failed (then_reads reads more) before now result
+  unfolding then_reads
+  ran_then (Answer answer) more before mid now x result first rest =
+      subst (λ a. Ran told memory failed (after a more) before now result) first.1
+      (subst (λ m. Ran told memory failed (more x) m now result) first.0 rest)
+  ran_then (Read addr next) more before mid now x result (inl fails) rest = absurd (let is = fails.2 in cc)
+  ran_then (Read addr next) more before mid now x result (inr goes) rest =
+      inr (goes.0, ran_then (next (memory addr)) more (asked_after (Word addr) before) mid now x result goes.1 rest)
+
+  -- or they were refused
+  pub ran_refused : {A B : Type 0} (reads : ReadsOr E A) (more : A → ReadsOr E B) (before now : Asked) (e : E)
+      → Ran told memory failed reads before now (Err e) → Ran told memory failed (then_reads reads more) before now (Err e)
+  unfolding then_reads
+  ran_refused (Answer answer) more before now e first =
+      subst (λ a. Ran told memory failed (after a more) before now (Err e)) first.1 (first.0, refl)
+  ran_refused (Read addr next) more before now e (inl fails) =
+      let same : e ≡ failed = (let is = fails.2 in cc) in inl (fails.0, fails.1, ap Err same)
+  ran_refused (Read addr next) more before now e (inr goes) =
+      inr (goes.0, ran_refused (next (memory addr)) more (asked_after (Word addr) before) now e goes.1)
+
+  -- unless a read failed, the result is the answer
+  pub ran_is : {A : Type 0} (reads : ReadsOr E A) (before now : Asked) (result : Result A E)
+      → Ran told memory failed reads before now result → result ≢ Err failed → result ≡ answer_on memory reads
+  ran_is (Answer answer) before now result ran ne = ran.1
+  ran_is (Read addr more) before now result (inl fails) ne = absurd (ne fails.2)
+  ran_is (Read addr more) before now result (inr goes) ne =
+      ran_is (more (memory addr)) (asked_after (Word addr) before) now result goes.1 ne
+
+  -- no more words were asked for than are read
+  pub ran_most : {A : Type 0} (reads : ReadsOr E A) (before now : Asked) (result : Result A E)
+      → Ran told memory failed reads before now result
+      → how_many now ≤ how_many before + length (addresses_on memory reads)
+  ran_most (Answer answer) before now result ran = omega (arith, ap how_many ran.0)
+  ran_most (Read addr more) before now result (inl fails) =
+      omega (arith, ap how_many fails.1, more_listed (Word addr) before.listed)
+  ran_most (Read addr more) before now result (inr goes) =
+      omega (
+        arith,
+        ran_most (more (memory addr)) (asked_after (Word addr) before) now result goes.1,
+        more_listed (Word addr) before.listed,
+      )
+
+-- ---- calls of a session
+
+module _ {C F : Type 0} {told : C → Told} {asked : C → Asked} {s t : Opened C F} where
+  -- unless a callback failed, the result is the answer on the words that are told
+  pub answers_is : {A : Type 0} {reads : Reads A} {result : Result A Rc} → Answers told asked s t result reads
+      → IsAnswer (told s.table.calls) result reads
+  answers_is {reads = reads} {result = result} answers = λ memory tells ne.
+      ran_is (told s.table.calls) memory CallbackError reads (asked s.table.calls) (asked t.table.calls) result (answers.ran memory tells) ne
+
+  pub answers_most : {A : Type 0} {reads : Reads A} {result : Result A Rc} → Answers told asked s t result reads
+      → ReadsAtMost told asked s t reads
+  answers_most {reads = reads} {result = result} answers = λ memory tells.
+      ran_most (told s.table.calls) memory CallbackError reads (asked s.table.calls) (asked t.table.calls) result (answers.ran memory tells)
+
   -- the first part was refused
   pub asked_refused : {A B : Type 0} {reads : Reads A} {rc : Rc} (more : A → Reads B)
       → Answers told asked s t (Err rc) reads → Answers told asked s t (Err rc) (then_reads reads more)
   asked_refused {reads = reads} {rc = rc} more first = record {
-    is = λ memory tells ne.
-        let known : Err rc ≡ answer_on memory reads =
-        first.is memory tells (λ e. ne (let same : rc ≡ CallbackError = cc in ap Err same)) in
-        ap (λ r. answer_on memory (after r more)) known ∙ sym (answer_then memory reads more);
-    most = most_first told asked s t reads more first.most;
+    ran = λ memory tells.
+        ran_refused (told s.table.calls) memory CallbackError reads more (asked s.table.calls) (asked t.table.calls) rc (first.ran memory tells);
   }
 
   -- the first part was refused, and the call with it
@@ -94,22 +126,38 @@ module _ {C F : Type 0} {told : C → Told} {asked : C → ℕ} {s t : Opened C 
   asked_false {other = other} {result = result} taken is h =
       subst (λ test. Answers told asked s t result (cond test taken other)) (sym is) h
 
-  -- one read was made, which failed or answered
-  pub asked_once : {A : Type 0} {result : Result A Rc} {addr : ℕ} {more : Option ℕ → Reads A}
-      → IsAnswer (told s.table.calls) result (Read addr more) → asked t.table.calls ≤ asked s.table.calls + 1 → Answers told asked s t result (Read addr more)
-  asked_once is one = record { is = is; most = λ memory tells. omega (arith, one) }
+  -- one word was read, which decides
+  pub asked_once : {A Failed : Type 0} {result : Result A Rc} {addr : ℕ} {last : Option ℕ → Result A Rc} (place : ℕ)
+      → place ≡ addr → AsksWord (told s.table.calls) place (asked s.table.calls) (asked t.table.calls) Failed
+      → ¬ Failed → ((memory : Words) → Tells (told s.table.calls) memory → result ≡ last (memory addr))
+      → Answers told asked s t result (Read addr (λ word. Answer (last word)))
+  asked_once {Failed = Failed} {addr = addr} place is asks worked answers = record {
+    ran = λ memory tells.
+        let here = (subst (λ a. AsksWord (told s.table.calls) a (asked s.table.calls) (asked t.table.calls) Failed) is asks).answered worked in
+        inr (here.0, (here.1, answers memory tells));
+  }
 
-module _ {C F : Type 0} {told : C → Told} {asked : C → ℕ} {s u : Opened C F} (t : Opened C F) where
+  -- or the read failed
+  pub asked_failed : {A Failed : Type 0} {addr : ℕ} {more : Option ℕ → Reads A} (place : ℕ)
+      → place ≡ addr → AsksWord (told s.table.calls) place (asked s.table.calls) (asked t.table.calls) Failed
+      → Failed → Answers told asked s t (Err CallbackError) (Read addr more)
+  asked_failed {Failed = Failed} {addr = addr} place is asks failed = record {
+    ran = λ memory tells.
+        let here = (subst (λ a. AsksWord (told s.table.calls) a (asked s.table.calls) (asked t.table.calls) Failed) is asks).failed failed in
+        inl (here.0, here.1, refl);
+  }
+
+module _ {C F : Type 0} {told : C → Told} {asked : C → Asked} {s u : Opened C F} (t : Opened C F) where
   -- the first part answered this, and the rest what follows it
   pub asked_then : {A B : Type 0} {reads : Reads A} {result : Result B Rc} (more : A → Reads B) (x : A)
       → told t.table.calls ≡ told s.table.calls
       → Answers told asked s t (Ok x) reads → Answers told asked t u result (more x) → Answers told asked s u result (then_reads reads more)
-  asked_then {reads = reads} more x same first rest = record {
-    is = λ memory tells ne.
-        rest.is memory (still_tells (told s.table.calls) (told t.table.calls) memory same tells) ne
-        ∙ ap (λ r. answer_on memory (after r more)) (first.is memory tells (λ e. (cc)))
-        ∙ sym (answer_then memory reads more);
-    most = most_then told asked s t u reads more x same (λ memory tells. sym (first.is memory tells (λ e. (cc)))) first.most rest.most;
+  asked_then {reads = reads} {result = result} more x same first rest = record {
+    ran = λ memory tells.
+        let second =
+        subst (λ now. Ran now memory CallbackError (more x) (asked t.table.calls) (asked u.table.calls) result) same
+        (rest.ran memory (still_tells (told s.table.calls) (told t.table.calls) memory same tells)) in
+        ran_then (told s.table.calls) memory CallbackError reads more (asked s.table.calls) (asked t.table.calls) (asked u.table.calls) x result (first.ran memory tells) second;
   }
 
   -- the first part answered this, and left the layout, so the rest is asked in the same
@@ -121,41 +169,10 @@ module _ {C F : Type 0} {told : C → Told} {asked : C → ℕ} {s u : Opened C 
       (subst (λ l. Answers told asked t u result (more l x)) layout rest)
 
 -- nothing more was read
-pub asked_answer : {A C F : Type 0} {told : C → Told} {asked : C → ℕ} {s : Opened C F} {result answer : Result A Rc}
+pub asked_answer : {A C F : Type 0} {told : C → Told} {asked : C → Asked} {s : Opened C F} {result answer : Result A Rc}
     → result ≡ answer → Answers told asked s s result (Answer answer)
-asked_answer is = record { is = λ memory tells ne. is; most = λ memory tells. omega arith }
+asked_answer is = record { ran = λ memory tells. (refl, is) }
 
-module _ (w : List ℕ) (memory : Words) where
-  -- the word that was found is the field's
-  pub word_found : (address : ℕ) (f : Field) (at place : ℕ) (found : Option ℕ) → found ≡ memory place
-      → place ≡ place_of w address f at
-      → ok_or found (Error address (number f)) ≡ answer_on memory (word_of w address f at)
-  unfolding word_of
-  word_found address f at place found is there =
-      ap (λ o. ok_or o (Error address (number f))) (is ∙ ap memory there)
-
-  -- no record begins where the pointer leads
-  pub lead_nowhere : (kind : Kind) (f : Field) (pointer : ℕ)
-      → is_some (slot_at w (record_kind kind) pointer) ≡ false
-      → Err (Error pointer (number f)) ≡ answer_on memory (lead w kind f pointer)
-  unfolding lead
-  lead_nowhere kind f pointer none = rw none refl
-
-  -- one does, and its life word was looked for
-  pub lead_somewhere : (kind : Kind) (f : Field) (pointer front : ℕ) (found : Option ℕ)
-      → is_some (slot_at w (record_kind kind) pointer) ≡ true
-      → front ≡ offset w (number (life_of (record_kind kind))) → found ≡ memory (pointer + 8 * front)
-      → ok_or (option_and_then (object kind pointer) found) (Error pointer (number f)) ≡ answer_on memory (lead w kind f pointer)
-  unfolding lead
-  lead_somewhere kind f pointer front found some first is =
-      let place : pointer + 8 * front ≡ place_of w pointer (life_of (record_kind kind)) 0 =
-      omega (arith, first) in
-      rw some
-      (ap (λ o. ok_or (option_and_then (object kind pointer) o) (Error pointer (number f))) (is ∙ ap memory place))
-
-  -- then one word is read
-  pub lead_once : (kind : Kind) (f : Field) (pointer : ℕ)
-      → is_some (slot_at w (record_kind kind) pointer) ≡ true
-      → length (addresses_on memory (lead w kind f pointer)) ≡ 1
-  unfolding lead
-  lead_once kind f pointer some = rw some refl
+-- a call that answered didn't fail, and one that didn't answer failed
+pub worked : {A E : Type 0} {r : Result A E} {x : A} → r ≡ Ok x → ¬ IsErr r
+worked {r = r} is failed = let clash : false ≡ true = sym (ap is_err is) ∙ failed in absurd (cc)

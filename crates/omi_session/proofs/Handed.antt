@@ -1,6 +1,7 @@
 -- What becomes of an object that an inquiry found, or of its refusal, when a handle of it is to be made.
 use Rattle.std.proofs.Common.{◌≡◌, ◌≢◌, ℕ, List, refl, sym, ap, subst, ◌∙◌}
 use Rattle.std.specs.Prelude.{Result, Ok, Err, IfOk, IsOk}
+use Rattle.omi_calls.specs.Asked.{Asked}
 use Rattle.omi_calls.specs.Told.{Told}
 use Rattle.omi_handle.specs.declared.handle.Kind.{Kind}
 use Rattle.omi_handle.specs.declared.handle.Held.{Held}
@@ -9,8 +10,9 @@ use Rattle.omi_session.specs.declared.rc.Rc.{Rc}
 use Rattle.omi_session.specs.declared.rc.Rc.TheVariants.{NoMem, CallbackError}
 use Rattle.omi_session.specs.Named.{IsOfKind}
 use Rattle.omi_session.specs.Opened.{Opened}
-use Rattle.omi_session.specs.Reads.{Reads, answer_on, IsAnswer, Answers}
-use Rattle.omi_session.specs.Made.{IsHanded, Makes, IsMade, IsMadeOf, Answered, as_pair}
+use Rattle.omi_session.specs.Reads.{Reads, Ran, ReadsAtMost, answer_on, IsAnswer, Answers}
+use Rattle.omi_session.specs.Made.{IsHanded, Makes, IsMade, IsMadeOf, StandsFor, Answered, as_pair}
+use Rattle.omi_session.proofs.Asked.{ran_is, ran_most}
 
 -- the handles are those of a call that makes one
 pub handed_makes : (w : List ℕ) (kind : Kind) (old new : Ledger) (found : Result Held Rc) (r : Result (ℕ × ℕ) Rc)
@@ -46,14 +48,57 @@ handed_is told old new (Err rc) (Err why) reads free answers h' = λ memory t.
     subst (λ c. IsMade new (Err c) (answer_on memory reads)) (sym h'.is)
     (refused_as new rc (answer_on memory reads) (λ e. free (ap Err e)) (λ ne. sym (answers memory t (λ e. ne (let same : rc ≡ CallbackError = cc in same)))))
 
+refused_so : (new : Ledger) (rc why : Rc) → rc ≢ NoMem → why ≡ rc → StandsFor new (Err why) (Err rc)
+refused_so new rc NoMem free same = absurd (free (sym same))
+refused_so new rc why free same = ap Err (sym same)
+
+stands_for : (old new : Ledger) (found : Result Held Rc) (r : Result (ℕ × ℕ) Rc)
+    → found ≢ Err NoMem → IsHanded old new found r → StandsFor new r found
+stands_for old new (Ok h) (Ok pair) free h' = record { object = h; is = refl; held = h'.found }
+stands_for old new (Ok h) (Err rc) free h' = subst (λ c. StandsFor new (Err c) (Ok h)) (sym h'.is) refl
+stands_for old new (Err rc) (Ok pair) free h' = absurd h'
+stands_for old new (Err rc) (Err why) free h' = refused_so new rc why (λ e. free (ap Err e)) h'.is
+
 -- and no word is read when it is made
-pub handed_answered : {C F : Type 0} (told : C → Told) (asked : C → ℕ) (s t u : Opened C F) (found : Result Held Rc) (r : Result (ℕ × ℕ) Rc) (reads : Reads Held)
+pub handed_answered : {C F : Type 0} (told : C → Told) (asked : C → Asked) (s t u : Opened C F) (found : Result Held Rc) (r : Result (ℕ × ℕ) Rc) (reads : Reads Held)
     → found ≢ Err NoMem
     → Answers told asked s t found reads → IsHanded t.handles u.handles found r → u.table ≡ t.table → Answered told asked s u r reads
 handed_answered told asked s t u found r reads free answers handed table = record {
-  is = handed_is (told s.table.calls) t.handles u.handles found r reads free answers.is handed;
-  most = λ memory tells. rw (ap (λ k. asked k.calls) table) (answers.most memory tells);
+  ran = λ memory tells. record {
+    found = found;
+    ran =
+        subst (λ now. Ran (told s.table.calls) memory CallbackError reads (asked s.table.calls) now found)
+        (ap (λ k. asked k.calls) (sym table)) (answers.ran memory tells);
+    stands = stands_for t.handles u.handles found r free handed;
+  };
 }
+
+-- the handle stands for what the reads answer, unless a callback failed
+stands_made : (new : Ledger) (r : Result (ℕ × ℕ) Rc) (found answer : Result Held Rc) → StandsFor new r found
+    → (found ≢ Err CallbackError → found ≡ answer) → IsMade new r answer
+stands_made new (Ok pair) found answer stands same = record {
+  object = stands.object;
+  answers = sym (same (λ e. (let is = stands.is in cc))) ∙ stands.is;
+  found = stands.held;
+}
+stands_made new (Err NoMem) found answer stands same =
+    subst (λ (o : Result Held Rc). IsOk o) (same (λ e. (let clash = subst (λ (o : Result Held Rc). IsOk o) e stands in cc))) stands
+stands_made new (Err CallbackError) found answer stands same = tt
+stands_made new (Err rc) found answer stands same =
+    sym (same (λ e. (let is = stands in cc))) ∙ stands
+
+pub answered_is : {C F : Type 0} {told : C → Told} {asked : C → Asked} {s t : Opened C F} {r : Result (ℕ × ℕ) Rc} {reads : Reads Held}
+    → Answered told asked s t r reads → IsMadeOf (told s.table.calls) t.handles r reads
+answered_is {told = told} {asked = asked} {s = s} {t = t} {r = r} {reads = reads} answered = λ memory tells.
+    let by = answered.ran memory tells in
+    stands_made t.handles r by.found (answer_on memory reads) by.stands (λ ne.
+    ran_is (told s.table.calls) memory CallbackError reads (asked s.table.calls) (asked t.table.calls) by.found by.ran ne)
+
+pub answered_most : {C F : Type 0} {told : C → Told} {asked : C → Asked} {s t : Opened C F} {r : Result (ℕ × ℕ) Rc} {reads : Reads Held}
+    → Answered told asked s t r reads → ReadsAtMost told asked s t reads
+answered_most {told = told} {asked = asked} {s = s} {t = t} {reads = reads} answered = λ memory tells.
+    let by = answered.ran memory tells in
+    ran_most (told s.table.calls) memory CallbackError reads (asked s.table.calls) (asked t.table.calls) by.found by.ran
 
 -- a callback failed in the inquiry where one failed in the call
 pub handed_cause : {H : Type 0} (pair : H → ℕ × ℕ) (old new : Ledger) (found : Result Held Rc) (r : Result H Rc)

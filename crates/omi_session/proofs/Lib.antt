@@ -4,6 +4,7 @@ pub mod StillNamed
 pub mod Slots
 pub mod Asked
 pub mod Handed
+pub mod OpeningReads
 pub mod LookedLaws
 pub mod ShownParts
 pub mod ShownAnswers

@@ -2,6 +2,7 @@
 use Rattle.std.specs.Prelude.{◌≡◌, ℕ, ◌+◌, Some, None, Result, Ok, Err, IsOk}
 use Rattle.std.specs.FinMap.{get, insert}
 use Rattle.omi_word.specs.Words.{Words}
+use Rattle.omi_calls.specs.Asked.{Asked}
 use Rattle.omi_calls.specs.Told.{Told}
 use Rattle.omi_handle.specs.declared.handle.Kind.{Kind}
 use Rattle.omi_handle.specs.declared.handle.Held.{Held}
@@ -13,7 +14,7 @@ use Rattle.omi_session.specs.declared.rc.Rc.{Rc}
 use Rattle.omi_session.specs.declared.rc.Rc.TheVariants.{NoMem, CallbackError}
 use Rattle.omi_session.specs.Tells.{Tells}
 use Rattle.omi_session.specs.Opened.{Opened}
-use Rattle.omi_session.specs.Reads.{Reads, ReadsAtMost, answer_on}
+use Rattle.omi_session.specs.Reads.{Reads, Ran, answer_on}
 
 -- the pair of key and serial of a handle
 abbrev pub thread_pair : ThreadHandle → ℕ × ℕ
@@ -63,11 +64,26 @@ abbrev pub IsMadeOf : Told → Ledger → Result (ℕ × ℕ) Rc → Reads Held 
 IsMadeOf told new result reads = (memory : Words) → Tells told memory
     → IsMade new result (answer_on memory reads)
 
--- a call of a session makes a handle of the object that these reads answer, and asks for no other words
-pub record Answered {C F : Type 0} (told : C → Told) (asked : C → ℕ) (old new : Opened C F)
+-- the handle stands for the object that was found, or the call is refused as the search was. Where memory ran out, one was found
+abbrev pub StandsFor : Ledger → Result (ℕ × ℕ) Rc → Result Held Rc → Type 0
+StandsFor new (Ok pair) found =
+    record { object : Held; is : found ≡ Ok object; held : get new.held pair ≡ Some object }
+StandsFor new (Err NoMem) found = IsOk found
+StandsFor new (Err rc) found = found ≡ Err rc
+
+-- these reads found an object, or were refused, and the handle stands for it
+pub record IsFoundBy {C F : Type 0} (told : C → Told) (asked : C → Asked) (memory : Words) (old new : Opened C F)
     (result : Result (ℕ × ℕ) Rc) (reads : Reads Held) : Type 0 where
-  pub is : IsMadeOf (told old.table.calls) new.handles result reads
-  pub most : ReadsAtMost told asked old new reads
+  pub found : Result Held Rc
+  pub ran : Ran (told old.table.calls) memory CallbackError reads (asked old.table.calls)
+      (asked new.table.calls) found
+  pub stands : StandsFor new.handles result found
+
+-- a call of a session makes a handle of the object that these reads find on the words that are told
+pub record Answered {C F : Type 0} (told : C → Told) (asked : C → Asked) (old new : Opened C F)
+    (result : Result (ℕ × ℕ) Rc) (reads : Reads Held) : Type 0 where
+  pub ran : (memory : Words) → Tells (told old.table.calls) memory
+      → IsFoundBy told asked memory old new result reads
 
 -- what becomes of an object that was found, or of the refusal
 abbrev pub IsHanded : Ledger → Ledger → Result Held Rc → Result (ℕ × ℕ) Rc → Type 0

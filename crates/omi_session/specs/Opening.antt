@@ -1,17 +1,24 @@
 -- When a session opens over the words of a target, and why it doesn't.
-use Rattle.std.specs.Prelude.{◌≡◌, ◌≢◌, ◌⊎◌, ℕ, ◌+◌, ◌<◌, ◌≤◌, List, None, IsSome}
+use Rattle.std.specs.Prelude.{◌≡◌, ◌≢◌, ◌⊎◌, ◌↔◌, ℕ, zero, suc, ◌<◌, List, [], ◌∷◌, ◌++◌, length, Option, Some, None, Result, Ok, Err, IsSome, codes}
+use Rattle.std.specs.Option.{ok_or}
+use Rattle.omi_calls.specs.Asked.{Asked, Symbol, asked_after}
 use Rattle.omi_calls.specs.Kept.{Kept}
+use Rattle.omi_calls.specs.Memory.{usual_sizes}
+use Rattle.omi_calls.specs.Told.{Told}
 use Rattle.omi_layout.specs.declared.fault.LayoutFault.{LayoutFault}
 use Rattle.omi_layout.specs.declared.fault.LayoutFault.TheVariants.{Version, Overlap, OutOfRecord, BadArena}
 use Rattle.omi_layout.specs.declared.reading.LayoutError.{LayoutError}
 use Rattle.omi_layout.specs.declared.reading.LayoutError.TheVariants.{NoSymbol, Unmapped, Refused}
 use Rattle.omi_layout.specs.declared.limits.TheConstants.{TABLE_WORDS}
+use Rattle.omi_word.specs.SymbolTable.{symbol_in}
 use Rattle.omi_word.specs.Words.{Words}
 use Rattle.omi_layout.specs.Given.{GivesLayout}
 use Rattle.omi_layout.specs.NoLayout.{GivesNone, table_address}
 use Rattle.omi_layout.specs.Valid.{IsValid}
 use Rattle.omi_session.specs.declared.rc.Rc.{Rc}
 use Rattle.omi_session.specs.declared.rc.Rc.TheVariants.{Error, Incompatible, CallbackError}
+use Rattle.omi_session.specs.Reads.{Reads, Answer, Read, Ran, after}
+use Rattle.omi_session.specs.Tells.{Tells}
 
 -- the code for a layout table with this fault, which names the word at an address
 abbrev pub fault_code : ℕ → LayoutFault → Rc
@@ -69,6 +76,35 @@ StopsAt memory address (Error addr field) = IsHole memory address addr × (field
 StopsAt memory address CallbackError = Unit {0}
 StopsAt memory address _ = ⊥
 
--- a call that opens asks for one symbol, and for the words of the table, at most
-abbrev pub OpensWithin : {C F : Type 0} → (C → ℕ) → Kept C F → Kept C F → Type 0
-OpensWithin asked old new = asked new.calls ≤ asked old.calls + (1 + TABLE_WORDS)
+-- the next n words of the table at this address, behind these: in rising order, and the first that isn't mapped ends them
+unfoldable pub words_behind : ℕ → ℕ → List ℕ → Reads (List ℕ)
+words_behind address zero words = Answer (Ok words)
+words_behind address (suc n) words =
+    Read (table_address address (length words)) (λ found.
+    after (ok_or found (Error (table_address address (length words)) 0)) (λ word.
+    words_behind address n (words ++ (word ∷ []))))
+
+-- all of them, where there is a table
+abbrev pub table_words : Option ℕ → Reads (List ℕ)
+table_words None = Answer (Err Incompatible)
+table_words (Some address) = words_behind address TABLE_WORDS []
+
+module _ (told : Told) (memory : Words) (before now : Asked) where
+  -- the symbol was looked up, and then the words of the table were read at its address
+  abbrev pub RanOpening : Result (List ℕ) Rc → Type 0
+  RanOpening found =
+      ((now ≡ asked_after (Symbol (codes "omi_layout")) before) × (found ≡ Err CallbackError))
+      ⊎ Ran told memory CallbackError (table_words (symbol_in memory (codes "omi_layout")))
+      (asked_after (Symbol (codes "omi_layout")) before) now found
+
+  -- so it was in a call that failed exactly where one of these did
+  pub record IsOpening (Failed : Type 0) : Type 0 where
+    pub found : Result (List ℕ) Rc
+    pub ran : RanOpening found
+    pub failed : Failed ↔ (found ≡ Err CallbackError)
+
+-- what a call that opens asks for: nothing where the sizes of the basic types are others, and else the symbol and the words of its table
+pub record Opens {C F : Type 0} (told : C → Told) (asked : C → Asked) (old new : Kept C F) (Failed : Type 0) : Type 0 where
+  pub others : (told old.calls).sizes ≢ usual_sizes → asked new.calls ≡ asked old.calls
+  pub usual : (memory : Words) → Tells (told old.calls) memory → (told old.calls).sizes ≡ usual_sizes
+      → IsOpening (told old.calls) memory (asked old.calls) (asked new.calls) Failed

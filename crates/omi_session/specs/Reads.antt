@@ -1,7 +1,8 @@
 -- An inquiry by the words that it reads: each read names an address, and what follows depends on the word found there, or on that none
 -- is mapped there. So one definition says what is answered, which words are read, and which refusal decides.
-use Rattle.std.specs.Prelude.{◌≡◌, ◌≢◌, ℕ, ◌+◌, ◌≤◌, List, [], ◌∷◌, length, Option, Result, Ok, Err}
+use Rattle.std.specs.Prelude.{◌≡◌, ◌≢◌, ◌⊎◌, ℕ, ◌+◌, ◌≤◌, List, [], ◌∷◌, length, Option, Result, Ok, Err}
 use Rattle.omi_word.specs.Words.{Words}
+use Rattle.omi_calls.specs.Asked.{Asked, Word, MayFail, MayAnswer, asked_after, missed_after, how_many}
 use Rattle.omi_calls.specs.Told.{Told}
 use Rattle.omi_session.specs.declared.rc.Rc.{Rc}
 use Rattle.omi_session.specs.declared.rc.Rc.TheVariants.{CallbackError}
@@ -44,14 +45,32 @@ abbrev pub IsAnswer : {A : Type 0} → Told → Result A Rc → Reads A → Type
 IsAnswer told result reads = (memory : Words) → Tells told memory → result ≢ Err CallbackError
     → result ≡ answer_on memory reads
 
+module _ {E : Type 0} (told : Told) (memory : Words) where
+  -- these reads were made over a memory: what was asked for before and then, and the result. A read that fails is the last, and refused with
+  -- this; one that is answered is followed by those that depend on its word
+  abbrev pub Ran : {A : Type 0} → E → ReadsOr E A → Asked → Asked → Result A E → Type 0
+  Ran failed (Answer answer) before now result = (now ≡ before) × (result ≡ answer)
+  Ran failed (Read addr more) before now result =
+      (MayFail told addr × (now ≡ missed_after addr before) × (result ≡ Err failed))
+      ⊎ (MayAnswer told addr × Ran failed (more (memory addr)) (asked_after (Word addr) before) now result)
+
+  -- some of them were made, from the first on, or all, and each was answered
+  abbrev pub RanSome : {A : Type 0} → ReadsOr E A → Asked → Asked → Type 0
+  RanSome (Answer answer) before now = now ≡ before
+  RanSome (Read addr more) before now =
+      (now ≡ before)
+      ⊎ (MayAnswer told addr × RanSome (more (memory addr)) (asked_after (Word addr) before) now)
+
+-- a call of a session is these reads on the words that are told: its result, what it asks for, and the read that fails, if one does
+pub record Answers {A C F : Type 0} (told : C → Told) (asked : C → Asked) (old new : Opened C F)
+    (result : Result A Rc) (reads : Reads A) : Type 0 where
+  pub ran : (memory : Words) → Tells (told old.table.calls) memory
+      → Ran (told old.table.calls) memory CallbackError reads (asked old.table.calls)
+      (asked new.table.calls) result
+
 -- a call asked for no more words than these reads do on the words that are told
-abbrev pub ReadsAtMost : {E A C F : Type 0} → (C → Told) → (C → ℕ) → Opened C F → Opened C F
+abbrev pub ReadsAtMost : {E A C F : Type 0} → (C → Told) → (C → Asked) → Opened C F → Opened C F
     → ReadsOr E A → Type 0
 ReadsAtMost told asked old new reads = (memory : Words) → Tells (told old.table.calls) memory
-    → asked new.table.calls ≤ asked old.table.calls + length (addresses_on memory reads)
-
--- a call of a session answers these reads, and asks for no other words
-pub record Answers {A C F : Type 0} (told : C → Told) (asked : C → ℕ) (old new : Opened C F)
-    (result : Result A Rc) (reads : Reads A) : Type 0 where
-  pub is : IsAnswer (told old.table.calls) result reads
-  pub most : ReadsAtMost told asked old new reads
+    → how_many (asked new.table.calls)
+    ≤ how_many (asked old.table.calls) + length (addresses_on memory reads)

@@ -7,7 +7,7 @@ ghost use Rattle.omi_word.specs.Words.{Words};
 ghost use Rattle.omi_layout.specs.Given.{GivesLayout};
 ghost use Rattle.omi_session.specs.Tells.{Tells, KeepsTold};
 ghost use Rattle.omi_session.specs.Opened.{IsFresh};
-ghost use Rattle.omi_session.specs.Opening.{Refuses, IsRefusal, OpensWithin};
+ghost use Rattle.omi_session.specs.Opening.{Refuses, IsRefusal, Opens};
 
 use crate::opening::published;
 use crate::rc::Rc;
@@ -61,8 +61,8 @@ impl<C: Callbacks, F: ToHost> Library<C, F> {
         ensures refusals { IfErr result (λ back. IsRefusal back.0) }
         ensures same { MatchResult result (λ session. KeepsTold C.told self session.table)
             (λ back. KeepsTold C.told self back.1) }
-        ensures asked { MatchResult result (λ session. OpensWithin C.asked self session.table)
-            (λ back. OpensWithin C.asked self back.1) }
+        ensures asked { MatchResult result (λ session. Opens C.told C.asked self session.table ⊥)
+            (λ back. Opens C.told C.asked self back.1 (back.0 ≡ Rc.CallbackError)) }
         ensures cause { MatchResult result
             (λ session. HasCause (C.faults self.calls) (C.faults session.table.calls) ⊥)
             (λ back. HasCause (C.faults self.calls) (C.faults back.1.calls)

@@ -1,6 +1,6 @@
 //! The layout that the words of a target publish, read through a debugger's callbacks.
 
-ghost use Rattle.std.specs.Prelude.{◌≡◌, ◌≢◌, ◌<◌, ◌≤◌, ◌+◌, Some, MatchResult, IfErr, Err};
+ghost use Rattle.std.specs.Prelude.{◌≡◌, ◌≢◌, ◌<◌, Some, MatchResult, IfErr, Err, []};
 ghost use Rattle.omi_outside.specs.Outside.{HasCause};
 ghost use Rattle.omi_calls.specs.Memory.{usual_sizes};
 ghost use Rattle.omi_layout.specs.declared.limits.TheConstants.{TABLE_WORDS};
@@ -10,7 +10,9 @@ ghost use Rattle.omi_layout.specs.Given.{GivesLayout, wrapped};
 ghost use Rattle.omi_layout.specs.NoLayout.{table_address};
 ghost use Rattle.omi_layout.specs.Valid.{word_named};
 ghost use Rattle.omi_session.specs.Tells.{Tells, KeepsTold};
-ghost use Rattle.omi_session.specs.Opening.{Refuses, IsRefusal, StopsAt, OpensWithin, fault_code};
+ghost use Rattle.omi_session.specs.declared.rc.Rc.TheVariants.{CallbackError};
+ghost use Rattle.omi_session.specs.Opening.{Refuses, IsRefusal, StopsAt, Opens, words_behind, fault_code};
+ghost use Rattle.omi_session.specs.Reads.{Ran};
 
 use crate::rc::Rc;
 use omi_calls::{Callbacks, Place, Sizes, Table, ToHost};
@@ -50,7 +52,9 @@ fn read_table<C: Callbacks, F: ToHost>(
         (StopsAt memory address) }
     ensures refusals { IfErr result IsRefusal }
     ensures same { KeepsTold C.told table.old table.new }
-    ensures asked { C.asked table.new.calls ≤ C.asked table.old.calls + TABLE_WORDS }
+    ensures reads { (memory : Words) → Tells (C.told table.old.calls) memory
+        → Ran (C.told table.old.calls) memory CallbackError (words_behind address TABLE_WORDS [])
+        (C.asked table.old.calls) (C.asked table.new.calls) result }
     ensures cause { HasCause (C.faults table.old.calls) (C.faults table.new.calls)
         (result ≡ Err Rc.CallbackError) }
 {
@@ -76,7 +80,7 @@ pub fn published<C: Callbacks, F: ToHost>(table: &mut Table<C, F>) -> Result<Lay
         → MatchResult result (λ layout. GivesLayout memory layout.table) (Refuses memory) }
     ensures refusals { IfErr result IsRefusal }
     ensures same { KeepsTold C.told table.old table.new }
-    ensures asked { OpensWithin C.asked table.old table.new }
+    ensures asked { Opens C.told C.asked table.old table.new (result ≡ Err Rc.CallbackError) }
     ensures cause { HasCause (C.faults table.old.calls) (C.faults table.new.calls)
         (result ≡ Err Rc.CallbackError) }
 {

@@ -7,7 +7,7 @@ ghost use Rattle.omi_word.specs.Words.{Words};
 ghost use Rattle.omi_layout.specs.Given.{GivesLayout};
 ghost use Rattle.omi_session.specs.Tells.{Tells, KeepsTold};
 ghost use Rattle.omi_session.specs.Named.{AreNamed};
-ghost use Rattle.omi_session.specs.Opening.{RefusesOver, IsRefusal, OpensWithin};
+ghost use Rattle.omi_session.specs.Opening.{RefusesOver, IsRefusal, Opens};
 
 use crate::opening::published;
 use crate::rc::Rc;
@@ -67,8 +67,8 @@ impl Parted {
             (λ back. back.1.handles ≡ self.handles) }
         ensures same { MatchResult result (λ session. KeepsTold C.told t session.table)
             (λ back. KeepsTold C.told t back.2) }
-        ensures asked { MatchResult result (λ session. OpensWithin C.asked t session.table)
-            (λ back. OpensWithin C.asked t back.2) }
+        ensures asked { MatchResult result (λ session. Opens C.told C.asked t session.table ⊥)
+            (λ back. Opens C.told C.asked t back.2 (back.0 ≡ Rc.CallbackError)) }
         ensures cause { MatchResult result
             (λ session. HasCause (C.faults t.calls) (C.faults session.table.calls) ⊥)
             (λ back. HasCause (C.faults t.calls) (C.faults back.2.calls)

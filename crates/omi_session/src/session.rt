@@ -4,6 +4,7 @@ ghost use Rattle.std.specs.Prelude.{◌≡◌, ◌≢◌, ℕ, ◌+◌, ◌-◌,
 ghost use Rattle.std.specs.Bool.{OnFalse};
 ghost use Rattle.std.specs.FinMap.{get, insert, remove};
 ghost use Rattle.omi_outside.specs.Outside.{HasCause};
+ghost use Rattle.omi_calls.specs.Asked.{AsksWord};
 ghost use Rattle.omi_calls.specs.Told.{aligned_word_at};
 ghost use Rattle.omi_handle.specs.declared.handle.Held.{Held};
 ghost use Rattle.omi_word.specs.Words.{Words};
@@ -99,7 +100,8 @@ impl<C: Callbacks, F: ToHost> Session<C, F> {
         ensures mapped { (words rest : Words) → (C.told self.old.table.calls).words rest ≡ Some words
             → IfOk result (λ word. IsSome word ↔ IsSome (aligned_word_at words addr)) }
         ensures same { StaysWhole C.told self.old self.new }
-        ensures asked { C.asked self.new.table.calls ≤ C.asked self.old.table.calls + 1 }
+        ensures asked { AsksWord (C.told self.old.table.calls) addr (C.asked self.old.table.calls)
+            (C.asked self.new.table.calls) (IsErr result) }
         ensures cause { HasCause (C.faults self.old.table.calls) (C.faults self.new.table.calls)
             (IsErr result) }
     {

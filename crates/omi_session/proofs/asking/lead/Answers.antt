@@ -1,114 +1,111 @@
-use Rattle.std.proofs.Common.{◌≡◌, Bool, false, true, cond, Some, None, refl, sym, ap, ◌∙◌, arith}
-use Rattle.std.specs.Prelude.{Err, is_some}
+use Rattle.std.proofs.Common.{◌≡◌, ℕ, ◌+◌, ◌*◌, Bool, false, true, cond, List, Option, Some, None, refl, sym, ap, ◌∙◌, arith}
+use Rattle.std.specs.Prelude.{Result, Err, is_err, is_some}
 use Rattle.std.specs.Option.{option_and_then, ok_or}
+use Rattle.omi_word.specs.Words.{Words}
+use Rattle.omi_calls.specs.Asked.{Asked, AsksWord}
+use Rattle.omi_calls.specs.Told.{Told}
+use Rattle.omi_handle.specs.declared.handle.Held.{Held}
+use Rattle.omi_handle.specs.declared.handle.Kind.{Kind}
+use Rattle.omi_layout.specs.declared.field.Field.{Field}
 use Rattle.omi_layout.specs.Named.{number}
 use Rattle.omi_layout.specs.Table.{offset}
 use Rattle.omi_rep.specs.Look.{slot_at, life_of}
+use Rattle.omi_session.specs.declared.rc.Rc.{Rc}
 use Rattle.omi_session.specs.declared.rc.Rc.TheVariants.{Error}
 use Rattle.omi_session.specs.Named.{record_kind}
-use Rattle.omi_session.specs.Inquiry.{object}
-use Rattle.omi_session.proofs.Asked.{lead_nowhere, lead_somewhere, lead_once}
+use Rattle.omi_session.specs.Inquiry.{lead, object, place_of}
+use Rattle.omi_session.specs.Opened.{Opened}
+use Rattle.omi_session.specs.Reads.{Answers}
+use Rattle.omi_session.specs.Tells.{Tells}
+use Rattle.omi_session.proofs.Asked.{asked_answer, asked_failed, asked_false, asked_once, asked_true, worked}
 use Rattle.omi_session.proofs.asking.lead.Goals as goal
 
+-- a record begins where the pointer leads, and its life word was read
+lead_read : {C F Failed : Type 0} {told : C → Told} {asked : C → Asked} {s t : Opened C F} (w : List ℕ) (kind : Kind) (f : Field) (pointer front : ℕ)
+    (found : Option ℕ) (result : Result Held Rc) → is_some (slot_at w (record_kind kind) pointer) ≡ true
+    → front ≡ offset w (number (life_of (record_kind kind)))
+    → AsksWord (told s.table.calls) (pointer + 8 * front) (asked s.table.calls) (asked t.table.calls) Failed → ¬ Failed
+    → ((memory : Words) → Tells (told s.table.calls) memory → found ≡ memory (pointer + 8 * front))
+    → result ≡ ok_or (option_and_then (object kind pointer) found) (Error pointer (number f))
+    → Answers told asked s t result (lead w kind f pointer)
+unfolding lead
+lead_read w kind f pointer front found result some first asks here read is =
+    let place : pointer + 8 * front ≡ place_of w pointer (life_of (record_kind kind)) 0 = omega (arith, first) in
+    asked_true _ some (asked_once (pointer + 8 * front) place asks here (λ memory t.
+    is ∙ ap (λ o. ok_or (option_and_then (object kind pointer) o) (Error pointer (number f))) (read memory t ∙ ap memory place)))
+
 pub returns-then-not-is_place-clause-answer : goal.returns-then-not-is_place-clause-answer
-returns-then-not-is_place-clause-answer g c = record {
-  is = λ memory t ne.
-      let no : c.is_place.result ≡ false = grind arith in
-      ap (λ n. Err (Error c.args.pointer n)) c.number.ensures.value
-      ∙ lead_nowhere c.args.s.now.layout memory c.args.kind c.args.field c.args.pointer
-      (ap (λ w. is_some (slot_at w (record_kind c.args.kind) c.args.pointer)) (sym c.layout.ensures) ∙ sym c.is_place.ensures.value ∙ no);
-  most = λ memory t. omega arith;
-}
+unfolding lead
+returns-then-not-is_place-clause-answer g c =
+    let no : c.is_place.result ≡ false = grind arith in
+    asked_false _
+    (ap (λ w. is_some (slot_at w (record_kind c.args.kind) c.args.pointer)) (sym c.layout.ensures) ∙ sym c.is_place.ensures.value ∙ no)
+    (asked_answer (ap (λ n. Err (Error c.args.pointer n)) c.number.ensures.value))
 
 pub returns-in-Some-clause-answer : goal.returns-in-Some-clause-answer
-returns-in-Some-clause-answer g c = record {
-  is = λ memory t ne.
-      let some : c.is_place.result ≡ true = grind arith in
-      let front : c.from-front.result ≡ offset c.args.s.now.layout (number (life_of (record_kind c.args.kind))) =
-      c.from-front.ensures
-      ∙ c.offset.ensures
-      ∙
-      (λ i. offset (c.layout-2.ensures i) ((c.number-2.ensures.value ∙ ap number c.life_field.ensures) i)) in
-      ap
-      (λ (b : Bool). ok_or (cond b (Some (record { kind = c.args.kind; addr = c.args.pointer; life = c.in-Some.life })) None) (Error c.args.pointer (number c.args.field)))
-      (sym c.if-is_live.true ∙ c.is_live.ensures)
-      ∙ ap
-      (λ o. ok_or (option_and_then (object c.args.kind c.args.pointer) o) (Error c.args.pointer (number c.args.field)))
-      (sym c.in-Some.is)
-      ∙ lead_somewhere c.args.s.now.layout memory c.args.kind c.args.field c.args.pointer c.from-front.result c.in-Ok.found
-      (ap (λ w. is_some (slot_at w (record_kind c.args.kind) c.args.pointer)) (sym c.layout.ensures) ∙ sym c.is_place.ensures.value ∙ some) front (c.in-Ok.ensures.word memory t);
-  most = λ memory t.
-      let some : c.is_place.result ≡ true = grind arith in
-      omega (
-        arith,
-        c.peek.ensures.asked,
-        lead_once c.args.s.now.layout memory c.args.kind c.args.field c.args.pointer
-            (ap (λ w. is_some (slot_at w (record_kind c.args.kind) c.args.pointer)) (sym c.layout.ensures) ∙ sym c.is_place.ensures.value ∙ some),
-      );
-}
+returns-in-Some-clause-answer g c =
+    let some : c.is_place.result ≡ true = grind arith in
+    let front : c.from-front.result ≡ offset c.args.s.now.layout (number (life_of (record_kind c.args.kind))) =
+    c.from-front.ensures
+    ∙ c.offset.ensures
+    ∙
+    (λ i. offset (c.layout-2.ensures i) ((c.number-2.ensures.value ∙ ap number c.life_field.ensures) i)) in
+    lead_read c.args.s.now.layout c.args.kind c.args.field c.args.pointer c.from-front.result c.in-Ok.found _
+    (ap (λ w. is_some (slot_at w (record_kind c.args.kind) c.args.pointer)) (sym c.layout.ensures) ∙ sym c.is_place.ensures.value ∙ some)
+    front c.peek.ensures.asked (worked c.in-Ok.is) c.in-Ok.ensures.word
+    (ap
+    (λ (b : Bool). ok_or (cond b (Some (record { kind = c.args.kind; addr = c.args.pointer; life = c.in-Some.life })) None) (Error c.args.pointer (number c.args.field)))
+    (sym c.if-is_live.true ∙ c.is_live.ensures)
+    ∙ ap
+    (λ o. ok_or (option_and_then (object c.args.kind c.args.pointer) o) (Error c.args.pointer (number c.args.field)))
+    (sym c.in-Some.is))
 
 pub returns-in_default-found-clause-answer : goal.returns-in_default-found-clause-answer
-returns-in_default-found-clause-answer g c = record {
-  is = λ memory t ne.
-      let some : c.is_place.result ≡ true = grind arith in
-      let front : c.from-front.result ≡ offset c.args.s.now.layout (number (life_of (record_kind c.args.kind))) =
-      c.from-front.ensures
-      ∙ c.offset.ensures
-      ∙
-      (λ i. offset (c.layout-2.ensures i) ((c.number-2.ensures.value ∙ ap number c.life_field.ensures) i)) in
-      ap (λ n. Err (Error c.args.pointer n)) c.number.ensures.value
-      ∙ ap
-      (λ (b : Bool). ok_or (cond b (Some (record { kind = c.args.kind; addr = c.args.pointer; life = c.in-Some.life })) None) (Error c.args.pointer (number c.args.field)))
-      (sym c.if-is_live.false ∙ c.is_live.ensures)
-      ∙ ap
-      (λ o. ok_or (option_and_then (object c.args.kind c.args.pointer) o) (Error c.args.pointer (number c.args.field)))
-      (sym c.in-Some.is)
-      ∙ lead_somewhere c.args.s.now.layout memory c.args.kind c.args.field c.args.pointer c.from-front.result c.in-Ok.found
-      (ap (λ w. is_some (slot_at w (record_kind c.args.kind) c.args.pointer)) (sym c.layout.ensures) ∙ sym c.is_place.ensures.value ∙ some) front (c.in-Ok.ensures.word memory t);
-  most = λ memory t.
-      let some : c.is_place.result ≡ true = grind arith in
-      omega (
-        arith,
-        c.peek.ensures.asked,
-        lead_once c.args.s.now.layout memory c.args.kind c.args.field c.args.pointer
-            (ap (λ w. is_some (slot_at w (record_kind c.args.kind) c.args.pointer)) (sym c.layout.ensures) ∙ sym c.is_place.ensures.value ∙ some),
-      );
-}
+returns-in_default-found-clause-answer g c =
+    let some : c.is_place.result ≡ true = grind arith in
+    let front : c.from-front.result ≡ offset c.args.s.now.layout (number (life_of (record_kind c.args.kind))) =
+    c.from-front.ensures
+    ∙ c.offset.ensures
+    ∙
+    (λ i. offset (c.layout-2.ensures i) ((c.number-2.ensures.value ∙ ap number c.life_field.ensures) i)) in
+    lead_read c.args.s.now.layout c.args.kind c.args.field c.args.pointer c.from-front.result c.in-Ok.found _
+    (ap (λ w. is_some (slot_at w (record_kind c.args.kind) c.args.pointer)) (sym c.layout.ensures) ∙ sym c.is_place.ensures.value ∙ some)
+    front c.peek.ensures.asked (worked c.in-Ok.is) c.in-Ok.ensures.word
+    (ap (λ n. Err (Error c.args.pointer n)) c.number.ensures.value
+    ∙ ap
+    (λ (b : Bool). ok_or (cond b (Some (record { kind = c.args.kind; addr = c.args.pointer; life = c.in-Some.life })) None) (Error c.args.pointer (number c.args.field)))
+    (sym c.if-is_live.false ∙ c.is_live.ensures)
+    ∙ ap
+    (λ o. ok_or (option_and_then (object c.args.kind c.args.pointer) o) (Error c.args.pointer (number c.args.field)))
+    (sym c.in-Some.is))
 
 pub returns-in_default-found-2-clause-answer : goal.returns-in_default-found-2-clause-answer
-returns-in_default-found-2-clause-answer g c = record {
-  is = λ memory t ne.
-      let some : c.is_place.result ≡ true = grind arith in
-      let front : c.from-front.result ≡ offset c.args.s.now.layout (number (life_of (record_kind c.args.kind))) =
-      c.from-front.ensures
-      ∙ c.offset.ensures
-      ∙
-      (λ i. offset (c.layout-2.ensures i) ((c.number-2.ensures.value ∙ ap number c.life_field.ensures) i)) in
-      ap (λ n. Err (Error c.args.pointer n)) c.number.ensures.value
-      ∙ ap
-      (λ o. ok_or (option_and_then (object c.args.kind c.args.pointer) o) (Error c.args.pointer (number c.args.field)))
-      (sym c.in_default-found.is)
-      ∙ lead_somewhere c.args.s.now.layout memory c.args.kind c.args.field c.args.pointer c.from-front.result c.in-Ok.found
-      (ap (λ w. is_some (slot_at w (record_kind c.args.kind) c.args.pointer)) (sym c.layout.ensures) ∙ sym c.is_place.ensures.value ∙ some) front (c.in-Ok.ensures.word memory t);
-  most = λ memory t.
-      let some : c.is_place.result ≡ true = grind arith in
-      omega (
-        arith,
-        c.peek.ensures.asked,
-        lead_once c.args.s.now.layout memory c.args.kind c.args.field c.args.pointer
-            (ap (λ w. is_some (slot_at w (record_kind c.args.kind) c.args.pointer)) (sym c.layout.ensures) ∙ sym c.is_place.ensures.value ∙ some),
-      );
-}
+returns-in_default-found-2-clause-answer g c =
+    let some : c.is_place.result ≡ true = grind arith in
+    let front : c.from-front.result ≡ offset c.args.s.now.layout (number (life_of (record_kind c.args.kind))) =
+    c.from-front.ensures
+    ∙ c.offset.ensures
+    ∙
+    (λ i. offset (c.layout-2.ensures i) ((c.number-2.ensures.value ∙ ap number c.life_field.ensures) i)) in
+    lead_read c.args.s.now.layout c.args.kind c.args.field c.args.pointer c.from-front.result c.in-Ok.found _
+    (ap (λ w. is_some (slot_at w (record_kind c.args.kind) c.args.pointer)) (sym c.layout.ensures) ∙ sym c.is_place.ensures.value ∙ some)
+    front c.peek.ensures.asked (worked c.in-Ok.is) c.in-Ok.ensures.word
+    (ap (λ n. Err (Error c.args.pointer n)) c.number.ensures.value
+    ∙ ap
+    (λ o. ok_or (option_and_then (object c.args.kind c.args.pointer) o) (Error c.args.pointer (number c.args.field)))
+    (sym c.in_default-found.is))
 
 pub returns-in_default-clause-answer : goal.returns-in_default-clause-answer
-returns-in_default-clause-answer g c = record {
-  is = λ memory t ne. absurd (ne refl);
-  most = λ memory t.
-      let some : c.is_place.result ≡ true = grind arith in
-      omega (
-        arith,
-        c.peek.ensures.asked,
-        lead_once c.args.s.now.layout memory c.args.kind c.args.field c.args.pointer
-            (ap (λ w. is_some (slot_at w (record_kind c.args.kind) c.args.pointer)) (sym c.layout.ensures) ∙ sym c.is_place.ensures.value ∙ some),
-      );
-}
+unfolding lead
+returns-in_default-clause-answer g c =
+    let some : c.is_place.result ≡ true = grind arith in
+    let front : c.from-front.result ≡ offset c.args.s.now.layout (number (life_of (record_kind c.args.kind))) =
+    c.from-front.ensures
+    ∙ c.offset.ensures
+    ∙
+    (λ i. offset (c.layout-2.ensures i) ((c.number-2.ensures.value ∙ ap number c.life_field.ensures) i)) in
+    let place : c.args.pointer + 8 * c.from-front.result ≡ place_of c.args.s.now.layout c.args.pointer (life_of (record_kind c.args.kind)) 0 =
+    omega (arith, front) in
+    asked_true _
+    (ap (λ w. is_some (slot_at w (record_kind c.args.kind) c.args.pointer)) (sym c.layout.ensures) ∙ sym c.is_place.ensures.value ∙ some)
+    (asked_failed (c.args.pointer + 8 * c.from-front.result) place c.peek.ensures.asked (ap is_err c.in_default.is))

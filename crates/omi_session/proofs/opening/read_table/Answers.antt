@@ -1,10 +1,19 @@
-use Rattle.std.proofs.Common.{◌≡◌, ℕ, ◌+◌, ◌<◌, List, length, Option, Some, None, sym, refl, ◌∙◌, arith, below_more, rules, ◌≢◌, get_or-set_other, get_or-set_same}
-use Rattle.std.specs.Prelude.{slice_index, slice_set, IsSome}
+use Rattle.std.proofs.Common.{◌≡◌, ◌≢◌, inl, inr, ℕ, suc, ◌+◌, ◌-◌, ◌<◌, List, [], ◌∷◌, ◌++◌, length, take, Option, Some, None, sym, ap, subst, refl, ◌∙◌, arith, below_more, rules, get_or-set_other, get_or-set_same}
+use Rattle.std.specs.Prelude.{Result, Ok, Err, slice_index, slice_set, is_err, IsErr, IsSome}
 use Rattle.std.proofs.lemmas.Grind.{common_steps}
+use Rattle.std.proofs.lemmas.List.{length-take-le, take_more_set, take_all}
 use Rattle.omi_word.specs.Words.{Words}
+use Rattle.omi_calls.specs.Asked.{Asked, Word, MayFail, MayAnswer, AsksWord, asked_after, missed_after}
+use Rattle.omi_calls.specs.Told.{Told}
 use Rattle.omi_layout.specs.declared.limits.TheConstants.{TABLE_WORDS}
 use Rattle.omi_layout.specs.NoLayout.{table_address}
 use Rattle.omi_layout.proofs.ReadTables.{table_read}
+use Rattle.omi_session.specs.declared.rc.Rc.{Rc}
+use Rattle.omi_session.specs.declared.rc.Rc.TheVariants.{CallbackError, Error}
+use Rattle.omi_session.specs.Opening.{words_behind}
+use Rattle.omi_session.specs.Reads.{Ran}
+use Rattle.omi_session.proofs.Asked.{worked}
+use Rattle.omi_session.proofs.OpeningReads.{read_on, read_none, read_failed, read_all}
 use Rattle.omi_session.proofs.Told.{as_told, keeps_then}
 use Rattle.omi_session.proofs.opening.read_table.Goals as goal
 
@@ -20,6 +29,44 @@ next_read memory address at word table long within before is =
     below_more (λ j. memory (table_address address j) ≡ Some (slice_index (slice_set table at word) j)) at
     (λ j h. let other : j ≢ at = omega arith in rw get_or-set_other (before j h))
     (let lt : at < length table = omega arith in rw get_or-set_same (sym is))
+
+-- the reads that are left behind so many words of the table
+module _ (told : Told) (memory : Words) (address at : ℕ) (words : List ℕ) (long : length words ≡ TABLE_WORDS) (within : at < TABLE_WORDS)
+    (before now : Asked) where
+  there : length (take at words) ≡ at
+  there = length-take-le at words (omega (arith, long))
+
+  left : TABLE_WORDS - at ≡ suc (TABLE_WORDS - (at + 1))
+  left = omega arith
+
+  pub left_on : (word : ℕ) (r : Result (List ℕ) Rc) → MayAnswer told (table_address address at) → Some word ≡ memory (table_address address at)
+      → Ran told memory CallbackError (words_behind address (TABLE_WORDS - (at + 1)) (take (at + 1) (slice_set words at word))) (asked_after (Word (table_address address at)) before) now r
+      → Ran told memory CallbackError (words_behind address (TABLE_WORDS - at) (take at words)) before now r
+  left_on word r may is ran =
+      let more : take (at + 1) (slice_set words at word) ≡ take at words ++ (word ∷ []) = take_more_set words at word (omega (arith, long)) in
+      let first = subst (λ ws. Ran told memory CallbackError (words_behind address (TABLE_WORDS - (at + 1)) ws) (asked_after (Word (table_address address at)) before) now r) more ran in
+      subst (λ n. Ran told memory CallbackError (words_behind address n (take at words)) before now r) (sym left)
+      (read_on told memory address (TABLE_WORDS - (at + 1)) (take at words) before now word r
+      (subst (λ k. MayAnswer told (table_address address k)) (sym there) may)
+      (subst (λ k. Some word ≡ memory (table_address address k)) (sym there) is)
+      (subst (λ k. Ran told memory CallbackError (words_behind address (TABLE_WORDS - (at + 1)) (take at words ++ (word ∷ []))) (asked_after (Word (table_address address k)) before) now r) (sym there) first))
+
+  pub left_none : MayAnswer told (table_address address at) → None ≡ memory (table_address address at)
+      → now ≡ asked_after (Word (table_address address at)) before
+      → Ran told memory CallbackError (words_behind address (TABLE_WORDS - at) (take at words)) before now (Err (Error (table_address address at) 0))
+  left_none may is asks =
+      subst (λ n. Ran told memory CallbackError (words_behind address n (take at words)) before now (Err (Error (table_address address at) 0))) (sym left)
+      (subst (λ k. MayAnswer told (table_address address k) → None ≡ memory (table_address address k) → now ≡ asked_after (Word (table_address address k)) before
+      → Ran told memory CallbackError (words_behind address (suc (TABLE_WORDS - (at + 1))) (take at words)) before now (Err (Error (table_address address k) 0)))
+      there (read_none told memory address (TABLE_WORDS - (at + 1)) (take at words) before now) may is asks)
+
+  pub left_failed : MayFail told (table_address address at) → now ≡ missed_after (table_address address at) before
+      → Ran told memory CallbackError (words_behind address (TABLE_WORDS - at) (take at words)) before now (Err CallbackError)
+  left_failed may misses =
+      subst (λ n. Ran told memory CallbackError (words_behind address n (take at words)) before now (Err CallbackError)) (sym left)
+      (read_failed told memory address (TABLE_WORDS - (at + 1)) (take at words) before now
+      (subst (λ k. MayFail told (table_address address k)) (sym there) may)
+      (subst (λ k. now ≡ missed_after (table_address address k) before) (sym there) misses))
 
 pub returns-in_default-found-clause-words : goal.returns-in_default-found-clause-words
 returns-in_default-found-clause-words g c = λ memory t.
@@ -37,17 +84,60 @@ returns-in_default-found-clause-words g c = λ memory t.
       refl,
     )
 
+pub returns-in_default-found-clause-reads : goal.returns-in_default-found-clause-reads
+returns-in_default-found-clause-reads g c = λ memory t.
+    let told = g.C.Callbacks.told c.args.table.now.calls in
+    let asks =
+    subst (λ now. AsksWord now (table_address c.args.address c.loop-at.at) (g.C.Callbacks.asked c.loop-at.table.calls) (g.C.Callbacks.asked c.word.new.self.calls) (IsErr c.word.result)) c.loop-at.invariant.same.same c.word.ensures.asked in
+    let here = asks.answered (worked c.in-Ok.is) in
+    let found : c.in-Ok.found ≡ memory (table_address c.args.address c.loop-at.at) =
+    as_told _ (g.C.Callbacks.told c.loop-at.table.calls) memory c.loop-at.invariant.same.same t
+    (λ m. c.in-Ok.found ≡ m (table_address c.args.address c.loop-at.at)) c.in-Ok.ensures.word in
+    c.loop-at.invariant.reads memory t _ _
+    (left_none told memory c.args.address c.loop-at.at c.loop-at.words c.loop-at.invariant.words (omega arith) (g.C.Callbacks.asked c.loop-at.table.calls) _
+    here.0 (sym c.in_default-found.is ∙ found) here.1)
+
+pub returns-in_default-clause-reads : goal.returns-in_default-clause-reads
+returns-in_default-clause-reads g c = λ memory t.
+    let told = g.C.Callbacks.told c.args.table.now.calls in
+    let asks =
+    subst (λ now. AsksWord now (table_address c.args.address c.loop-at.at) (g.C.Callbacks.asked c.loop-at.table.calls) (g.C.Callbacks.asked c.word.new.self.calls) (IsErr c.word.result)) c.loop-at.invariant.same.same c.word.ensures.asked in
+    let here = asks.failed (ap is_err c.in_default.is) in
+    c.loop-at.invariant.reads memory t _ _
+    (left_failed told memory c.args.address c.loop-at.at c.loop-at.words c.loop-at.invariant.words (omega arith) (g.C.Callbacks.asked c.loop-at.table.calls) _ here.0 here.1)
+
 pub loop-at-preserved : goal.loop-at-preserved
-loop-at-preserved g c = record {
-  words = grind (arith, common_steps, c.loop-at.invariant.words);
-  same = keeps_then _ _ _ _ c.loop-at.invariant.same (record { same = c.word.ensures.same; order = c.word.ensures.order; to_host = c.word.ensures.to_host });
-  later = omega (arith, c.loop-at.invariant.later, c.word.ensures.cause.later);
-  asked = omega (arith, c.loop-at.invariant.asked, c.word.ensures.asked);
-  read =
-      λ memory t. next_read memory c.args.address c.loop-at.at c.in-Some.word c.loop-at.words c.loop-at.invariant.words (omega arith) (c.loop-at.invariant.read memory t)
-      (sym c.in-Some.is ∙ as_told _ (g.C.Callbacks.told c.loop-at.table.calls) memory c.loop-at.invariant.same.same t (λ m. c.in-Ok.found ≡ m (table_address c.args.address c.loop-at.at)) c.in-Ok.ensures.word);
-}
+loop-at-preserved g c =
+    let found : (memory : Words) (t : _) → Some c.in-Some.word ≡ memory (table_address c.args.address c.loop-at.at) =
+    λ memory t. sym c.in-Some.is ∙ as_told _ (g.C.Callbacks.told c.loop-at.table.calls) memory c.loop-at.invariant.same.same t (λ m. c.in-Ok.found ≡ m (table_address c.args.address c.loop-at.at)) c.in-Ok.ensures.word in
+    record {
+      words = grind (arith, common_steps, c.loop-at.invariant.words);
+      same = keeps_then _ _ _ _ c.loop-at.invariant.same (record { same = c.word.ensures.same; order = c.word.ensures.order; to_host = c.word.ensures.to_host });
+      later = omega (arith, c.loop-at.invariant.later, c.word.ensures.cause.later);
+      reads = λ memory t now r ran.
+          let told = g.C.Callbacks.told c.args.table.now.calls in
+          let asks =
+          subst (λ now. AsksWord now (table_address c.args.address c.loop-at.at) (g.C.Callbacks.asked c.loop-at.table.calls) (g.C.Callbacks.asked c.word.new.self.calls) (IsErr c.word.result)) c.loop-at.invariant.same.same c.word.ensures.asked in
+          let here = asks.answered (worked c.in-Ok.is) in
+          c.loop-at.invariant.reads memory t now r
+          (left_on told memory c.args.address c.loop-at.at c.loop-at.words c.loop-at.invariant.words (omega arith) (g.C.Callbacks.asked c.loop-at.table.calls) now
+          c.in-Some.word r here.0 (found memory t)
+          (subst (λ a. Ran told memory CallbackError (words_behind c.args.address (TABLE_WORDS - (c.loop-at.at + 1)) (take (c.loop-at.at + 1) (slice_set c.loop-at.words c.loop-at.at c.in-Some.word))) a now r) here.1 ran));
+      read =
+          λ memory t. next_read memory c.args.address c.loop-at.at c.in-Some.word c.loop-at.words c.loop-at.invariant.words (omega arith) (c.loop-at.invariant.read memory t)
+          (found memory t);
+    }
 
 pub returns-clause-words : goal.returns-clause-words
 returns-clause-words g c =
     λ memory t. table_read memory c.args.address c.loop-at.words c.loop-at.invariant.words (λ j h. c.loop-at.invariant.read memory t j (omega arith))
+
+pub returns-clause-reads : goal.returns-clause-reads
+returns-clause-reads g c = λ memory t.
+    let end : TABLE_WORDS - c.loop-at.at ≡ 0 = omega arith in
+    let all : take c.loop-at.at c.loop-at.words ≡ c.loop-at.words = take_all c.loop-at.at c.loop-at.words (omega (arith, c.loop-at.invariant.words)) in
+    let told = g.C.Callbacks.told c.args.table.now.calls in
+    c.loop-at.invariant.reads memory t _ _
+    (subst (λ n. Ran told memory CallbackError (words_behind c.args.address n (take c.loop-at.at c.loop-at.words)) (g.C.Callbacks.asked c.loop-at.table.calls) (g.C.Callbacks.asked c.loop-at.table.calls) (Ok c.loop-at.words)) (sym end)
+    (subst (λ ws. Ran told memory CallbackError (words_behind c.args.address 0 ws) (g.C.Callbacks.asked c.loop-at.table.calls) (g.C.Callbacks.asked c.loop-at.table.calls) (Ok c.loop-at.words)) (sym all)
+    (read_all told memory c.args.address c.loop-at.words (g.C.Callbacks.asked c.loop-at.table.calls))))

@@ -1,5 +1,7 @@
-use Rattle.std.proofs.Common.{◌≡◌, ℕ, true, false, List, [], ◌∷◌, inr, refl, sym, ap, ◌∙◌, arith, eq-eqb, eqb}
+use Rattle.std.proofs.Common.{◌≡◌, ℕ, true, false, List, [], ◌∷◌, inr, Err, refl, sym, ap, subst, ◌∙◌, arith, eq-eqb, eqb}
 use lib.Pointwise.{pointwise}
+use Rattle.omi_session.specs.Opening.{Opens}
+use Rattle.omi_session.proofs.OpeningReads.{opens_as}
 use Rattle.omi_session.proofs.parted.Parted.over.Goals as goal
 
 -- the test of two lists is true where they are the same
@@ -25,3 +27,16 @@ returns-else-eq-clause-words g c = λ memory t sizes ne. inr (record {
   };
   is = refl;
 })
+
+pub returns-then-eq-clause-asked : goal.returns-then-eq-clause-asked
+returns-then-eq-clause-asked g c =
+    subst (λ k. Opens g.C.Callbacks.told g.C.Callbacks.asked c.args.t k ⊥) (sym c.over.ensures.table)
+    (opens_as (λ e. (let is = e in cc)) (λ never. absurd never) c.in-Ok.ensures.asked)
+
+pub returns-else-eq-clause-asked : goal.returns-else-eq-clause-asked
+returns-else-eq-clause-asked g c =
+    opens_as (λ e. absurd (let is = e in cc)) (λ e. absurd (let is = e in cc)) c.in-Ok.ensures.asked
+
+pub returns-in-Err-clause-asked : goal.returns-in-Err-clause-asked
+returns-in-Err-clause-asked g c =
+    opens_as (λ e. (let is = e in cc)) (λ e. ap Err e) c.in-Err.ensures.asked
