@@ -2,6 +2,7 @@ use Rattle.std.proofs.Common.{◌≡◌, ◌<◌, ◌+◌, ◌-◌, ℕ, suc, Li
 use Rattle.std.specs.Prelude.{Result, Ok, Err}
 use Rattle.std.specs.List.{range_with_len}
 use Rattle.std.proofs.lemmas.Result.{err_from_is_err_and}
+use Rattle.omi_calls.specs.Asked.{Asked}
 use Rattle.omi_calls.specs.Told.{Told}
 use Rattle.omi_handle.specs.declared.handle.Held.{Held}
 use Rattle.omi_layout.specs.Table.{thread_count}
@@ -19,7 +20,7 @@ next_range : (i n : ℕ) → i < n → range_with_len i (n - i) ≡ i ∷ range_
 next_range i n below = let one : n - i ≡ suc (n - (i + 1)) = omega (arith, below) in ap (range_with_len i) one
 
 -- what the next thread and those after it answer is what the threads that are left answer
-more : {C F : Type 0} (told : C → Told) (asked : C → ℕ) (s last : Opened C F) (w : List ℕ) (native i n : ℕ) (result : Result Held Rc)
+more : {C F : Type 0} (told : C → Told) (asked : C → Asked) (s last : Opened C F) (w : List ℕ) (native i n : ℕ) (result : Result Held Rc)
     → i < n
     → Answers told asked s last result
     (then_reads (has_id w native i) (λ is. cond is (Answer (Ok (begun w i))) (first_with w native (range_with_len (i + 1) (n - (i + 1))))))

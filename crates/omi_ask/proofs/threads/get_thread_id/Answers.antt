@@ -7,6 +7,7 @@ use Rattle.omi_session.proofs.Asked.{asked_then, asked_true, asked_false, asked_
 use Rattle.omi_session.proofs.ShownAnswers.{given_value}
 use Rattle.omi_ask.specs.Threads.{native_id}
 use Rattle.omi_ask.proofs.ShownThreads.{native_id_told}
+use Rattle.omi_session.proofs.Asked.{answers_is}
 use Rattle.omi_ask.proofs.threads.get_thread_id.Goals as goal
 
 pub returns-in_err-thread-clause-answer : goal.returns-in_err-thread-clause-answer
@@ -38,11 +39,11 @@ returns-clause-answer g c =
 pub returns-in_err-thread-2-clause-shown : goal.returns-in_err-thread-2-clause-shown
 returns-in_err-thread-2-clause-shown g c = λ s shown t.
     given_value (g.C.Callbacks.told c.args.s.now.table.calls) c.args.s.now.layout s shown _
-    (native_id c.args.s.now.layout c.args.kind _) _ (returns-in_err-thread-2-clause-answer g c).is
+    (native_id c.args.s.now.layout c.args.kind _) _ (answers_is (returns-in_err-thread-2-clause-answer g c))
     (native_id_told (g.C.Callbacks.told c.args.s.now.table.calls) c.args.s.now.layout s shown c.args.kind _ t)
 
 pub returns-clause-shown : goal.returns-clause-shown
 returns-clause-shown g c = λ s shown t.
     given_value (g.C.Callbacks.told c.args.s.now.table.calls) c.args.s.now.layout s shown _
-    (native_id c.args.s.now.layout c.args.kind _) _ (returns-clause-answer g c).is
+    (native_id c.args.s.now.layout c.args.kind _) _ (answers_is (returns-clause-answer g c))
     (native_id_told (g.C.Callbacks.told c.args.s.now.table.calls) c.args.s.now.layout s shown c.args.kind _ t)
