@@ -7,6 +7,7 @@ use Rattle.omi_session.proofs.Asked.{asked_then, asked_answer, refused_then}
 use Rattle.omi_session.proofs.ShownAnswers.{given_value}
 use Rattle.omi_asktask.specs.TaskWords.{frames}
 use Rattle.omi_asktask.proofs.ShownTasks.{frames_told}
+use Rattle.omi_session.proofs.Asked.{answers_is}
 use Rattle.omi_asktask.proofs.words.get_task_frame.Goals as goal
 
 pub returns-in_err-task-clause-answer : goal.returns-in_err-task-clause-answer
@@ -54,23 +55,23 @@ returns-clause-answer g c =
 pub returns-in_err-task-clause-shown : goal.returns-in_err-task-clause-shown
 returns-in_err-task-clause-shown g c = λ s shown t.
     given_value (g.C.Callbacks.told c.args.s.now.table.calls) c.args.s.now.layout s shown _
-    (frames c.args.s.now.layout _) _ (returns-in_err-task-clause-answer g c).is
+    (frames c.args.s.now.layout _) _ (answers_is (returns-in_err-task-clause-answer g c))
     (frames_told (g.C.Callbacks.told c.args.s.now.table.calls) c.args.s.now.layout s shown _ t)
 
 pub returns-in_err-exit-clause-shown : goal.returns-in_err-exit-clause-shown
 returns-in_err-exit-clause-shown g c = λ s shown t.
     given_value (g.C.Callbacks.told c.args.s.now.table.calls) c.args.s.now.layout s shown _
-    (frames c.args.s.now.layout _) _ (returns-in_err-exit-clause-answer g c).is
+    (frames c.args.s.now.layout _) _ (answers_is (returns-in_err-exit-clause-answer g c))
     (frames_told (g.C.Callbacks.told c.args.s.now.table.calls) c.args.s.now.layout s shown _ t)
 
 pub returns-in_err-enter-clause-shown : goal.returns-in_err-enter-clause-shown
 returns-in_err-enter-clause-shown g c = λ s shown t.
     given_value (g.C.Callbacks.told c.args.s.now.table.calls) c.args.s.now.layout s shown _
-    (frames c.args.s.now.layout _) _ (returns-in_err-enter-clause-answer g c).is
+    (frames c.args.s.now.layout _) _ (answers_is (returns-in_err-enter-clause-answer g c))
     (frames_told (g.C.Callbacks.told c.args.s.now.table.calls) c.args.s.now.layout s shown _ t)
 
 pub returns-clause-shown : goal.returns-clause-shown
 returns-clause-shown g c = λ s shown t.
     given_value (g.C.Callbacks.told c.args.s.now.table.calls) c.args.s.now.layout s shown _
-    (frames c.args.s.now.layout _) _ (returns-clause-answer g c).is
+    (frames c.args.s.now.layout _) _ (answers_is (returns-clause-answer g c))
     (frames_told (g.C.Callbacks.told c.args.s.now.table.calls) c.args.s.now.layout s shown _ t)
