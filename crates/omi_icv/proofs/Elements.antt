@@ -1,6 +1,7 @@
 -- The elements of nthreads-var, one after the other.
 use Rattle.std.proofs.Common.{◌≡◌, ℕ, zero, suc, ◌+◌, ◌-◌, ◌<◌, List, [], ◌∷◌, ◌++◌, subst, ◌∙◌, arith, refl}
 use Rattle.std.specs.Prelude.{Ok, Err}
+use Rattle.omi_calls.specs.Asked.{Asked}
 use Rattle.omi_calls.specs.Told.{Told}
 use Rattle.omi_layout.specs.declared.field.Field.TheVariants.{TaskNthreads}
 use Rattle.omi_session.specs.declared.rc.Rc.{Rc}
@@ -10,7 +11,7 @@ use Rattle.omi_session.specs.Inquiry.{word_of}
 use Rattle.omi_session.proofs.Asked.{asked_then, asked_refused, asked_answer}
 use Rattle.omi_icv.specs.Values.{first_elements}
 
-module _ {C F : Type 0} (told : C → Told) (asked : C → ℕ) (s t u : Opened C F) (w : List ℕ)
+module _ {C F : Type 0} (told : C → Told) (asked : C → Asked) (s t u : Opened C F) (w : List ℕ)
     (address : ℕ) where
   -- one more was read
   pub one_more : (at : ℕ) (before : List ℕ) (element : ℕ) → told t.table.calls ≡ told s.table.calls

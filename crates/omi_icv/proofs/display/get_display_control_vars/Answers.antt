@@ -7,6 +7,7 @@ use Rattle.omi_session.proofs.Asked.{asked_then, asked_refused, asked_answer}
 use Rattle.omi_icv.specs.Display.{space_words, display, display_texts}
 use Rattle.omi_icv.proofs.Written.{written_refused, written_text, written_full}
 use Rattle.omi_icv.proofs.ShownInquiries.{display_given}
+use Rattle.omi_icv.proofs.Written.{written_is}
 use Rattle.omi_icv.proofs.display.get_display_control_vars.Goals as goal
 
 pub returns-in_err-words-clause-answer : goal.returns-in_err-words-clause-answer
@@ -34,14 +35,14 @@ returns-in-Err-clause-answer g c =
 pub returns-in_err-words-clause-shown : goal.returns-in_err-words-clause-shown
 returns-in_err-words-clause-shown g c = λ s shown.
     display_given (g.C.Callbacks.told c.args.s.now.table.calls) c.args.s.now.layout s shown _
-    (returns-in_err-words-clause-answer g c).is
+    (written_is (returns-in_err-words-clause-answer g c))
 
 pub returns-in-Ok-clause-shown : goal.returns-in-Ok-clause-shown
 returns-in-Ok-clause-shown g c = λ s shown.
     display_given (g.C.Callbacks.told c.args.s.now.table.calls) c.args.s.now.layout s shown
-    (Ok (map string_bytes c.in-Ok.texts.items)) (returns-in-Ok-clause-answer g c).is
+    (Ok (map string_bytes c.in-Ok.texts.items)) (written_is (returns-in-Ok-clause-answer g c))
 
 pub returns-in-Err-clause-shown : goal.returns-in-Err-clause-shown
 returns-in-Err-clause-shown g c = λ s shown.
     display_given (g.C.Callbacks.told c.args.s.now.table.calls) c.args.s.now.layout s shown (Err NoMem)
-    (returns-in-Err-clause-answer g c).is
+    (written_is (returns-in-Err-clause-answer g c))

@@ -6,6 +6,7 @@ use Rattle.omi_icv.specs.Icvs.{icv_from_scope}
 use Rattle.omi_icv.specs.Table.{variable_in}
 use Rattle.omi_icv.specs.Values.{number_in}
 use Rattle.omi_icv.proofs.ShownInquiries.{number_given}
+use Rattle.omi_session.proofs.Asked.{answers_is}
 use Rattle.omi_icv.proofs.icv.get_icv_from_scope.Goals as goal
 
 pub returns-in_err-address-clause-answer : goal.returns-in_err-address-clause-answer
@@ -31,14 +32,14 @@ returns-clause-answer g c =
 pub returns-in_err-address-clause-shown : goal.returns-in_err-address-clause-shown
 returns-in_err-address-clause-shown g c =
     number_given (g.C.Callbacks.told c.args.s.now.table.calls) c.args.s.now.layout
-    (get c.args.s.now.handles.held) c.args.of c.args.icv _ (returns-in_err-address-clause-answer g c).is
+    (get c.args.s.now.handles.held) c.args.of c.args.icv _ (answers_is (returns-in_err-address-clause-answer g c))
 
 pub returns-in_err-variable-clause-shown : goal.returns-in_err-variable-clause-shown
 returns-in_err-variable-clause-shown g c =
     number_given (g.C.Callbacks.told c.args.s.now.table.calls) c.args.s.now.layout
-    (get c.args.s.now.handles.held) c.args.of c.args.icv _ (returns-in_err-variable-clause-answer g c).is
+    (get c.args.s.now.handles.held) c.args.of c.args.icv _ (answers_is (returns-in_err-variable-clause-answer g c))
 
 pub returns-clause-shown : goal.returns-clause-shown
 returns-clause-shown g c =
     number_given (g.C.Callbacks.told c.args.s.now.table.calls) c.args.s.now.layout
-    (get c.args.s.now.handles.held) c.args.of c.args.icv _ (returns-clause-answer g c).is
+    (get c.args.s.now.handles.held) c.args.of c.args.icv _ (answers_is (returns-clause-answer g c))

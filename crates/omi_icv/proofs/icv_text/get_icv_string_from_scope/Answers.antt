@@ -9,6 +9,7 @@ use Rattle.omi_icv.specs.Icvs.{icv_value, icv_string_from_scope}
 use Rattle.omi_icv.specs.Spellings.{value_text}
 use Rattle.omi_icv.proofs.Written.{written_refused, written_text, written_full}
 use Rattle.omi_icv.proofs.ShownInquiries.{text_given}
+use Rattle.omi_icv.proofs.Written.{written_is}
 use Rattle.omi_icv.proofs.icv_text.get_icv_string_from_scope.Goals as goal
 
 pub returns-in_err-value-clause-answer : goal.returns-in_err-value-clause-answer
@@ -40,15 +41,15 @@ returns-in-Err-clause-answer g c =
 pub returns-in_err-value-clause-shown : goal.returns-in_err-value-clause-shown
 returns-in_err-value-clause-shown g c =
     text_given (g.C.Callbacks.told c.args.s.now.table.calls) c.args.s.now.layout
-    (get c.args.s.now.handles.held) c.args.of c.args.icv _ (returns-in_err-value-clause-answer g c).is
+    (get c.args.s.now.handles.held) c.args.of c.args.icv _ (written_is (returns-in_err-value-clause-answer g c))
 
 pub returns-in-Ok-clause-shown : goal.returns-in-Ok-clause-shown
 returns-in-Ok-clause-shown g c =
     text_given (g.C.Callbacks.told c.args.s.now.table.calls) c.args.s.now.layout
     (get c.args.s.now.handles.held) c.args.of c.args.icv (Ok (string_bytes c.in-Ok.text))
-    (returns-in-Ok-clause-answer g c).is
+    (written_is (returns-in-Ok-clause-answer g c))
 
 pub returns-in-Err-clause-shown : goal.returns-in-Err-clause-shown
 returns-in-Err-clause-shown g c =
     text_given (g.C.Callbacks.told c.args.s.now.table.calls) c.args.s.now.layout
-    (get c.args.s.now.handles.held) c.args.of c.args.icv (Err NoMem) (returns-in-Err-clause-answer g c).is
+    (get c.args.s.now.handles.held) c.args.of c.args.icv (Err NoMem) (written_is (returns-in-Err-clause-answer g c))

@@ -5,19 +5,19 @@ use Rattle.std.specs.FinMap.{get}
 use Rattle.std.proofs.lemmas.Bool.Decides.{nat_tests}
 use Rattle.omi_layout.specs.declared.field.Field.TheVariants.{RuntimeDebug, ThreadState}
 use Rattle.omi_rep.specs.Records.{runtime_address}
+use Rattle.omi_calls.specs.Asked.{Asked}
 use Rattle.omi_calls.specs.Told.{Told}
 use Rattle.omi_session.specs.declared.rc.Rc.{Rc}
 use Rattle.omi_session.specs.Opened.{Opened}
 use Rattle.omi_session.specs.Reads.{Answers}
 use Rattle.omi_session.specs.Inquiry.{word_of}
-use Rattle.omi_session.proofs.Asked.{asked_then, asked_true, asked_false, asked_answer, refused_then}
-use Rattle.omi_session.proofs.ShownAnswers.{given_value}
+use Rattle.omi_session.proofs.Asked.{answers_is, asked_then, asked_true, asked_false, asked_answer, refused_then}
 use Rattle.omi_icv.specs.StateWords.{state}
 use Rattle.omi_icv.proofs.ShownInquiries.{state_given}
 use Rattle.omi_icv.proofs.state.get_state.Goals as goal
 
 -- what was read of the runtime record and of a thread's, in the layout before the reads
-module _ {C F : Type 0} {told : C → Told} {asked : C → ℕ} {s t : Opened C F} {v w : List ℕ}
+module _ {C F : Type 0} {told : C → Told} {asked : C → Asked} {s t : Opened C F} {v w : List ℕ}
     (same : v ≡ w) {result : Result ℕ Rc} where
   debug_there : Answers told asked s t result (word_of v (runtime_address v) RuntimeDebug 0)
       → Answers told asked s t result (word_of w (runtime_address w) RuntimeDebug 0)
@@ -91,28 +91,28 @@ pub returns-in_err-thread-clause-shown : goal.returns-in_err-thread-clause-shown
 returns-in_err-thread-clause-shown g c =
     let now = c.args.s.now in
     state_given (g.C.Callbacks.told now.table.calls) now.layout (get now.handles.held) _ _
-    (returns-in_err-thread-clause-answer g c).is
+    (answers_is (returns-in_err-thread-clause-answer g c))
 
 pub returns-in_err-debug-clause-shown : goal.returns-in_err-debug-clause-shown
 returns-in_err-debug-clause-shown g c =
     let now = c.args.s.now in
     state_given (g.C.Callbacks.told now.table.calls) now.layout (get now.handles.held) _ _
-    (returns-in_err-debug-clause-answer g c).is
+    (answers_is (returns-in_err-debug-clause-answer g c))
 
 pub returns-then-debug-eq0-clause-shown : goal.returns-then-debug-eq0-clause-shown
 returns-then-debug-eq0-clause-shown g c =
     let now = c.args.s.now in
     state_given (g.C.Callbacks.told now.table.calls) now.layout (get now.handles.held) _ _
-    (returns-then-debug-eq0-clause-answer g c).is
+    (answers_is (returns-then-debug-eq0-clause-answer g c))
 
 pub returns-in_err-state-clause-shown : goal.returns-in_err-state-clause-shown
 returns-in_err-state-clause-shown g c =
     let now = c.args.s.now in
     state_given (g.C.Callbacks.told now.table.calls) now.layout (get now.handles.held) _ _
-    (returns-in_err-state-clause-answer g c).is
+    (answers_is (returns-in_err-state-clause-answer g c))
 
 pub returns-clause-shown : goal.returns-clause-shown
 returns-clause-shown g c =
     let now = c.args.s.now in
     state_given (g.C.Callbacks.told now.table.calls) now.layout (get now.handles.held) _ _
-    (returns-clause-answer g c).is
+    (answers_is (returns-clause-answer g c))

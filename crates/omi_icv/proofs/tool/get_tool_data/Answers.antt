@@ -11,6 +11,7 @@ use Rattle.omi_icv.specs.declared.scoped.Scoped.{Scoped}
 use Rattle.omi_icv.specs.declared.scoped.Scoped.TheVariants.{Space, Thread, Parallel, Task}
 use Rattle.omi_icv.specs.StateWords.{tool_word, tool_data}
 use Rattle.omi_icv.proofs.ShownInquiries.{tool_given}
+use Rattle.omi_session.proofs.Asked.{answers_is}
 use Rattle.omi_icv.proofs.tool.get_tool_data.Goals as goal
 
 pub returns-in_err-address-clause-answer : goal.returns-in_err-address-clause-answer
@@ -21,7 +22,7 @@ returns-in_err-address-clause-answer g c =
 pub returns-in_err-address-clause-shown : goal.returns-in_err-address-clause-shown
 returns-in_err-address-clause-shown g c =
     tool_given (g.C.Callbacks.told c.args.s.now.table.calls) c.args.s.now.layout
-    (get c.args.s.now.handles.held) c.args.of _ (returns-in_err-address-clause-answer g c).is
+    (get c.args.s.now.handles.held) c.args.of _ (answers_is (returns-in_err-address-clause-answer g c))
 
 pub returns-in-Task-clause-answer : goal.returns-in-Task-clause-answer
 unfolding tool_data
@@ -35,7 +36,7 @@ returns-in-Task-clause-answer g c =
 pub returns-in-Task-clause-shown : goal.returns-in-Task-clause-shown
 returns-in-Task-clause-shown g c =
     tool_given (g.C.Callbacks.told c.args.s.now.table.calls) c.args.s.now.layout
-    (get c.args.s.now.handles.held) c.args.of _ (returns-in-Task-clause-answer g c).is
+    (get c.args.s.now.handles.held) c.args.of _ (answers_is (returns-in-Task-clause-answer g c))
 
 -- nothing else has a tool word
 none_unless : (w : List ℕ) (address : ℕ) (of : Scoped) → ((k : TaskHandle) → of ≡ Task k → ⊥)
@@ -53,7 +54,7 @@ returns-in_default g c =
     (subst (Answers g.C.Callbacks.told g.C.Callbacks.asked c.record_of.new.s c.record_of.new.s (Err Unsupported)) (none_unless c.args.s.now.layout c.in_ok-address.address c.args.of c.in_default.not-Task) (asked_answer refl)) in
     record {
       answer = refused;
-      shown = tool_given (g.C.Callbacks.told c.args.s.now.table.calls) c.args.s.now.layout (get c.args.s.now.handles.held) c.args.of _ refused.is;
+      shown = tool_given (g.C.Callbacks.told c.args.s.now.table.calls) c.args.s.now.layout (get c.args.s.now.handles.held) c.args.of _ (answers_is refused);
       memory = λ e. cc;
       same = c.record_of.ensures.same;
       cause = record { later = c.record_of.ensures.cause.later; failed = λ e. absurd (cc) };
