@@ -15,6 +15,7 @@ pub mod Passed
 pub mod Placed
 pub mod SegmentRows
 pub mod Sorts
+pub mod Stands
 pub mod Tables
 pub mod Within
 pub mod Words
