@@ -13,10 +13,11 @@ fn lines_of(alloc: Global, events: &EventList) -> Result<String, AllocError>
     ensures { IfOk result (λ lines. string_bytes lines ≡ event_lines events.now.items) }
 {
     let mut lines = String::new(alloc);
+    let mut room = String::new(alloc);
     let mut team = Team::new();
     for at in 0..events.len() {
         let (step, thread, event) = events.get_compact(at, &mut team);
-        push_compact_line(&mut lines, step, thread, event, &team)?;
+        push_compact_line(&mut lines, &mut room, step, thread, event, &team)?;
     }
     Ok(lines)
 }

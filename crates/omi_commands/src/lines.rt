@@ -13,6 +13,8 @@ use std::alloc::{AllocError, Global};
 pub struct Lines {
     pub text: String,
     pub count: u64,
+    /// where each line is made
+    room: String,
 }
 
 impl Lines {
@@ -24,6 +26,7 @@ impl Lines {
         Lines {
             text: String::new(alloc),
             count: 0,
+            room: String::new(alloc),
         }
     }
 }
@@ -43,7 +46,7 @@ impl Recorder for Lines {
         let Some(count) = self.count.checked_add(1) else {
             return Err(AllocError);
         };
-        push_compact_line(&mut self.text, step, thread, event, team)?;
+        push_compact_line(&mut self.text, &mut self.room, step, thread, event, team)?;
         self.count = count;
         Ok(())
     }

@@ -59,9 +59,11 @@ fn lines_of_events_without_their_teams(rt: HostRuntime) -> Result<(), Fail> {
     team.push(task(5), 1);
     team.push(task(6), 63);
     let mut text = String::new(rt.alloc());
-    push_compact_line(&mut text, 1, 0, CompactEvent::Begin, &team)?;
+    let mut room = String::new(rt.alloc());
+    push_compact_line(&mut text, &mut room, 1, 0, CompactEvent::Begin, &team)?;
     push_compact_line(
         &mut text,
+        &mut room,
         20,
         15,
         CompactEvent::Fork { region: REGION },
@@ -69,6 +71,7 @@ fn lines_of_events_without_their_teams(rt: HostRuntime) -> Result<(), Fail> {
     )?;
     push_compact_line(
         &mut text,
+        &mut room,
         300,
         63,
         CompactEvent::Ask { w: 3, got: false },
@@ -76,12 +79,20 @@ fn lines_of_events_without_their_teams(rt: HostRuntime) -> Result<(), Fail> {
     )?;
     push_compact_line(
         &mut text,
+        &mut room,
         u64::MAX,
         7,
         CompactEvent::SetTool { x: u64::MAX },
         &team,
     )?;
-    push_compact_line(&mut text, 5, 1, CompactEvent::Start { task: TASK }, &team)?;
+    push_compact_line(
+        &mut text,
+        &mut room,
+        5,
+        1,
+        CompactEvent::Start { task: TASK },
+        &team,
+    )?;
     let wanted = "1 t0 begin
 20 t15 fork r1.4.2 size 2 team k1.5.2@1 k1.6.2@63
 300 t63 ask 3 busy

@@ -1,6 +1,6 @@
 //! The lines of events without the members of their teams.
 
-ghost use Rattle.std.specs.Prelude.{◌≡◌, ◌++◌, IfOk, OnErr, OnOk, string_bytes};
+ghost use Rattle.std.specs.Prelude.{◌≡◌, ◌++◌, OnErr, OnOk, string_bytes};
 ghost use Rattle.omi_run_lists.specs.Compact.{with_team};
 ghost use Rattle.omi_text.specs.Events.{event_line, event_words};
 ghost use Rattle.omi_text.specs.Lines.{line};
@@ -12,10 +12,6 @@ use crate::events::{
 };
 use omi_model::Team;
 use omi_run_lists::CompactEvent;
-use std::alloc::Global;
-
-/// The room, in bytes, that a line is begun with. Longer lines get more.
-const LINE_ROOM: usize = 64;
 
 /// Adds the words of an event with its team, and ends the line.
 fn push_compact(text: &mut String, event: CompactEvent, team: &Team) -> Result<(), OutOfMemory>
@@ -60,27 +56,11 @@ fn push_compact(text: &mut String, event: CompactEvent, team: &Team) -> Result<(
     }
 }
 
-/// The line of an event with its team.
-fn compact_line(
-    alloc: Global,
-    step: u64,
-    thread: u8,
-    event: CompactEvent,
-    team: &Team,
-) -> Result<String, OutOfMemory>
-    ensures { IfOk result
-        (λ line. string_bytes line ≡ event_line step thread (with_team team.now event)) }
-{
-    let mut line = String::with_capacity(alloc, LINE_ROOM)?;
-    push_front(&mut line, step, thread)?;
-    push_compact(&mut line, event, team)?;
-    Ok(line)
-}
-
-/// Adds the line of an event with its team: the number of its step, its thread and the event, ended by a line feed. Where memory runs
-/// out, nothing is added.
+/// Adds the line of an event with its team: the number of its step, its thread and the event, ended by a line feed. It is made in `room`, whose text is
+/// lost. Where memory runs out, nothing is added.
 pub fn push_compact_line(
     text: &mut String,
+    room: &mut String,
     step: u64,
     thread: u8,
     event: CompactEvent,
@@ -90,6 +70,8 @@ pub fn push_compact_line(
         ≡ string_bytes text.old ++ event_line step thread (with_team team.now event)) }
     ensures kept { OnErr result (string_bytes text.new ≡ string_bytes text.old) }
 {
-    let line = compact_line(*text.allocator(), step, thread, event, team)?;
-    text.push_str(&line)
+    room.clear();
+    push_front(room, step, thread)?;
+    push_compact(room, event, team)?;
+    text.push_str(room)
 }

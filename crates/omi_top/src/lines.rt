@@ -24,7 +24,7 @@ pub fn text_of(lines: Lines, steps: u64, why: End) -> Result<String, AllocError>
     ensures { IfOk result (λ text. string_bytes text
         ≡ string_bytes lines.text ++ end_line steps lines.count why) }
 {
-    let Lines { text, count } = lines;
+    let Lines { text, count, .. } = lines;
     let mut text = text;
     let why = word_of(why);
     write!(text, "end steps {steps} events {count} by {why}\n")?;
