@@ -1,6 +1,7 @@
 //! Lines of the top call over files in memory, and what they leave.
 
-use omi_outside::{Call, MemFiles, MemSink, Status};
+use omi_fixture_done::{Done, words};
+use omi_outside::{Call, MemFiles, MemSink};
 use omi_top::run_top;
 use std::alloc::{AllocError, Global};
 use std::test::Fail;
@@ -10,44 +11,6 @@ pub const EMPTY: &str = "func main\nend\n";
 
 pub const CHANGED: &str =
     "threads 1\nenv num_threads 4,2\nfunc main\nset_num_threads 3\nset_dynamic 1\nwork\nend\n";
-
-/// The words of a line.
-pub fn words(alloc: Global, line: &[&str]) -> Result<Vec<String>, AllocError> {
-    let mut words = Vec::new(alloc);
-    for word in line {
-        words.push(String::from_str(alloc, word)?)?;
-    }
-    Ok(words)
-}
-
-/// What a call made and left.
-pub struct Done {
-    pub status: Status,
-    pub dest: MemFiles,
-    pub out: MemSink,
-}
-
-// Written out: docs/DECISIONS.md, "A drop written out".
-impl Drop for Done {
-    fn drop(self) {
-        let Done {
-            status: _status,
-            dest: _dest,
-            out: _out,
-        } = self;
-    }
-}
-
-impl Done {
-    /// The bytes that a call left under a name. An error where it didn't succeed or left nothing there.
-    pub fn left(&self, alloc: Global, name: &str) -> Result<Vec<u8>, Fail> {
-        if self.status != Status::Success {
-            return Err(Fail::from("no success"));
-        }
-        let bytes = self.dest.bytes(name).ok_or("no such file")?;
-        Ok(bytes.to_vec(alloc)?)
-    }
-}
 
 /// What a line leaves over a script under `s` and these bytes under `c`, if any, where these calls of reading, writing and putting fail.
 pub fn call(
@@ -85,7 +48,11 @@ pub fn call_over(
     let mut out = MemSink::new(alloc, puts.to_vec(alloc)?);
     let line = words(alloc, line)?;
     let status = run_top(alloc, &line, &mut files, &mut dest, &mut out);
-    Ok(Done { status, dest, out })
+    Ok(Done {
+        status,
+        files: dest,
+        out,
+    })
 }
 
 /// What a line leaves over a script, with no call that fails.

@@ -4,5 +4,5 @@
 mod calls;
 mod older;
 
-pub use calls::{CHANGED, Done, EMPTY, call, call_over, core_of, core_with, run, with_word, words};
+pub use calls::{CHANGED, EMPTY, call, call_over, core_of, core_with, run, with_word};
 pub use older::opening_core_v1;

@@ -1,58 +1,11 @@
 //! Calls of the two top calls over files in memory, and what they leave.
 
+use omi_fixture_done::{Done, split};
 use omi_live::live_top;
-use omi_outside::{Call, FreeGate, Gate, MemFiles, MemSink, Status};
+use omi_outside::{Call, FreeGate, Gate, MemFiles, MemSink};
 use omi_top::run_top;
 use std::alloc::{AllocError, Global};
-use std::test::Fail;
 use std::thread::Threads;
-
-/// The words of a line, which are separated by blanks.
-fn words_of(alloc: Global, line: &str) -> Result<Vec<String>, AllocError> {
-    let mut words = Vec::new(alloc);
-    for word in line.split(' ') {
-        words.push(String::from_str(alloc, word)?)?;
-    }
-    Ok(words)
-}
-
-/// What a call left.
-pub struct Done {
-    pub status: Status,
-    pub files: MemFiles,
-    pub out: MemSink,
-}
-
-// Written out: docs/DECISIONS.md, "A drop written out".
-impl Drop for Done {
-    fn drop(self) {
-        let Done {
-            status: _status,
-            files: _files,
-            out: _out,
-        } = self;
-    }
-}
-
-impl Done {
-    /// The core, as bytes. None where there is none.
-    pub fn core(&self) -> Option<&[u8]> {
-        self.files.bytes("c")
-    }
-
-    /// Whether a file holds just these bytes.
-    pub fn holds(&self, name: &str, wanted: &[u8]) -> bool {
-        match self.files.bytes(name) {
-            Some(held) => held == wanted,
-            None => false,
-        }
-    }
-
-    /// What was printed.
-    pub fn printed(&self, alloc: Global) -> Result<String, Fail> {
-        Ok(String::from_utf8(self.out.bytes().to_vec(alloc)?).map_err(|_| "no text")?)
-    }
-}
 
 /// Runs a line over a script, with one call of the files that is to fail, or none.
 pub fn call<R: Threads + Sync>(
@@ -85,7 +38,7 @@ pub fn call_past<R: Threads + Sync, G: Gate>(
     files.put("c", b"before")?;
     files.put("other", b"stays")?;
     let mut out = MemSink::new(alloc, puts);
-    let words = words_of(alloc, line)?;
+    let words = split(alloc, line)?;
     let status = live_top(rt, alloc, &words, &mut files, &mut out, gate);
     Ok(Done { status, files, out })
 }
@@ -94,7 +47,7 @@ pub fn call_past<R: Threads + Sync, G: Gate>(
 pub fn inspect(alloc: Global, line: &str, files: &mut MemFiles) -> Result<Done, AllocError> {
     let mut dest = MemFiles::new(alloc, Vec::new(alloc));
     let mut out = MemSink::new(alloc, Vec::new(alloc));
-    let words = words_of(alloc, line)?;
+    let words = split(alloc, line)?;
     let status = run_top(alloc, &words, files, &mut dest, &mut out);
     Ok(Done {
         status,

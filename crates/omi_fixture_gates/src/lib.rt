@@ -4,5 +4,5 @@
 mod calls;
 mod gates;
 
-pub use calls::{Done, call, call_past, inspect};
+pub use calls::{call, call_past, inspect};
 pub use gates::{Leading, Meeting, Starting};

@@ -1,6 +1,7 @@
 //! Lines of the top call over files in memory, of which some calls fail.
 
-use omi_fixture_calls::{Done, call_over, words};
+use omi_fixture_calls::call_over;
+use omi_fixture_done::{Done, words};
 use omi_outside::{Call, MemFiles, MemSink};
 use omi_top::run_top;
 use std::alloc::{AllocError, Global};
@@ -81,5 +82,9 @@ pub fn call_of_two(
     let mut out = MemSink::new(alloc, failing.puts.to_vec(alloc)?);
     let line = words(alloc, line)?;
     let status = run_top(alloc, &line, &mut files, &mut dest, &mut out);
-    Ok(Done { status, dest, out })
+    Ok(Done {
+        status,
+        files: dest,
+        out,
+    })
 }

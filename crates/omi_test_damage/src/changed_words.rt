@@ -43,7 +43,7 @@ fn expect_changes(rt: &impl Abort, alloc: Global, core: &[u8]) -> Result<(), Fai
         let done = call(alloc, &["show", "c"], "", &changed, NONE)?;
         assert_eq!(rt; done.status, *status, "word {number}");
         assert_eq!(rt; done.out.bytes(), text.as_bytes(), "word {number}");
-        assert_eq!(rt; done.dest.bytes("c"), Some(BEFORE), "word {number}");
+        assert_eq!(rt; done.files.bytes("c"), Some(BEFORE), "word {number}");
     }
     Ok(())
 }

@@ -1,7 +1,8 @@
 //! Each call of files and of the output that a command makes, failing in turn, for each command.
 
 use crate::calls::{BEFORE, Failing, NONE, OTHER, PIECE, call_of_two, front};
-use omi_fixture_calls::{CHANGED, Done, core_of};
+use omi_fixture_calls::{CHANGED, core_of};
+use omi_fixture_done::Done;
 use omi_fixture_rows::AN_EMPTY_RUN;
 use omi_outside::{Call, Status};
 use std::alloc::{AllocError, Global};
@@ -72,7 +73,7 @@ fn made(
 /// What a name holds that a command writes, and nothing where it writes none.
 fn left<'a>(done: &'a Done, command: &Command<'_>) -> &'a [u8] {
     match command.written {
-        Some(name) => done.dest.bytes(name).unwrap_or(b""),
+        Some(name) => done.files.bytes(name).unwrap_or(b""),
         None => b"",
     }
 }
@@ -87,10 +88,10 @@ fn before(command: &Command<'_>) -> &'static [u8] {
 
 /// A name that no command is handed, and the names that this one doesn't write, hold what they did.
 fn expect_others(rt: &impl Abort, done: &Done, command: &Command<'_>) {
-    assert_eq!(rt; done.dest.bytes("other"), Some(OTHER));
+    assert_eq!(rt; done.files.bytes("other"), Some(OTHER));
     for name in ["c", "d", "m"] {
         if command.written != Some(name) {
-            assert_eq!(rt; done.dest.bytes(name), Some(BEFORE), "{name}");
+            assert_eq!(rt; done.files.bytes(name), Some(BEFORE), "{name}");
         }
     }
 }

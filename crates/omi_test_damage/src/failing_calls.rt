@@ -1,7 +1,8 @@
 //! Each call of a file or of the output that a line makes, failing in turn: its status, what was put, and what was written.
 
 use crate::calls::{BEFORE, Failing, NONE, OTHER, PIECE, call, front};
-use omi_fixture_calls::{CHANGED, Done, core_of};
+use omi_fixture_calls::{CHANGED, core_of};
+use omi_fixture_done::Done;
 use omi_fixture_rows::AN_EMPTY_RUN;
 use omi_outside::{Call, Status};
 use std::alloc::{AllocError, Global};
@@ -15,8 +16,8 @@ const LONG_TEXT: &str = "func f\nwork\nend\nfunc main\nrepeat 1000 f\nend\n";
 fn expect_fault(rt: &impl Abort, done: &Done, put: &[u8], left: &[u8]) {
     assert_eq!(rt; done.status, Status::WriteFault);
     assert_eq!(rt; done.out.bytes(), put);
-    assert_eq!(rt; done.dest.bytes("c"), Some(left));
-    assert_eq!(rt; done.dest.bytes("other"), Some(OTHER));
+    assert_eq!(rt; done.files.bytes("c"), Some(left));
+    assert_eq!(rt; done.files.bytes("other"), Some(OTHER));
 }
 
 /// The core has seventeen pieces. Where the j-th can't be added, those before it stay.
@@ -78,7 +79,7 @@ fn expect_each_put(
             ..NONE
         };
         let done = call(alloc, &line, script, b"", failing)?;
-        let core = whole.dest.bytes("c").unwrap_or(b"");
+        let core = whole.files.bytes("c").unwrap_or(b"");
         expect_fault(rt, &done, front(text, PIECE.wrapping_mul(number)), core);
     }
     Ok(())

@@ -1,6 +1,7 @@
 //! Lines of `follow` over two cores in memory, and what they are to leave.
 
-use omi_fixture_calls::{Done, core_with, words};
+use omi_fixture_calls::core_with;
+use omi_fixture_done::{Done, words};
 use omi_outside::{Call, MemFiles, MemSink, Status};
 use omi_top::run_top;
 use std::alloc::{AllocError, Global};
@@ -44,15 +45,19 @@ pub fn call(
     let mut out = MemSink::new(alloc, puts.to_vec(alloc)?);
     let line = words(alloc, line)?;
     let status = run_top(alloc, &line, &mut files, &mut dest, &mut out);
-    Ok(Done { status, dest, out })
+    Ok(Done {
+        status,
+        files: dest,
+        out,
+    })
 }
 
 /// A line that ended with this status, put this text, and wrote nothing.
 pub fn expect_done(rt: &impl Abort, done: &Done, status: Status, text: &str) {
     assert_eq!(rt; done.out.bytes(), text.as_bytes());
     assert_eq!(rt; done.status, status);
-    assert_eq!(rt; done.dest.bytes("c"), Some(b"stays".as_slice()));
-    assert_eq!(rt; done.dest.bytes("d"), None);
+    assert_eq!(rt; done.files.bytes("c"), Some(b"stays".as_slice()));
+    assert_eq!(rt; done.files.bytes("d"), None);
 }
 
 /// `follow c d` ends with this status and puts this text.

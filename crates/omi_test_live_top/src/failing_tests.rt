@@ -1,6 +1,6 @@
 //! Each call of files and of the output that the top call over running threads makes, failing in turn.
 
-use omi_fixture_gates::Done;
+use omi_fixture_done::Done;
 use omi_fixture_rows::{A_FULL_ROW, A_TEAM_OF_TWO};
 use omi_live::live_top;
 use omi_outside::{Call, FreeGate, MemFiles, MemSink, Status};

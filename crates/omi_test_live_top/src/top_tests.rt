@@ -1,6 +1,7 @@
 //! Runs of threads through the top call, and each of its refusals.
 
-use omi_fixture_gates::{Done, Leading, Meeting, call, call_past, inspect};
+use omi_fixture_done::Done;
+use omi_fixture_gates::{Leading, Meeting, call, call_past, inspect};
 use omi_fixture_rows::{A_FULL_ROW, A_TEAM_OF_TWO};
 use omi_outside::{Call, Status};
 use std::alloc::Global;

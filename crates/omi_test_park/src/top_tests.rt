@@ -1,6 +1,7 @@
 //! Runs of threads with stops through the top call, and each of its refusals.
 
 use crate::gates::{AtSteps, MidRun};
+use omi_fixture_done::{Done, split};
 use omi_fixture_rows::{A_TEAM_OF_TWO, AN_EMPTY_RUN};
 use omi_outside::{Call, FreeGate, Gate, MemFiles, MemSink, Status};
 use omi_park::park_top;
@@ -23,51 +24,14 @@ icv dyn-var=0 nthreads-var=1 run-sched-var=static,0 default-device-var=0 final-t
 const A_LOCK: &str =
     "threads 4\nfunc c\nwork\nend\nfunc b\ncritical 1 c\nbarrier\nend\nfunc main\nparallel b num 4\nend\n";
 
-/// What a call left.
-struct Done {
-    status: Status,
-    files: MemFiles,
-    out: MemSink,
+/// Whether just this was printed.
+fn says(done: &Done, text: &str) -> bool {
+    done.out.bytes() == text.as_bytes()
 }
 
-// Written out: docs/DECISIONS.md, "A drop written out".
-impl Drop for Done {
-    fn drop(self) {
-        let Done {
-            status: _status,
-            files: _files,
-            out: _out,
-        } = self;
-    }
-}
-
-impl Done {
-    /// What was printed.
-    fn printed(&self, alloc: Global) -> Result<String, Fail> {
-        Ok(String::from_utf8(self.out.bytes().to_vec(alloc)?).map_err(|_| "no text")?)
-    }
-
-    /// Whether just this was printed.
-    fn says(&self, text: &str) -> bool {
-        self.out.bytes() == text.as_bytes()
-    }
-
-    /// Whether the files are as they were.
-    fn is_untouched(&self, script: &str) -> bool {
-        match (self.files.bytes("s"), self.files.bytes("other")) {
-            (Some(held), Some(other)) => held == script.as_bytes() && other == "stays".as_bytes(),
-            _ => false,
-        }
-    }
-}
-
-/// The words of a line, which are separated by blanks.
-fn words_of(alloc: Global, line: &str) -> Result<Vec<String>, AllocError> {
-    let mut words = Vec::new(alloc);
-    for word in line.split(' ') {
-        words.push(String::from_str(alloc, word)?)?;
-    }
-    Ok(words)
+/// Whether the files are as they were.
+fn is_untouched(done: &Done, script: &str) -> bool {
+    done.holds("s", script.as_bytes()) && done.holds("other", b"stays")
 }
 
 /// What a line over a script leaves, where these calls of files fail, and these puts.
@@ -84,7 +48,7 @@ fn call_failing<R: Threads + Wait + Sync, G: Gate>(
     files.put("s", script.as_bytes())?;
     files.put("other", b"stays")?;
     let mut out = MemSink::new(alloc, puts.to_vec(alloc)?);
-    let words = words_of(alloc, line)?;
+    let words = split(alloc, line)?;
     let status = park_top(rt, alloc, &words, &mut files, &mut out, gate);
     Ok(Done { status, files, out })
 }
@@ -114,7 +78,7 @@ fn no_budget_is_the_opening(rt: HostRuntime) -> Result<(), Fail> {
         let line = format!(in alloc; "0 {stops} s")?;
         let done = call(&rt, alloc, &line, AN_EMPTY_RUN, &FreeGate)?;
         assert_eq!(rt; done.status, Status::Success);
-        assert!(rt; done.is_untouched(AN_EMPTY_RUN));
+        assert!(rt; is_untouched(&done, AN_EMPTY_RUN));
         let mut wanted = String::new(alloc);
         for stop in 0..stops {
             let number = stop.wrapping_add(1);
@@ -258,8 +222,8 @@ fn refused_words(rt: HostRuntime) -> Result<(), Fail> {
     ] {
         let done = call(&rt, alloc, line, AN_EMPTY_RUN, &FreeGate)?;
         assert_eq!(rt; done.status, Status::Usage);
-        assert!(rt; done.says("usage\n"));
-        assert!(rt; done.is_untouched(AN_EMPTY_RUN));
+        assert!(rt; says(&done, "usage\n"));
+        assert!(rt; is_untouched(&done, AN_EMPTY_RUN));
     }
     Ok(())
 }
@@ -270,12 +234,12 @@ fn refused_scripts(rt: HostRuntime) -> Result<(), Fail> {
     let alloc = rt.alloc();
     let done = call(&rt, alloc, "0 1 none", AN_EMPTY_RUN, &FreeGate)?;
     assert_eq!(rt; done.status, Status::NoFile);
-    assert!(rt; done.says("no file none\n"));
+    assert!(rt; says(&done, "no file none\n"));
     let unknown = "func main\ntask g\nend\n";
     let done = call(&rt, alloc, "0 1 s", unknown, &FreeGate)?;
     assert_eq!(rt; done.status, Status::Script);
-    assert!(rt; done.says("script 2 4 UnknownName\n"));
-    assert!(rt; done.is_untouched(unknown));
+    assert!(rt; says(&done, "script 2 4 UnknownName\n"));
+    assert!(rt; is_untouched(&done, unknown));
     for kind in [Call::Size, Call::ReadAt] {
         let done = call_failing(
             &rt,
@@ -287,8 +251,8 @@ fn refused_scripts(rt: HostRuntime) -> Result<(), Fail> {
             &FreeGate,
         )?;
         assert_eq!(rt; done.status, Status::ReadFault);
-        assert!(rt; done.says("read fault s\n"));
-        assert!(rt; done.is_untouched(AN_EMPTY_RUN));
+        assert!(rt; says(&done, "read fault s\n"));
+        assert!(rt; is_untouched(&done, AN_EMPTY_RUN));
     }
     Ok(())
 }

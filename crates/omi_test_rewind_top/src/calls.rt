@@ -1,6 +1,7 @@
 //! Calls of the top call over a script in memory, and what they leave.
 
 use omi_core::{Break, Core, End, Schedule, Stop};
+use omi_fixture_done::{Done, words};
 use omi_fixture_rows::A_TEAM_OF_TWO;
 use omi_layout::Layout;
 use omi_outside::{Call, MemFiles, MemSink, Status};
@@ -10,34 +11,6 @@ use omi_script::parse;
 use std::alloc::{AllocError, Global};
 use std::process::Abort;
 use std::test::Fail;
-
-/// What a call left.
-pub struct Done {
-    pub status: Status,
-    pub files: MemFiles,
-    pub out: MemSink,
-}
-
-// Written out: docs/DECISIONS.md, "A drop written out".
-impl Drop for Done {
-    fn drop(self) {
-        let Done {
-            status: _status,
-            files: _files,
-            out: _out,
-        } = self;
-    }
-}
-
-impl Done {
-    /// Whether the script holds just these bytes.
-    pub fn keeps(&self, script: &str) -> bool {
-        match self.files.bytes("s") {
-            Some(held) => held == script.as_bytes(),
-            None => false,
-        }
-    }
-}
 
 /// What words leave over a script under `s`, if any, where these calls of reading and these puts fail.
 pub fn call(
@@ -52,10 +25,7 @@ pub fn call(
         files.put("s", script.as_bytes())?;
     }
     let mut out = MemSink::new(alloc, puts.to_vec(alloc)?);
-    let mut words = Vec::new(alloc);
-    for word in line {
-        words.push(String::from_str(alloc, word)?)?;
-    }
+    let words = words(alloc, line)?;
     let status = rewind_top(alloc, &words, &mut files, &mut out);
     Ok(Done { status, files, out })
 }
@@ -72,7 +42,7 @@ pub fn expect(
     let done = call(alloc, line, Some(script), &[], &[])?;
     assert_eq!(rt; done.status, status);
     assert_eq!(rt; done.out.bytes(), put.as_bytes());
-    assert!(rt; done.keeps(script));
+    assert!(rt; done.holds("s", script.as_bytes()));
     Ok(())
 }
 

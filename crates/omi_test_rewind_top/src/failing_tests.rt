@@ -26,7 +26,7 @@ fn each_read(rt: HostRuntime) -> Result<(), Fail> {
             let done = call(alloc, words, Some(A_TEAM_OF_TWO), &failing, puts)?;
             assert_eq!(rt; done.status, Status::ReadFault);
             assert_eq!(rt; done.out.bytes(), put.as_bytes());
-            assert!(rt; done.keeps(A_TEAM_OF_TWO));
+            assert!(rt; done.holds("s", A_TEAM_OF_TWO.as_bytes()));
         }
     }
     Ok(())

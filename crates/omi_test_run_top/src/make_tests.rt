@@ -29,8 +29,8 @@ fn a_made_workload(rt: HostRuntime) -> Result<(), Fail> {
     let done = run(rt.alloc(), &["make", "10", "m"], "")?;
     assert_eq!(rt; done.status, Status::Success);
     assert_eq!(rt; done.out.bytes(), b"made 10 tasks 80 by done\n".as_slice());
-    assert_eq!(rt; done.dest.bytes("other"), Some(b"stays".as_slice()));
-    let text = done.dest.bytes("m").ok_or("no script")?;
+    assert_eq!(rt; done.files.bytes("other"), Some(b"stays".as_slice()));
+    let text = done.files.bytes("m").ok_or("no script")?;
     assert_eq!(rt; text, TEXT.as_bytes());
     Ok(())
 }
@@ -47,7 +47,7 @@ fn expect_failed(
     let done = call(alloc, &line, ("", None), &[], writes, puts)?;
     assert_eq!(rt; done.status, Status::WriteFault);
     assert_eq!(rt; done.out.bytes(), b"".as_slice());
-    assert_eq!(rt; done.dest.bytes("m"), left);
+    assert_eq!(rt; done.files.bytes("m"), left);
     Ok(())
 }
 

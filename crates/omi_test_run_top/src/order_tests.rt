@@ -1,7 +1,8 @@
 //! The order of calls over the two objects of the top call, which no clause sees.
 
 use crate::watched::{Log, Noted, Object, Watched};
-use omi_fixture_calls::{core_of, words};
+use omi_fixture_calls::core_of;
+use omi_fixture_done::words;
 use omi_fixture_rows::A_TEAM_OF_TWO;
 use omi_outside::{Call, MemFiles, MemSink, Status};
 use omi_top::run_top;

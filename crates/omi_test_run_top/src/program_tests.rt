@@ -1,6 +1,7 @@
 //! What a program does before and behind its top call: the words that it is started with, and what it hands over at its end.
 
-use omi_fixture_calls::{EMPTY, core_of, with_word, words};
+use omi_fixture_calls::{EMPTY, core_of, with_word};
+use omi_fixture_done::words;
 use omi_frame::{handed_over, words_of};
 use omi_outside::{Call, DiskFiles, MemFiles, MemSink, Status};
 use omi_test_base::stand_in::Unruly;

@@ -36,8 +36,8 @@ fn expect_back(
     assert_eq!(rt; done.status, status);
     assert!(rt; are(done.out.bytes(), texts));
     let own = core_of(alloc, "0", EMPTY)?;
-    assert_eq!(rt; done.dest.bytes("c"), Some(own.as_slice()));
-    assert_eq!(rt; done.dest.bytes("other"), Some(b"stays".as_slice()));
+    assert_eq!(rt; done.files.bytes("c"), Some(own.as_slice()));
+    assert_eq!(rt; done.files.bytes("other"), Some(b"stays".as_slice()));
     Ok(())
 }
 
@@ -76,7 +76,7 @@ fn expect_failed(
     let (status, text) = ended;
     assert_eq!(rt; done.status, status);
     assert_eq!(rt; done.out.bytes(), text.as_bytes());
-    assert_eq!(rt; done.dest.bytes("c"), left);
+    assert_eq!(rt; done.files.bytes("c"), left);
     Ok(())
 }
 
@@ -136,6 +136,6 @@ fn a_run_up_to_a_break(rt: HostRuntime) -> Result<(), Fail> {
     let done = call(alloc, &line, (A_TEAM_OF_TWO, Some(&fork)), &[], &[], &[])?;
     assert_eq!(rt; done.status, Status::Success);
     assert!(rt; are(done.out.bytes(), &[TO_THE_FORK, FORKED]));
-    assert_eq!(rt; done.dest.bytes("c"), Some(fork.as_slice()));
+    assert_eq!(rt; done.files.bytes("c"), Some(fork.as_slice()));
     Ok(())
 }

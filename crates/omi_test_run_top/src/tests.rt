@@ -77,8 +77,8 @@ fn an_empty_run(rt: HostRuntime) -> Result<(), Fail> {
     assert_eq!(rt; done.status, Status::Success);
     let text = b"end steps 0 events 0 by steps\n";
     assert_eq!(rt; done.out.bytes(), text.as_slice());
-    assert_eq!(rt; done.dest.bytes("other"), Some(b"stays".as_slice()));
-    let core = done.dest.bytes("c").ok_or("no core")?;
+    assert_eq!(rt; done.files.bytes("other"), Some(b"stays".as_slice()));
+    let core = done.files.bytes("c").ok_or("no core")?;
     assert!(rt; core.starts_with(FRONT));
     expect_words(&rt, core, &EMPTY_WORDS);
     Ok(())
@@ -163,7 +163,7 @@ fn a_layout_by_its_option(rt: HostRuntime) -> Result<(), Fail> {
     let line = ["stop", "1000", "s", "c", "--layout", "7"];
     let done = run(rt.alloc(), &line, CHANGED)?;
     assert_eq!(rt; done.status, Status::Success);
-    assert_eq!(rt; done.dest.bytes("c").ok_or("no core")?.len(), 72_440);
+    assert_eq!(rt; done.files.bytes("c").ok_or("no core")?.len(), 72_440);
     Ok(())
 }
 
@@ -175,7 +175,7 @@ fn failing_appends_leave_a_prefix(rt: HostRuntime) -> Result<(), Fail> {
         let done = call(rt.alloc(), &line, (EMPTY, None), &[], &failing, &[])?;
         assert_eq!(rt; done.status, Status::WriteFault);
         assert_eq!(rt; done.out.bytes(), b"".as_slice());
-        let core = done.dest.bytes("c").ok_or("no core")?;
+        let core = done.files.bytes("c").ok_or("no core")?;
         assert_eq!(rt; core.len() as u64, 4096 * (append - 1));
     }
     Ok(())
@@ -190,7 +190,7 @@ fn expect_refusal(rt: &impl Abort, alloc: Global, row: &Refused<'_>) -> Result<(
     let done = call(alloc, line, (script, None), reads, &[], &[])?;
     assert_eq!(rt; done.status, status);
     assert_eq!(rt; done.out.bytes(), text.as_bytes());
-    assert!(rt; done.dest.bytes("c").is_none());
+    assert!(rt; done.files.bytes("c").is_none());
     let silent = call(alloc, line, (script, None), reads, &[], &[1])?;
     assert_eq!(rt; silent.status, status);
     assert_eq!(rt; silent.out.bytes(), b"".as_slice());
@@ -274,6 +274,6 @@ fn a_failing_output(rt: HostRuntime) -> Result<(), Fail> {
     let line = ["stop", "0", "s", "c"];
     let done = call(rt.alloc(), &line, (EMPTY, None), &[], &[], &[1])?;
     assert_eq!(rt; done.status, Status::WriteFault);
-    assert_eq!(rt; done.dest.bytes("c").ok_or("no core")?.len(), 68_056);
+    assert_eq!(rt; done.files.bytes("c").ok_or("no core")?.len(), 68_056);
     Ok(())
 }

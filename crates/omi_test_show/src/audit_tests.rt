@@ -352,7 +352,7 @@ fn the_other_order(rt: HostRuntime) -> Result<(), Fail> {
     for (core, text) in [(&core, "audit ok records 2\n"), (&changed, LEVELS)] {
         let line = ["recode", "1", "c", "d"];
         let done = call(alloc, &line, ("", Some(core)), &[], &[], &[])?;
-        let copy = done.dest.bytes("d");
+        let copy = done.files.bytes("d");
         expect(&rt, alloc, copy, &[], Status::Success, text)?;
     }
     Ok(())

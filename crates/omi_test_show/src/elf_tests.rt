@@ -2,7 +2,8 @@
 
 use crate::elf_files::{hand_made, with_bytes};
 use crate::show_tests::{FINISHED, OPENING, expect};
-use omi_fixture_calls::{CHANGED, Done, EMPTY, call, core_of};
+use omi_fixture_calls::{CHANGED, EMPTY, call, core_of};
+use omi_fixture_done::Done;
 use omi_outside::{Call, Status};
 use std::alloc::{AllocError, Global};
 use std::process::Abort;
@@ -28,8 +29,8 @@ fn elf(alloc: Global, core: &[u8]) -> Result<Done, AllocError> {
 fn expect_done(rt: &impl Abort, done: &Done, status: Status, text: &[u8], copy: Option<&[u8]>) {
     assert_eq!(rt; done.status, status);
     assert_eq!(rt; done.out.bytes(), text);
-    assert_eq!(rt; done.dest.bytes("d"), copy);
-    assert_eq!(rt; done.dest.bytes("other"), Some(b"stays".as_slice()));
+    assert_eq!(rt; done.files.bytes("d"), copy);
+    assert_eq!(rt; done.files.bytes("other"), Some(b"stays".as_slice()));
 }
 
 /// The file that `elf` writes of a core.
@@ -246,7 +247,7 @@ fn read_by_others(rt: HostRuntime) -> Result<(), Fail> {
         assert_eq!(rt; of_core.status, Status::Success);
         assert_eq!(rt; of_file.status, Status::Success);
         assert_eq!(rt; of_file.out.bytes(), of_core.out.bytes());
-        assert_eq!(rt; of_file.dest.bytes("c"), of_core.dest.bytes("c"));
+        assert_eq!(rt; of_file.files.bytes("c"), of_core.files.bytes("c"));
     }
     Ok(())
 }

@@ -1,7 +1,8 @@
 //! How much of a core `show` reads, and each of its reads failing.
 
 use crate::counted::Counted;
-use omi_fixture_calls::{EMPTY, call, core_of, core_with, words};
+use omi_fixture_calls::{EMPTY, call, core_of, core_with};
+use omi_fixture_done::words;
 use omi_fixture_rows::A_TEAM_OF_TWO;
 use omi_outside::{Call, MemFiles, MemSink, Status};
 use omi_top::run_top;

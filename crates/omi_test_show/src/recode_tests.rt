@@ -1,7 +1,8 @@
 //! Runs of `recode` through the top call: the copy in either order, its report, and each refusal.
 
 use crate::show_tests::{FINISHED, OPENING, expect};
-use omi_fixture_calls::{CHANGED, Done, EMPTY, call, core_of};
+use omi_fixture_calls::{CHANGED, EMPTY, call, core_of};
+use omi_fixture_done::Done;
 use omi_outside::{Call, Status};
 use std::alloc::{AllocError, Global};
 use std::process::Abort;
@@ -29,8 +30,8 @@ fn recode(alloc: Global, order: &str, core: &[u8]) -> Result<Done, AllocError> {
 fn expect_done(rt: &impl Abort, done: &Done, status: Status, text: &[u8], copy: Option<&[u8]>) {
     assert_eq!(rt; done.status, status);
     assert_eq!(rt; done.out.bytes(), text);
-    assert_eq!(rt; done.dest.bytes("d"), copy);
-    assert_eq!(rt; done.dest.bytes("other"), Some(b"stays".as_slice()));
+    assert_eq!(rt; done.files.bytes("d"), copy);
+    assert_eq!(rt; done.files.bytes("other"), Some(b"stays".as_slice()));
 }
 
 /// A core in order 1 has byte 9 and the words of it, and the same report; back in order 0 it has its bytes again.

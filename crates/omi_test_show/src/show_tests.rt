@@ -1,6 +1,7 @@
 //! Runs of `show` through the top call, and each of its refusals.
 
-use omi_fixture_calls::{CHANGED, EMPTY, core_of, opening_core_v1, with_word, words};
+use omi_fixture_calls::{CHANGED, EMPTY, core_of, opening_core_v1, with_word};
+use omi_fixture_done::words;
 use omi_outside::{Call, MemFiles, MemSink, Status};
 use omi_top::run_top;
 use std::alloc::{AllocError, Global};

@@ -1,0 +1,8 @@
+//! The words of a line, and what a call of a program leaves over files in memory. For tests of programs.
+#![tactic(auto)]
+
+mod done;
+mod words;
+
+pub use done::Done;
+pub use words::{split, words};
