@@ -1,5 +1,5 @@
 -- What a thread at a table keeps of its steps, and its room for further ones.
-use Rattle.std.specs.Prelude.{◌≡◌, ◌<◌, ◌≤◌, ℕ, ◌+◌, length, map}
+use Rattle.std.specs.Prelude.{◌≡◌, ◌<◌, ◌≤◌, ℕ, ◌+◌, [], length, map}
 use Rattle.omi_word.specs.declared.op.Op.{Op}
 use Rattle.omi_script.specs.declared.program.Program.{Program}
 use Rattle.omi_layout.specs.declared.layout.Layout.{Layout}
@@ -15,7 +15,7 @@ use Rattle.omi_seat.specs.declared.step_log.StepLog.{StepLog}
 use Rattle.omi_seat.specs.Behind.{CanStep}
 use Rattle.omi_seat.specs.Known.{actor_known, claims_known, entry_known, finds, own_steps, steps_known}
 
--- What is kept of a thread of a program in a layout is what is known of it. Its steps are, where they are kept
+-- What is kept of a thread of a program in a layout is what is known of it. Its steps are listed where they are kept, and none is where their number alone is
 pub record IsLogOf (p : Program) (l : Layout) (x : Known) (log : StepLog) : Type 0 where
   pub program : x.program ≡ p
   pub layout : x.layout ≡ l
@@ -24,6 +24,7 @@ pub record IsLogOf (p : Program) (l : Layout) (x : Known) (log : StepLog) : Type
   pub steps : log.steps ≡ length x.found
   pub actor : log.actor ≡ actor_known x
   pub made : log.kept ≡ kept.Steps → log.made.items ≡ map (made_of x.thread) (steps_known x)
+  pub none : log.kept ≡ kept.Count → log.made.items ≡ []
   pub events : log.events.items ≡ events_behind 0 (own_steps x.thread (steps_known x))
 
 -- it has room for so many more steps, whatever they commit

@@ -61,6 +61,7 @@ fn list_step(made: &mut MadeList, kept: Kept, step: Made)
     requires { kept ≡ Kept.Steps → 1 ≤ made.old.spare }
     ensures items { kept ≡ Kept.Steps → made.new.items ≡ made.old.items ++ step ∷ [] }
     ensures spare { kept ≡ Kept.Steps → made.new.spare + 1 ≡ made.old.spare }
+    ensures none { kept ≡ Kept.Count → made.new.items ≡ made.old.items }
 {
     match kept {
         Kept::Steps => made.push_reserved(step),

@@ -71,6 +71,7 @@ returns-clause-listed c x next =
             ∙ ap (λ (m : Made). c.args.self.now.made.items ++ m ∷ [])
             (λ k. record { op = op_is k; old = c.args.old; thread = log.thread k; turn = turn_is k })
             ∙ made_more x c.args.old c.args.self.now.made.items (log.made is);
+        none = λ is. c.list_step.ensures.none is ∙ log.none is;
         events =
             c.list_event.ensures.items
             ∙ (λ k. c.args.self.now.events.items ++ event_of (count k + 1) (log.thread k) (out k))
