@@ -6,6 +6,7 @@ pub mod Placing
 pub mod KeptPages
 pub mod Answering
 pub mod Telling
+pub mod ElfWords
 pub mod OpenedFiles
 pub mod Symbols
 pub mod Borrowing

@@ -13,7 +13,7 @@ use Rattle.omi_page.specs.Spans.{word_there, words_there, segment_there, segment
 use Rattle.omi_page.specs.Bounds.{bounds_at, EndWithin}
 use Rattle.omi_page.specs.Outcomes.{Fails}
 use Rattle.omi_page.specs.declared.fault.PageError.{PageError}
-use Rattle.omi_page.specs.declared.fault.PageError.TheVariants.{Fault, NoFile, Failed, OutOfMemory}
+use Rattle.omi_page.specs.declared.fault.PageError.TheVariants.{Fault, Elf, NoFile, Failed, OutOfMemory}
 
 -- one number
 number_there : (len order : ℕ) (bytes : List ℕ) (at : ℕ) → at + 8 ≤ length bytes
@@ -146,6 +146,7 @@ unfolding segment_at
 segment_fault (Fault at why) len order left bytes e =
     failed_two (start_at len left.0 bytes) (λ s. word_count_at len left.1 s.1) (λ s c. ((s.0, c.0), c.1))
     (λ s c. words_then len order s.0 c.0 c.1) (at, why) e
+segment_fault (Elf at why) len order left bytes e = e
 segment_fault NoFile len order left bytes e = e
 segment_fault Failed len order left bytes e = tt
 segment_fault OutOfMemory len order left bytes e = tt
@@ -186,6 +187,7 @@ pub segments_fault : (error : PageError) (front : List Segment) (len order count
 segments_fault (Fault at why) front len order count counter left bytes total below e so_far =
     row_fails (core.Fault at why)
     (segment_at len order) left_after front count counter left bytes total below e so_far
+segments_fault (Elf at why) front len order count counter left bytes total below e so_far = e
 segments_fault NoFile front len order count counter left bytes total below e so_far = e
 segments_fault Failed front len order count counter left bytes total below e so_far = tt
 segments_fault OutOfMemory front len order count counter left bytes total below e so_far = tt

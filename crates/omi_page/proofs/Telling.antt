@@ -1,11 +1,11 @@
 -- What a core file tells, by the places of its words.
-use Rattle.std.proofs.Common.{◌≡◌, ℕ, zero, suc, ◌+◌, ◌-◌, ◌*◌, ◌/◌, ◌%◌, ◌<◌, ◌≤◌, true, false, ltb, leb, eqb, List, [], ◌∷◌, Option, Some, None, Result, Ok, Err, IsSome, refl, sym, ap, subst, ◌∙◌, arith, inl, inr}
+use Rattle.std.proofs.Common.{◌≡◌, ℕ, zero, suc, ◌+◌, ◌-◌, ◌*◌, ◌/◌, ◌%◌, ◌<◌, ◌≤◌, true, false, ltb, leb, eqb, List, [], ◌∷◌, Option, Some, None, IsSome, refl, sym, ap, subst, ◌∙◌, arith, inl, inr}
 use Rattle.std.specs.Prelude.{slice_get}
 use Rattle.std.specs.Option.{option_or, option_map, is_some}
 use Rattle.std.proofs.lemmas.Bool.{cases_lt, lt-ltb, le-ltb, le-leb, eq-eqb, ne_eqb}
 use Rattle.std.proofs.lemmas.Bool.Decides.{nat_tests}
 use Rattle.omi_outside.specs.Outside.{Told as FileTold}
-use Rattle.omi_corefile.specs.Refusals.{ReadRefusal, Parts, reading}
+use Rattle.omi_corefile.specs.Refusals.{Parts}
 use Rattle.omi_word.specs.Words.{Words}
 use Rattle.omi_corefile.specs.ByteOrder.{number_of}
 use Rattle.omi_calls.specs.Told.{Symbols, aligned_word_at}
@@ -15,7 +15,7 @@ use Rattle.omi_calls.proofs.ToldSymbols.{same_symbols}
 use Rattle.omi_page.specs.declared.span.Span.{Span}
 use Rattle.omi_read.specs.Holding.{Holds}
 use Rattle.omi_page.specs.Spans.{eight_at, word_there, words_there, segment_there, segments_there, place_of, place_in}
-use Rattle.omi_page.specs.Told.{told_by_reading, told_by_file}
+use Rattle.omi_page.specs.Told.{parts_of_bytes, told_by_parts, told_by_file}
 use Rattle.omi_page.specs.Paging.{IsPage, ArePartsOf}
 
 -- ---- the words of a span
@@ -82,7 +82,7 @@ pub record Tells (told : FileTold) (words : Words) : Type 0 where
   pub bytes : List ℕ
   pub parts : Parts
   pub holds : Holds told bytes
-  pub read : reading bytes ≡ Ok parts
+  pub read : parts_of_bytes bytes ≡ Some parts
   pub words_are : words_of_segments parts.segments ≡ words
   pub order_is : (told_by_file told).order ≡ Some parts.order
 
@@ -93,20 +93,20 @@ same_words a b e = ap (λ o. unwrapped o) e
     unwrapped (Some w) = w
     unwrapped None = a
 
-by_reading : (bytes : List ℕ) (words rest : Words) (read : Result Parts ReadRefusal) → reading bytes ≡ read
-    → (told_by_reading read).words rest ≡ Some words → Tells (Some (Some bytes)) words
-by_reading bytes words rest (Ok parts) is e = record {
+by_parts : (bytes : List ℕ) (words rest : Words) (read : Option Parts) → parts_of_bytes bytes ≡ read
+    → (told_by_parts read).words rest ≡ Some words → Tells (Some (Some bytes)) words
+by_parts bytes words rest (Some parts) is e = record {
   bytes = bytes;
   parts = parts;
   holds = refl;
   read = is;
   words_are = same_words (words_of_segments parts.segments) words e;
-  order_is = ap (λ r. (told_by_reading r).order) is;
+  order_is = ap (λ r. (told_by_parts r).order) is;
 }
-by_reading bytes words rest (Err refusal) is e = absurd cc
+by_parts bytes words rest None is e = absurd cc
 
 pub tells : (told : FileTold) (words rest : Words) → (told_by_file told).words rest ≡ Some words → Tells told words
-tells (Some (Some bytes)) words rest e = by_reading bytes words rest (reading bytes) refl e
+tells (Some (Some bytes)) words rest e = by_parts bytes words rest (parts_of_bytes bytes) refl e
 tells (Some None) words rest e = absurd cc
 tells None words rest e = absurd cc
 
@@ -130,8 +130,8 @@ tells_places told order contexts spans words rest addr e parts aligned =
     record {
       bytes = t.bytes;
       holds = t.holds;
-      order_is = λ other told_other. same_order other t.parts.order (sym told_other ∙ t.order_is) ∙ are.0;
-      word_is = rw test (ap (λ w. w addr) (sym t.words_are) ∙ ap (λ ss. words_of_segments ss addr) are.2 ∙ place_words order t.bytes spans addr aligned);
+      order_is = λ other told_other. same_order other t.parts.order (sym told_other ∙ t.order_is) ∙ are.order_is;
+      word_is = rw test (ap (λ w. w addr) (sym t.words_are) ∙ are.words_are addr aligned);
     }
 
 -- ---- the answers of a read
@@ -193,7 +193,7 @@ pub told_order : (told : FileTold) (order : ℕ) (contexts : List ℕ) (spans : 
 told_order told order contexts spans words rest e parts =
     let t = tells told words rest e in
     let are = parts t.bytes t.parts t.holds t.read in
-    t.order_is ∙ ap (λ (n : ℕ). Some n) are.0
+    t.order_is ∙ ap (λ (n : ℕ). Some n) are.order_is
 
 -- where symbols are told, they are those of the table that the told words hold
 pub record TellsSymbols (told : FileTold) (symbols : Symbols) : Type 0 where
@@ -202,32 +202,32 @@ pub record TellsSymbols (told : FileTold) (symbols : Symbols) : Type 0 where
   pub told_words : (told_by_file told).words rest ≡ Some words
   pub symbols_are : symbol_in (aligned_word_at words) ≡ symbols
 
-symbols_by : (bytes : List ℕ) (symbols : Symbols) (read : Result Parts ReadRefusal) → reading bytes ≡ read
-    → (told_by_reading read).symbols ≡ Some symbols → TellsSymbols (Some (Some bytes)) symbols
-symbols_by bytes symbols (Ok parts) is e = record {
+symbols_by : (bytes : List ℕ) (symbols : Symbols) (read : Option Parts) → parts_of_bytes bytes ≡ read
+    → (told_by_parts read).symbols ≡ Some symbols → TellsSymbols (Some (Some bytes)) symbols
+symbols_by bytes symbols (Some parts) is e = record {
   words = words_of_segments parts.segments;
   rest = λ _. None;
-  told_words = ap (λ r. (told_by_reading r).words (λ _. None)) is;
+  told_words = ap (λ r. (told_by_parts r).words (λ _. None)) is;
   symbols_are = same_symbols (symbol_in (aligned_word_at (words_of_segments parts.segments))) symbols e;
 }
-symbols_by bytes symbols (Err refusal) is e = absurd cc
+symbols_by bytes symbols None is e = absurd cc
 
 pub tells_symbols : (told : FileTold) (symbols : Symbols) → (told_by_file told).symbols ≡ Some symbols
     → TellsSymbols told symbols
-tells_symbols (Some (Some bytes)) symbols e = symbols_by bytes symbols (reading bytes) refl e
+tells_symbols (Some (Some bytes)) symbols e = symbols_by bytes symbols (parts_of_bytes bytes) refl e
 tells_symbols (Some None) symbols e = absurd cc
 tells_symbols None symbols e = absurd cc
 
 -- an order that is told is this one
-order_by : (bytes : List ℕ) (order other : ℕ) (read : Result Parts ReadRefusal) → reading bytes ≡ read
-    → (told_by_reading read).order ≡ Some other
-    → ((parts : Parts) → reading bytes ≡ Ok parts → parts.order ≡ order) → other ≡ order
-order_by bytes order other (Ok parts) is e all = let same : parts.order ≡ other = cc in sym same ∙ all parts is
-order_by bytes order other (Err refusal) is e all = absurd cc
+order_by : (bytes : List ℕ) (order other : ℕ) (read : Option Parts) → parts_of_bytes bytes ≡ read
+    → (told_by_parts read).order ≡ Some other
+    → ((parts : Parts) → parts_of_bytes bytes ≡ Some parts → parts.order ≡ order) → other ≡ order
+order_by bytes order other (Some parts) is e all = let same : parts.order ≡ other = cc in sym same ∙ all parts is
+order_by bytes order other None is e all = absurd cc
 
 pub no_other_order : (told : FileTold) (order : ℕ) (contexts : List ℕ) (spans : List Span) (other : ℕ)
     → ArePartsOf told order contexts spans → (told_by_file told).order ≡ Some other → other ≡ order
 no_other_order (Some (Some bytes)) order contexts spans other parts e =
-    order_by bytes order other (reading bytes) refl e (λ p read. (parts bytes p refl read).0)
+    order_by bytes order other (parts_of_bytes bytes) refl e (λ p read. (parts bytes p refl read).order_is)
 no_other_order (Some None) order contexts spans other parts e = absurd cc
 no_other_order None order contexts spans other parts e = absurd cc

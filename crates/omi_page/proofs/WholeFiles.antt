@@ -9,13 +9,14 @@ use Rattle.omi_corefile.proofs.Numbers.{bind_again}
 use Rattle.omi_corefile.proofs.Readings.{bind_failed}
 use Rattle.omi_corefile.proofs.FileLaws.{after_header, after_contexts, after_segments, ended}
 use Rattle.omi_page.specs.declared.fault.PageError.{PageError}
-use Rattle.omi_page.specs.declared.fault.PageError.TheVariants.{Fault, NoFile, Failed, OutOfMemory}
+use Rattle.omi_page.specs.declared.fault.PageError.TheVariants.{Fault, Elf, NoFile, Failed, OutOfMemory}
 use Rattle.omi_page.specs.Outcomes.{Fails}
 
 -- what failed fails what follows it
 bind_fails : {A B : Type 0} (error : PageError) (read : Result A ReadRefusal) (f : A → Result B ReadRefusal)
     → Fails error read → Fails error (read >>= f)
 bind_fails (Fault at why) read f e = bind_failed read f (at, why) e
+bind_fails (Elf at why) read f e = e
 bind_fails NoFile read f e = e
 bind_fails Failed read f e = tt
 bind_fails OutOfMemory read f e = tt

@@ -30,10 +30,6 @@ module _ {F : Type 0} {g : files.Ghosts F} where
   abbrev pub faults_counted : Pages F g → ℕ
   faults_counted pages = g.reads pages.files.now
 
-  -- how many reads and look-ups were asked for
-  abbrev pub calls_made : Pages F g → ℕ
-  calls_made pages = pages.asked
-
   -- what is borrowed stays as it was, but for the count of reads that failed
   pub record StaysBorrowed (old new : Pages F g) : Type 0 where
     pub reference : new.files.ghost_name ≡ old.files.ghost_name

@@ -1,6 +1,8 @@
--- The bounds of segments, which are read without their words.
-use Rattle.std.specs.Prelude.{◌≡◌, ℕ, ◌+◌, ◌*◌, ◌≤◌, List, slice_get, Some, Ok}
+-- The bounds of segments, which are read without their words, and where the words of an ELF file's segments stand.
+use Rattle.std.specs.Prelude.{◌≡◌, ℕ, ◌+◌, ◌*◌, ◌≤◌, List, map, slice_get, Some, Ok}
 use Rattle.omi_corefile.specs.Refusals.{ReadStep, ◌>>=◌, Left, start_at, word_count_at}
+use Rattle.omi_elf.specs.Header.{word_count}
+use Rattle.omi_elf.specs.declared.program_header.ProgramHeader.{ProgramHeader}
 use Rattle.omi_page.specs.declared.span.Span.{Span}
 
 -- a start address and a number of words
@@ -14,3 +16,14 @@ bounds_at len left bytes = do
 abbrev pub EndWithin : ℕ → List Span → Type 0
 EndWithin len spans =
     (k : ℕ) (s : Span) → slice_get spans k ≡ Some s → s.place + 8 * s.count ≤ len
+
+-- a start address, a number of words and a place: those of a span, and those of a segment of an ELF file
+abbrev pub span_bounds : Span → ℕ × ℕ × ℕ
+span_bounds s = (s.start, s.count, s.place)
+
+abbrev pub segment_bounds : ProgramHeader → ℕ × ℕ × ℕ
+segment_bounds h = (h.p_vaddr, word_count h, h.p_offset)
+
+-- each span is where the words of a segment stand
+abbrev pub AreBoundsOf : List ProgramHeader → List Span → Type 0
+AreBoundsOf hs spans = map span_bounds spans ≡ map segment_bounds hs

@@ -6,8 +6,9 @@ pub mod Spans
 pub mod Bounds
 pub mod Outcomes
 pub mod Left
--- What is told, and what is kept of a file.
+-- What is told, what the file of a core is, and what is kept of it.
 pub mod Told
+pub mod CoreFiles
 pub mod Paging
 pub mod Borrowed
 pub mod Lending

@@ -2,7 +2,7 @@
 
 ghost use Rattle.std.specs.Prelude.{◌≡◌, None};
 ghost use Rattle.omi_calls.specs.Kept.{IsOrderOf};
-ghost use Rattle.omi_page.specs.Borrowed.{calls_made, faults_counted, order_of, told_of};
+ghost use Rattle.omi_page.specs.Borrowed.{faults_counted, order_of, told_of};
 ghost use Rattle.omi_page.specs.Lending.{IsLent, Lending};
 
 use crate::Pages;
@@ -56,8 +56,6 @@ impl<'a, F: Files, L: Loan> Callbacks for LentPages<'a, F, L> {
     ghost told = { λ lent. told_of lent.pages };
 
     ghost faults = { λ lent. faults_counted lent.pages };
-
-    ghost asked = { λ lent. calls_made lent.pages };
 
     fn read_memory(&mut self, addr: u64, to: &mut [u8; 8]) -> Got {
         self.pages.read_memory(addr, to)

@@ -1,7 +1,10 @@
 //! Cores that are read on demand, a page of words at a time.
 #![tactic(auto)]
 
+mod contents;
+mod elf;
 mod fault;
+mod formats;
 mod keeping;
 mod lent;
 mod limits;

@@ -6,6 +6,9 @@ pub const PAGE_BYTES: usize = 4_096;
 /// The most pages that are kept.
 pub const MOST_PAGES: usize = 16;
 
+/// The bytes that tell whether a file is an ELF file.
+pub const MAGIC_BYTES: usize = 4;
+
 /// The bytes of a core file before its contexts.
 pub const HEADER_BYTES: usize = 16;
 

@@ -1,20 +1,19 @@
-//! A core file that was opened: what stands in it beside its words, and room for pages.
+//! The file of a core that was opened: what stands in it beside its words, and room for pages.
 
 ghost use Rattle.std.specs.Prelude.{◌≡◌, ◌≤◌, List, ℕ, Some, None, IfOk, OnOk, IsOk, IfErr, IsErrOf, Err, length, vec_len, []};
 ghost use Rattle.omi_outside.specs.Outside.{HasCause};
-ghost use Rattle.omi_corefile.specs.Outcomes.{IsCore};
-ghost use Rattle.omi_corefile.specs.Spelling.{Core};
-ghost use Rattle.omi_corefile.specs.Refusals.{CoreRefused};
 ghost use Rattle.omi_corefile.specs.declared.core_image.CoreImage.{CoreImage};
-ghost use Rattle.omi_corefile.specs.declared.fault.CoreFault.{CoreFault};
 ghost use Rattle.omi_corefile.specs.declared.limits.TheConstants.{MOST_CONTEXTS};
 ghost use Rattle.omi_page.specs.declared.limits.TheConstants.{MOST_PAGES, PAGE_BYTES};
+ghost use Rattle.omi_page.specs.CoreFiles.{IsFault, IsFileOf, StandsForCore};
 ghost use Rattle.omi_page.specs.Outcomes.{IsFaultOf, UnlessFree};
+ghost use Rattle.omi_page.specs.declared.fault.PageError.{PageError};
 ghost use Rattle.omi_read.specs.Holding.{Holds};
 ghost use Rattle.omi_page.specs.Paging.{IsOpened};
 
+use crate::contents::Contents;
+use crate::formats::read_contents;
 use crate::keeping::Kept;
-use crate::opening::{Contents, read_contents};
 use crate::{MOST_PAGES, PAGE_BYTES, PageError};
 use lru::LruCache;
 use omi_list::OutOfMemory;
@@ -23,7 +22,7 @@ use omi_word::Natives;
 use std::alloc::Global;
 use std::num::NonZeroUsize;
 
-/// A core file that was opened. All memory that its pages need is taken, but for the pages that are kept.
+/// The file of a core that was opened. All memory that its pages need is taken, but for the pages that are kept.
 #[derive(Drop)]
 pub struct Opened {
     pub alloc: Global,
@@ -54,26 +53,27 @@ fn no_pages(alloc: Global) -> Result<Kept, OutOfMemory>
     LruCache::sparse(alloc, most)
 }
 
-/// Opens a core file. It reads the header, the contexts, and each segment's start address and number of words, and no word.
+/// Opens the file of a core, an ELF core file where it begins with the four bytes of every ELF file, and else a core file. It reads what stands
+/// in it beside its words, and no word.
 pub fn open<F: Files>(alloc: Global, files: &mut F, name: &str) -> Result<Opened, PageError>
     // What is answered of a file that is a core, of one that isn't, and of one that isn't there.
     ensures accepts { (bytes : List ℕ) (c : CoreImage) → Holds (F.told files.old name.now) bytes
-        → Core bytes c → UnlessFree result (IsOk result) }
+        → IsFileOf bytes c → UnlessFree result (IsOk result) }
     ensures contexts { (bytes : List ℕ) (c : CoreImage)
-        → Holds (F.told files.old name.now) bytes → Core bytes c
+        → Holds (F.told files.old name.now) bytes → IsFileOf bytes c
         → IfOk result (λ opened. opened.contents.contexts ≡ c.contexts) }
     ensures order { (bytes : List ℕ) (c : CoreImage)
-        → Holds (F.told files.old name.now) bytes → Core bytes c
+        → Holds (F.told files.old name.now) bytes → IsFileOf bytes c
         → IfOk result (λ opened. opened.contents.order ≡ c.order) }
     ensures fault { (bytes : List ℕ) → Holds (F.told files.old name.now) bytes
         → IfErr result (IsFaultOf bytes) }
-    ensures refuses { (bytes : List ℕ) (at : ℕ) (why : CoreFault)
-        → Holds (F.told files.old name.now) bytes → CoreRefused bytes at why
-        → UnlessFree result (result ≡ Err (PageError.Fault at why)) }
+    ensures refuses { (bytes : List ℕ) (error : PageError)
+        → Holds (F.told files.old name.now) bytes → IsFault bytes error
+        → UnlessFree result (result ≡ Err error) }
     ensures missing { F.told files.old name.now ≡ Some None
         → UnlessFree result (result ≡ Err PageError.NoFile) }
     ensures core { (bytes : List ℕ) → Holds (F.told files.old name.now) bytes
-        → OnOk result (IsCore bytes) }
+        → OnOk result (StandsForCore bytes) }
     ensures opened { IfOk result (λ opened. IsOpened (F.told files.new name.now) opened.contents) }
 
     // No bytes change. A fault is counted as one of reading.

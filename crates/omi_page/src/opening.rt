@@ -1,18 +1,18 @@
 //! Reading what stands in a core file beside its words: the header, the contexts, and the bounds of each segment.
 
-ghost use Rattle.std.specs.Prelude.{◌≡◌, ◌+◌, ◌*◌, ◌%◌, ◌≤◌, ◌<◌, List, ℕ, length, drop, IfOk, OnOk, IsErrOf, Some, None, Err};
+ghost use Rattle.std.specs.Prelude.{◌≡◌, ◌+◌, ◌*◌, ◌%◌, ◌≤◌, ◌<◌, List, ℕ, length, drop, IfOk, IsErrOf};
 ghost use Rattle.omi_word.specs.declared.limits.TheConstants.{MEMORY_END};
-ghost use Rattle.omi_outside.specs.Outside.{AreBytes, HasCause};
+ghost use Rattle.omi_outside.specs.Outside.{HasCause};
 ghost use Rattle.omi_corefile.specs.Refusals.{header_at, contexts_at, segment_at, segments_at, reading};
-ghost use Rattle.omi_corefile.specs.declared.fault.CoreFault.{CoreFault};
 ghost use Rattle.omi_corefile.specs.Outcomes.{Gives as ReadGives};
 ghost use Rattle.omi_corefile.specs.declared.limits.TheConstants.{MOST_SEGMENT_WORDS, MOST_CONTEXTS};
-ghost use Rattle.omi_page.specs.Outcomes.{Gives, UnlessFree};
+ghost use Rattle.omi_page.specs.Outcomes.{Gives};
 ghost use Rattle.omi_read.specs.Holding.{IsLength, Holds};
 ghost use Rattle.omi_page.specs.Spans.{segment_there, segments_there};
 ghost use Rattle.omi_page.specs.Bounds.{bounds_at, EndWithin};
 
 use crate::PageError;
+use crate::contents::Contents;
 use crate::limits::{CONTEXT_BYTES, HEADER_BYTES, SPAN_BYTES};
 use crate::span::{Span, SpanList};
 use omi_corefile::decoding::{Counts, contexts, header};
@@ -176,46 +176,14 @@ pub fn read_spans<F: Files>(
     Ok((spans, at))
 }
 
-/// The length of a file.
-fn len_of<F: Files>(files: &mut F, name: &str) -> Result<u64, PageError>
-    ensures len { IfOk result (IsLength (F.told files.old name.now)) }
-    ensures there { F.told files.old name.now ≡ Some None
-        → UnlessFree result (result ≡ Err PageError.NoFile) }
-    ensures missing { IsErrOf result PageError.NoFile → (bytes : List ℕ)
-        → ¬ Holds (F.told files.old name.now) bytes }
-    ensures no_fault { (at : ℕ) (why : CoreFault) → ¬ IsErrOf result (PageError.Fault at why) }
-    ensures are_bytes { (bytes : List ℕ) → Holds (F.told files.old name.now) bytes
-        → OnOk result (AreBytes bytes) }
-
-    // No bytes change. A fault is counted as one of reading.
-    ensures same { F.told files.new ≡ F.told files.old }
-    ensures cause { HasCause (F.reads files.old) (F.reads files.new)
-        (IsErrOf result PageError.Failed) }
-    ensures writes { F.writes files.new ≡ F.writes files.old }
-{
-    match files.size(name)? {
-        Some(len) => Ok(len),
-        None => Err(PageError::NoFile),
-    }
-}
-
-/// What stands in a core file beside its words.
-#[derive(Drop)]
-pub struct Contents {
-    pub len: u64,
-    pub order: u8,
-    pub contexts: Natives,
-    pub spans: SpanList,
-    pub ghost few: { length contexts ≤ MOST_CONTEXTS },
-    pub ghost known: { order ≤ 1 },
-}
-
-/// What stands in a core file beside its words. No word is read.
-pub fn read_contents<F: Files>(
+/// What stands in a core file of `len` bytes beside its words. No word is read.
+pub fn read_core<F: Files>(
     alloc: Global,
     files: &mut F,
     name: &str,
+    len: u64,
 ) -> Result<Contents, PageError>
+    requires len { IsLength (F.told files.old name.now) len }
     ensures read { (bytes : List ℕ) → Holds (F.told files.old name.now) bytes → Gives
         (λ x. record {
           order = x.order;
@@ -223,12 +191,8 @@ pub fn read_contents<F: Files>(
           segments = segments_there x.order bytes x.spans;
         })
         result (reading bytes) }
-    ensures missing { F.told files.old name.now ≡ Some None
-        → UnlessFree result (result ≡ Err PageError.NoFile) }
     ensures len { IfOk result (λ x. IsLength (F.told files.old name.now) x.len) }
     ensures ends { IfOk result (λ x. EndWithin x.len x.spans) }
-    ensures are_bytes { (bytes : List ℕ) → Holds (F.told files.old name.now) bytes
-        → OnOk result (AreBytes bytes) }
 
     // No bytes change. A fault is counted as one of reading.
     ensures same { F.told files.new ≡ F.told files.old }
@@ -236,7 +200,6 @@ pub fn read_contents<F: Files>(
         (IsErrOf result PageError.Failed) }
     ensures writes { F.writes files.new ≡ F.writes files.old }
 {
-    let len = len_of(files, name)?;
     let counts = read_header(files, name, len)?;
     let contexts = read_contexts(alloc, files, name, len, counts.contexts)?;
     let first = HEADER_BYTES as u64 + 8 * counts.contexts as u64;

@@ -1,30 +1,30 @@
-//! A core file that is read on demand.
+//! A core that is read on demand from its file.
 
 ghost use Rattle.std.specs.Prelude.{◌≡◌, ◌≤◌, ◌+◌, List, ℕ, Some, None, IfOk, IsOk, IfErr, IsErrOf, OnErr, Err, length, vec_len, slice_get, []};
 ghost use Rattle.omi_outside.specs.Outside.{HasCause};
 ghost use Rattle.omi_corefile.specs.Outcomes.{IsCore};
-ghost use Rattle.omi_corefile.specs.Spelling.{Core};
-ghost use Rattle.omi_corefile.specs.Refusals.{CoreRefused};
 ghost use Rattle.omi_corefile.specs.declared.core_image.CoreImage.{CoreImage};
-ghost use Rattle.omi_corefile.specs.declared.fault.CoreFault.{CoreFault};
 ghost use Rattle.omi_word.specs.Words.{Words};
 ghost use Rattle.omi_corefile.specs.ByteOrder.{number_of};
 ghost use Rattle.omi_calls.specs.Told.{Symbols, aligned_word_at};
 ghost use Rattle.omi_calls.specs.Answers.{SaysMapped, SaysPlace};
 ghost use Rattle.omi_word.specs.SymbolTable.{symbol_in};
 ghost use Rattle.omi_calls.specs.Kept.{IsOrderOf};
+ghost use Rattle.omi_calls.specs.Asked.{AsksWord, Symbol, asked_after, unlisted};
 ghost use Rattle.omi_calls.specs.Memory.{told_by};
 ghost use Rattle.omi_page.specs.declared.limits.TheConstants.{MOST_PAGES, PAGE_BYTES};
 ghost use Rattle.omi_page.specs.Left.{LeavesFiles};
+ghost use Rattle.omi_page.specs.CoreFiles.{IsFault, IsFileOf};
 ghost use Rattle.omi_page.specs.Outcomes.{IsFaultOf, UnlessFree};
+ghost use Rattle.omi_page.specs.declared.fault.PageError.{PageError};
 ghost use Rattle.omi_read.specs.Holding.{IsLength, Holds};
 ghost use Rattle.omi_page.specs.Bounds.{EndWithin};
 ghost use Rattle.omi_page.specs.Paging.{AreLong, ArePages, ArePartsOf, IsOpened};
 
+use crate::contents::Contents;
 use crate::keeping::{Kept, keep, kept_word, word_of};
 use crate::loading::{load, stands};
 use crate::opened::{Opened, open};
-use crate::opening::Contents;
 use crate::span::SpanList;
 use crate::{PAGE_BYTES, PageError};
 use omi_calls::{Callbacks, Got, Place, Sizes};
@@ -32,8 +32,8 @@ use omi_outside::Files;
 use omi_word::Natives;
 use std::alloc::Global;
 
-/// A core file that is read on demand. It borrows the files and the name, and tells what the core tells that the file's bytes are.
-/// At most `MOST_PAGES` pages of `PAGE_BYTES` bytes are kept, by the type. Reads and look-ups are counted together.
+/// A core that is read on demand from its file. It borrows the files and the name, and tells what the core tells that the file stands for.
+/// At most `MOST_PAGES` pages of `PAGE_BYTES` bytes are kept, by the type. Nothing of what is asked for is listed.
 #[derive(Drop)]
 pub struct Pages<'a, F: Files> {
     alloc: Global,
@@ -45,7 +45,6 @@ pub struct Pages<'a, F: Files> {
     spans: SpanList,
     kept: Kept,
     buffer: Vec<u8>,
-    asked: u64,
     ghost room: { vec_len buffer ≡ PAGE_BYTES },
     ghost places: { kept.cap ≡ MOST_PAGES },
     ghost few: { length kept.entries ≤ MOST_PAGES },
@@ -58,26 +57,26 @@ pub struct Pages<'a, F: Files> {
 }
 
 impl<'a, F: Files> Pages<'a, F> {
-    ghost use Rattle.omi_page.specs.Borrowed.{order_of, contexts_of, files_of, name_of, told_of, faults_counted, calls_made, StaysBorrowed};
+    ghost use Rattle.omi_page.specs.Borrowed.{order_of, contexts_of, files_of, name_of, told_of, faults_counted, StaysBorrowed};
 
-    /// Opens a core file. It reads the header, the contexts, and each segment's start address and number of words, and no word.
+    /// Opens the file of a core. It reads what stands in it beside its words, and no word.
     pub fn over(alloc: Global, files: &'a mut F, name: &'a str) -> Result<Pages<'a, F>, PageError>
         // What is told of a file that is a core, and what is answered of one that isn't or isn't there.
         ensures accepts { (bytes : List ℕ) (c : CoreImage) → Holds (F.told files.old name.now) bytes
-            → Core bytes c → UnlessFree result (IsOk result) }
+            → IsFileOf bytes c → UnlessFree result (IsOk result) }
         ensures contexts { (bytes : List ℕ) (c : CoreImage)
-            → Holds (F.told files.old name.now) bytes → Core bytes c
+            → Holds (F.told files.old name.now) bytes → IsFileOf bytes c
             → IfOk result (λ pages. contexts_of pages ≡ c.contexts) }
         ensures order { (bytes : List ℕ) (c : CoreImage) → Holds (F.told files.old name.now) bytes
-            → Core bytes c → IfOk result (λ pages. order_of pages ≡ c.order) }
+            → IsFileOf bytes c → IfOk result (λ pages. order_of pages ≡ c.order) }
         ensures told { (bytes : List ℕ) (c : CoreImage) → Holds (F.told files.old name.now) bytes
-            → Core bytes c
+            → IsFileOf bytes c
             → IfOk result (λ pages. told_of pages ≡ told_by c) }
         ensures fault { (bytes : List ℕ) → Holds (F.told files.old name.now) bytes
             → IfErr result (IsFaultOf bytes) }
-        ensures refuses { (bytes : List ℕ) (at : ℕ) (why : CoreFault)
-            → Holds (F.told files.old name.now) bytes → CoreRefused bytes at why
-            → UnlessFree result (result ≡ Err (PageError.Fault at why)) }
+        ensures refuses { (bytes : List ℕ) (error : PageError)
+            → Holds (F.told files.old name.now) bytes → IsFault bytes error
+            → UnlessFree result (result ≡ Err error) }
         ensures missing { F.told files.old name.now ≡ Some None
             → UnlessFree result (result ≡ Err PageError.NoFile) }
 
@@ -106,7 +105,6 @@ impl<'a, F: Files> Pages<'a, F> {
         ensures same_reference { (files_of result).ghost_name ≡ files.entry.ghost_name }
         ensures same_name { name_of result ≡ name.now }
         ensures same { (files_of result).now ≡ files.old }
-        ensures asked { calls_made result ≡ 0 }
     {
         let Opened {
             alloc,
@@ -130,7 +128,6 @@ impl<'a, F: Files> Pages<'a, F> {
             spans,
             kept,
             buffer,
-            asked: 0,
         }
     }
 
@@ -149,13 +146,12 @@ impl<'a, F: Files> Pages<'a, F> {
             spans,
             kept,
             buffer,
-            asked: _,
         } = self;
         drop((contexts, spans, kept, buffer));
         files
     }
 
-    /// Reads a word, which isn't counted as a call.
+    /// Reads a word.
     pub(crate) fn read_word(&mut self, addr: u64, to: &mut [u8; 8]) -> Got
         ensures mapped { (words rest : Words) → (told_of self.old).words rest ≡ Some words
             → SaysMapped result (aligned_word_at words addr) }
@@ -165,7 +161,6 @@ impl<'a, F: Files> Pages<'a, F> {
         ensures same { told_of self.new ≡ told_of self.old }
         ensures cause { HasCause (faults_counted self.old) (faults_counted self.new)
             (result ≡ Got.Failed) }
-        ensures asked { calls_made self.new ≡ calls_made self.old }
         ensures stays { StaysBorrowed self.old self.new }
     {
         if addr % 8 != 0 || !stands(&self.spans, addr) {
@@ -193,7 +188,7 @@ impl<'a, F: Files> Pages<'a, F> {
         Got::Bytes
     }
 
-    /// The order of the bytes of a word, which is the file's byte 9: 0 where the lowest comes first, 1 where the highest does.
+    /// The order of the bytes of a word, which is byte 9 of a core file: 0 where the lowest comes first, 1 where the highest does.
     pub fn order(&self) -> u8
         ensures order { result ≡ order_of self.now }
         ensures told { IsOrderOf (told_of self.now) result }
@@ -213,13 +208,11 @@ impl<'a, F: Files> Pages<'a, F> {
 }
 
 impl<'a, F: Files> Callbacks for Pages<'a, F> {
-    ghost use Rattle.omi_page.specs.Borrowed.{told_of, faults_counted, calls_made, StaysBorrowed};
+    ghost use Rattle.omi_page.specs.Borrowed.{told_of, faults_counted, StaysBorrowed};
 
     ghost told = { told_of };
 
     ghost faults = { faults_counted };
-
-    ghost asked = { calls_made };
 
     fn read_memory(&mut self, addr: u64, to: &mut [u8; 8]) -> Got
         ensures mapped { (words rest : Words) → (told_of self.old).words rest ≡ Some words
@@ -230,10 +223,9 @@ impl<'a, F: Files> Callbacks for Pages<'a, F> {
         ensures same { told_of self.new ≡ told_of self.old }
         ensures cause { HasCause (faults_counted self.old) (faults_counted self.new)
             (result ≡ Got.Failed) }
-        ensures asked { calls_made self.new ≤ calls_made self.old + 1 }
+        ensures asked { AsksWord (told_of self.old) addr unlisted unlisted (result ≡ Got.Failed) }
         ensures stays { StaysBorrowed self.old self.new }
     {
-        self.asked = self.asked.saturating_add(1);
         self.read_word(addr, to)
     }
 
@@ -245,10 +237,9 @@ impl<'a, F: Files> Callbacks for Pages<'a, F> {
         ensures same { told_of self.new ≡ told_of self.old }
         ensures cause { HasCause (faults_counted self.old) (faults_counted self.new)
             (result ≡ Place.Failed) }
-        ensures asked { calls_made self.new ≤ calls_made self.old + 1 }
+        ensures asked { unlisted ≡ asked_after (Symbol name.now) unlisted }
         ensures stays { StaysBorrowed self.old self.new }
     {
-        self.asked = self.asked.saturating_add(1);
         match self.symbol(name) {
             Ok(Some(addr)) => Place::At(addr),
             Ok(None) => Place::NoSuch,

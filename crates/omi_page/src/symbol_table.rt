@@ -1,4 +1,4 @@
-//! The look-up of a symbol in the table that the words of a core file hold.
+//! The look-up of a symbol in the table that the words of a core hold.
 
 ghost use Rattle.std.specs.Prelude.{◌≡◌, ◌≤◌, [], ◌∷◌, Some, IfOk, IsErr};
 ghost use Rattle.omi_page.specs.AllWords.{all_words};
@@ -29,7 +29,7 @@ fn all_of(
 }
 
 impl<'a, F: Files> Pages<'a, F> {
-    ghost use Rattle.omi_page.specs.Borrowed.{told_of, faults_counted, calls_made, StaysBorrowed};
+    ghost use Rattle.omi_page.specs.Borrowed.{told_of, faults_counted, StaysBorrowed};
 
     /// The word at a byte address. None where the address is unaligned or no word stands there.
     fn word(&mut self, addr: u64) -> Result<Option<u64>, CallbackFailed>
@@ -38,7 +38,6 @@ impl<'a, F: Files> Pages<'a, F> {
         ensures same { told_of self.new ≡ told_of self.old }
         ensures cause { HasCause (faults_counted self.old) (faults_counted self.new)
             (IsErr result) }
-        ensures asked { calls_made self.new ≡ calls_made self.old }
         ensures stays { StaysBorrowed self.old self.new }
     {
         let order = self.order();
@@ -58,7 +57,6 @@ impl<'a, F: Files> Pages<'a, F> {
         ensures same { told_of self.new ≡ told_of self.old }
         ensures cause { HasCause (faults_counted self.old) (faults_counted self.new)
             (IsErr result) }
-        ensures asked { calls_made self.new ≡ calls_made self.old }
         ensures stays { StaysBorrowed self.old self.new }
     {
         let first = self.word(at)?;
@@ -77,7 +75,6 @@ impl<'a, F: Files> Pages<'a, F> {
         ensures same { told_of self.new ≡ told_of self.old }
         ensures cause { HasCause (faults_counted self.old) (faults_counted self.new)
             (IsErr result) }
-        ensures asked { calls_made self.new ≡ calls_made self.old }
         ensures stays { StaysBorrowed self.old self.new }
     {
         let Some(count) = self.word(SYMBOL_COUNT_ADDRESS)? else {

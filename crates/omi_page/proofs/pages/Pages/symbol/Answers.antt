@@ -21,7 +21,6 @@ loop-left-preserved g c = record {
       (c.in-Some.count - c.loop-left.left) (c.in-Some.count - (c.loop-left.left - 1)) c.loop-left.found _
       (sym (c.in_ok-words.ensures.words words rest now) ∙ c.in-Some-2.is) (omega arith) (omega arith) (c.loop-left.invariant.read words rest told) c.found_with-found.ensures;
   same = c.in_ok-words.ensures.same ∙ c.loop-left.invariant.same;
-  asked = c.in_ok-words.ensures.asked ∙ c.loop-left.invariant.asked;
   stays = stays_then _ _ _ c.loop-left.invariant.stays c.in_ok-words.ensures.stays;
   later = omega arith;
 }

@@ -13,7 +13,6 @@ invariant-loop-left g l = record {
       → (told_by_file (g.F.Files.told l.fn.self.files.now l.fn.self.name.now)).words rest ≡ Some words
       → Reads (aligned_word_at words) l.name (65544 + 40 * l.left) (l.count - l.left) l.found;
   same : told_by_file (g.F.Files.told l.self.files.now l.self.name.now) ≡ told_by_file (g.F.Files.told l.fn.self.files.now l.fn.self.name.now);
-  asked : l.self.asked ≡ l.fn.self.asked;
   stays : StaysBorrowed l.fn.self l.self;
   later : g.F.Files.reads l.fn.self.files.now ≤ g.F.Files.reads l.self.files.now;
 }
