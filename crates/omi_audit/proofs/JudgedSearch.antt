@@ -9,10 +9,9 @@ use Rattle.omi_word.specs.Words.{Words}
 use Rattle.omi_audit.specs.declared.search.Search.{Search}
 use Rattle.omi_audit.specs.declared.stop.Stop.{Stop}
 use Rattle.indexmap.specs.IndexSet.{insert_all}
-use Rattle.omi_audit.specs.Search.{named_at, named_by, current_tasks, record_places, all_records, reached}
+use Rattle.omi_audit.specs.Search.{named_by, current_tasks, record_places, all_records, reached}
 use Rattle.omi_audit.specs.Judged.{Knows, Starts, IsFine, IsFirst, IsRecord, IsSearched, has_begun, link_of, refused_record}
 use Rattle.omi_audit.proofs.FirstOnes.{with_all, Begins, begins_then, with_all_begins, with_all_then}
-use Rattle.omi_audit.proofs.AskedRecords.{flat_twice}
 use Rattle.omi_audit.proofs.JudgedPlaces.{refused_next, refused_first}
 use Rattle.omi_audit.proofs.JudgedRecords.{still_knows_grown}
 use Rattle.omi_audit.proofs.Reaches.{record_addresses, lives_within, places_live, current_live, met_in_rounds, all_long}
@@ -48,15 +47,14 @@ module _ (w : List ℕ) (words : Words) where
     knows = knows;
   }
 
-  -- what was met is what those that began the search and the places that were judged name
+  -- what was met is what began the search and what the records that were judged name
   pub judging_met : (k : ℕ) (s t : Search) → Starts w words s → IsJudging k t
-      → t.met.keys ≡ insert_all nat_eq s.met.keys (flat_map (named_at w words) (flat_map (record_places w words) (take k t.met.keys)))
+      → t.met.keys ≡ insert_all nat_eq s.met.keys (flat_map (named_by w words) (take k t.met.keys))
   judging_met k s t starts j =
       let X = flat_map (named_by w words) (take k t.met.keys) in
       j.going.is ∙ with_all_then [] (current_tasks w words) X ∙ ap (λ l. with_all l X) (sym starts.met)
-      ∙ ap (insert_all nat_eq s.met.keys) (sym (flat_twice (named_at w words) (record_places w words) (take k t.met.keys)))
 
-  few : (k : ℕ) (s : Search) → IsJudging k s → length s.met.keys ≤ all_records w words
+  pub few : (k : ℕ) (s : Search) → IsJudging k s → length s.met.keys ≤ all_records w words
   few k s j =
       let most =
       few_met (current_tasks w words) (named_by w words) (record_addresses w)

@@ -1,5 +1,5 @@
 -- What a part of the audit finds over the words that are told: that no clause fails at these words and what is known then, or the first refusal.
-use Rattle.std.specs.Prelude.{◌≡◌, ◌≢◌, ◌<◌, ◌≤◌, ◌==◌, ◌||◌, ◌+◌, ◌++◌, ℕ, zero, suc, Bool, true, false, List, [], ◌∷◌, fold, map, filter, length, slice_get, slice_index, Option, Some, None, Result, Ok, Err, is_some, if◌then◌else◌}
+use Rattle.std.specs.Prelude.{◌≡◌, ◌≢◌, ◌<◌, ◌≤◌, ◌==◌, ◌||◌, ◌++◌, ℕ, zero, suc, Bool, true, false, List, [], ◌∷◌, fold, map, filter, length, slice_get, slice_index, Option, Some, None, Result, Ok, Err, is_some, if◌then◌else◌}
 use Rattle.std.specs.Option.{option_map_or, option_map}
 use Rattle.std.specs.List.{range_with_len, list_any, flat_map}
 use Rattle.indexmap.specs.IndexSet.{insert_all}
@@ -10,6 +10,7 @@ use Rattle.omi_layout.specs.Field.{threads, regions, tasks}
 use Rattle.omi_layout.specs.Table.{thread_count}
 use Rattle.omi_layout.specs.Valid.{IsValid}
 use Rattle.omi_word.specs.Words.{Words}
+use Rattle.omi_calls.specs.Asked.{Asked}
 use Rattle.omi_calls.specs.Told.{Told}
 use Rattle.omi_rep.specs.Look.{live_at}
 use Rattle.omi_rep.specs.Records.{thread_address}
@@ -24,6 +25,8 @@ use Rattle.omi_audit.specs.declared.verdict.Verdict.{Verdict}
 use Rattle.omi_audit.specs.declared.verdict.Verdict.TheVariants.{Yes, No}
 use Rattle.omi_audit.specs.Clauses.{leads_to, led_to, failing}
 use Rattle.omi_audit.specs.Found.{next_with, count_with}
+use Rattle.omi_audit.specs.InOrder.{AsksOnly}
+use Rattle.omi_audit.specs.Listed.{asked_among}
 use Rattle.omi_audit.specs.Search.{Place, places_of, elements_of, word_at, number_in, named_at, thread_places, record_places, named_by, first_ones, current_tasks, reached}
 use Rattle.omi_audit.specs.Verdicts.{chain_field, next_in_chain, refused_at}
 
@@ -200,35 +203,6 @@ module _ (w : List ℕ) (words : Words) where
     pub met : s.met.keys ≡ first_ones (current_tasks w words)
     pub links : s.links.items ≡ []
 
--- ---- how many words are read
-
--- one where a call stopped
-abbrev pub one_if_stopped : {A : Type 0} → Result A Stop → ℕ
-one_if_stopped (Ok x) = 0
-one_if_stopped (Err stop) = 1
-
--- a call asked for no more words than so many, one for each record that these add to those that were met, and so many besides
-abbrev pub AsksNaming : ℕ → ℕ → Search → List ℕ → ℕ → Type 0
-AsksNaming before after old named more =
-    after + length old.met.keys ≤ before + length (insert_all nat_eq old.met.keys named) + more
-
--- one at each of these places, and one for each record that they name
-abbrev pub Asks : List ℕ → Words → ℕ → ℕ → Search → List Place → ℕ → Type 0
-Asks w words before after old places more =
-    AsksNaming (before + length places) after old (flat_map (named_at w words) places) more
-
--- one more may be read at a pointer that leads nowhere, but none at 0
-abbrev pub spare_at : ℕ → Result Bool Stop → ℕ
-spare_at pointer (Ok true) = 0
-spare_at pointer (Ok false) = if pointer == 0 then 0 else 1
-spare_at pointer (Err stop) = 1
-
--- and one where a clause fails
-abbrev pub one_if_failing : Result (Option ℕ) Stop → ℕ
-one_if_failing (Ok None) = 0
-one_if_failing (Ok (Some clause)) = 1
-one_if_failing (Err stop) = 1
-
 -- the place among the records that were met of the next one of a chain, over all words that were searched so and in which no clause fails
 abbrev pub TellsNext : Search → ℕ → Option ℕ → Type 0
 TellsNext s at next = (w : List ℕ) (words : Words) → IsValid w → IsSearched w words s → AreClear w words
@@ -240,8 +214,14 @@ abbrev pub OverKept : {C F : Type 0} → (C → Told) → Opened C F → Search 
 OverKept told s kept Holds = (memory : Words) → Tells (told s.table.calls) memory
     → Knows s.layout memory kept → Holds memory
 
--- the same over the words that are told
-abbrev pub AsksFor : {C F : Type 0} → (C → Told) → (C → ℕ) → Opened C F → Opened C F → Search
-    → (Words → List Place) → ℕ → Type 0
-AsksFor told asked s t old places more = OverKept told s old (λ words.
-    Asks s.layout words (asked s.table.calls) (asked t.table.calls) old (places words) more)
+-- these words are asked for in their order over the words that are told, where what is kept is right
+abbrev pub AsksWords : {C F : Type 0} → (C → Told) → (C → Asked) → Opened C F → Opened C F → Search
+    → (Words → List ℕ) → Result (Unit {0}) AuditFault → Type 0
+AsksWords told asked s t old list result = OverKept told s old (λ words.
+    AsksOnly (told s.table.calls) words (list words) (asked s.table.calls) (asked t.table.calls) result)
+
+-- those at these places of the record of thread i
+abbrev pub AsksFor : {C F : Type 0} → (C → Told) → (C → Asked) → Opened C F → Opened C F → Search → ℕ
+    → (Words → List Place) → Result (Unit {0}) AuditFault → Type 0
+AsksFor told asked s t old i places result =
+    AsksWords told asked s t old (λ words. asked_among s.layout words i old.met.keys (places words)) result

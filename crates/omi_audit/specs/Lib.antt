@@ -2,6 +2,9 @@
 pub mod Clauses
 pub mod Search
 pub mod Verdicts
+-- Which words are asked for.
+pub mod Listed
+pub mod InOrder
 -- The promise: what the records of the search are, what Yes gives, and when it comes.
 pub mod Promise
 -- What the code keeps of the words that it judges.

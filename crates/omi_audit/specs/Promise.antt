@@ -1,15 +1,15 @@
 -- What an audit promises: what its verdict is, which records are reached, that Yes gives a state that the words show, and that a state which a
 -- workload can reach is never refused.
-use Rattle.std.specs.Prelude.{◌≡◌, ◌↔◌, ℕ, ◌+◌, ◌++◌, ◌≤◌, List, length, Contains, Result, IfOk}
-use Rattle.std.specs.List.{range_with_len, flat_map}
+use Rattle.std.specs.Prelude.{◌≡◌, ◌↔◌, ℕ, ◌++◌, List, Contains, Result, IfOk}
+use Rattle.std.specs.List.{flat_map}
 use Rattle.omi_script.specs.declared.program.Program.{Program}
 use Rattle.omi_model.specs.declared.event.Event.{Event}
 use Rattle.omi_model.specs.Reached.{Reached}
 use Rattle.omi_model.specs.State.{State}
 use Rattle.omi_word.specs.Words.{Words}
 use Rattle.omi_layout.specs.Given.{GivesLayout}
-use Rattle.omi_layout.specs.Table.{thread_count}
 use Rattle.omi_layout.specs.Valid.{IsValid}
+use Rattle.omi_calls.specs.Asked.{Asked}
 use Rattle.omi_calls.specs.Told.{Told}
 use Rattle.omi_rep.specs.ShownLooks.{AreNames}
 use Rattle.omi_rep.specs.Shows.{Shows}
@@ -18,8 +18,10 @@ use Rattle.omi_session.specs.Tells.{Tells}
 use Rattle.omi_audit.specs.declared.verdict.AuditFault.{AuditFault}
 use Rattle.omi_audit.specs.declared.verdict.Verdict.{Verdict}
 use Rattle.omi_audit.specs.declared.verdict.Verdict.TheVariants.{Yes, No}
+use Rattle.omi_audit.specs.InOrder.{AsksInOrder}
+use Rattle.omi_audit.specs.Listed.{asked_words}
 use Rattle.omi_audit.specs.Verdicts.{verdict}
-use Rattle.omi_audit.specs.Search.{runtime_places, thread_places, record_places, first_ones, current_tasks, named_by, reached}
+use Rattle.omi_audit.specs.Search.{first_ones, current_tasks, named_by, reached}
 
 -- ---- the verdict
 
@@ -29,18 +31,13 @@ abbrev pub OverTold : {C F : Type 0} → (C → Told) → Opened C F → Result 
 OverTold told s result Holds = (memory : Words) → Tells (told s.table.calls) memory
     → IfOk result (Holds memory)
 
--- how many words are asked for, at most: one for each place that is judged, one for the life word of each record that is reached, and one for that of
--- a record to which a pointer leads that is refused. It counts, and names no address
-abbrev pub ReadsOnce : {C F : Type 0} → (C → Told) → (C → ℕ) → Opened C F → Opened C F → Type 0
-ReadsOnce told asked old new = (memory : Words) → Tells (told old.table.calls) memory
-    → let w = old.layout in
-    asked new.table.calls
-    ≤ asked old.table.calls
-    + length (runtime_places w memory)
-    + length (flat_map (thread_places w memory) (range_with_len 0 (thread_count w)))
-    + length (flat_map (record_places w memory) (reached w memory))
-    + length (reached w memory)
-    + 1
+-- the audit asks for these words and for no other, in their order, and answers the verdict, over the words that the callbacks tell: for all of them, or up
+-- to the one whose read failed. Where memory ran out, it asked for the first of them, or for all
+abbrev pub ReadsInOrder : {C F : Type 0} → (C → Told) → (C → Asked) → Opened C F → Opened C F
+    → Result Verdict AuditFault → Type 0
+ReadsInOrder told asked old new result = (memory : Words) → Tells (told old.table.calls) memory
+    → AsksInOrder (told old.table.calls) memory (asked_words old.layout memory) (verdict old.layout memory)
+    (asked old.table.calls) (asked new.table.calls) result
 
 -- ---- the records that are reached
 

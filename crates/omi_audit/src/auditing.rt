@@ -7,8 +7,10 @@ ghost use Rattle.omi_session.specs.Opened.{StaysWhole};
 ghost use Rattle.omi_session.specs.Tells.{Tells};
 ghost use Rattle.omi_word.specs.Words.{Words};
 ghost use Rattle.omi_audit.specs.Judged.{Judges};
+ghost use Rattle.omi_audit.specs.InOrder.{AsksOnly, ended};
+ghost use Rattle.omi_audit.specs.Listed.{asked_words};
 ghost use Rattle.omi_audit.specs.Search.{reached};
-ghost use Rattle.omi_audit.specs.Promise.{OverTold, ReadsOnce, GivesState, RefusesNoReached};
+ghost use Rattle.omi_audit.specs.Promise.{OverTold, ReadsInOrder, GivesState, RefusesNoReached};
 ghost use Rattle.omi_audit.specs.Verdicts as the;
 
 use crate::chains::judge_chains;
@@ -26,7 +28,9 @@ fn judge_all<C: Callbacks, F: ToHost>(s: &mut Session<C, F>, alloc: Global) -> R
         → Judges (the.refusals s.old.layout memory) (λ records.
         records ≡ length (reached s.old.layout memory)) result }
     ensures valid { IsValid s.old.layout }
-    ensures reads { ReadsOnce C.told C.asked s.old s.new }
+    ensures reads { (memory : Words) → Tells (C.told s.old.table.calls) memory
+        → AsksOnly (C.told s.old.table.calls) memory (asked_words s.old.layout memory)
+        (C.asked s.old.table.calls) (C.asked s.new.table.calls) (ended result) }
     ensures same { StaysWhole C.told s.old s.new }
     ensures cause { HasCause (C.faults s.old.table.calls) (C.faults s.new.table.calls)
         (result ≡ Err (Stop.Fault AuditFault.Callback)) }
@@ -50,7 +54,7 @@ pub fn audit<C: Callbacks, F: ToHost>(
         v ≡ the.verdict s.old.layout memory) }
     ensures shown { OverTold C.told s.old result (GivesState s.old.layout) }
     ensures reached { OverTold C.told s.old result (RefusesNoReached s.old.layout) }
-    ensures reads { ReadsOnce C.told C.asked s.old s.new }
+    ensures reads { ReadsInOrder C.told C.asked s.old s.new result }
     ensures same { StaysWhole C.told s.old s.new }
     ensures cause { HasCause (C.faults s.old.table.calls) (C.faults s.new.table.calls)
         (result ≡ Err AuditFault.Callback) }

@@ -6,7 +6,9 @@ ghost use Rattle.std.specs.Prelude.{ℕ, ◌≡◌, ◌+◌, ◌*◌, ◌≤◌,
 ghost use Rattle.omi_layout.specs.Field.{threads};
 ghost use Rattle.omi_session.specs.Named.{record_kind};
 ghost use Rattle.omi_audit.specs.Clauses as the;
-ghost use Rattle.omi_audit.specs.Judged.{OverKept, AsksFor, AsksNaming, KnowsThreads, name_threads, named_by_word, named_of, one_if_failing, one_if_stopped, spare_at, IsFault, IsLed, IsFailing, IsJudged, IsFound, Judges, MeetsNamed, refused_among, place_at};
+ghost use Rattle.omi_audit.specs.InOrder.{ended};
+ghost use Rattle.omi_audit.specs.Listed.{asked_of_record, asked_of_word};
+ghost use Rattle.omi_audit.specs.Judged.{OverKept, AsksFor, AsksWords, KnowsThreads, name_threads, IsFault, IsLed, IsFailing, IsJudged, IsFound, Judges, MeetsNamed, refused_among, place_at};
 ghost use Rattle.omi_audit.specs.Search.{elements_of, places_of};
 ghost use Rattle.omi_audit.specs.Verdicts.{refused_at};
 ghost use Rattle.omi_audit.specs.Found.{counts, next_with, count_with};
@@ -65,9 +67,8 @@ fn names<C: Callbacks, F: ToHost>(
     requires begun { record_kind kind ≡ threads → KnowsThreads s.old.layout search.old }
     ensures led { OverKept C.told s.old search.old (λ memory. IfOk result (IsLed
         s.old.layout memory (record_kind kind) pointer search.old search.new)) }
-    ensures asks { OverKept C.told s.old search.old (λ memory. AsksNaming
-        (C.asked s.old.table.calls) (C.asked s.new.table.calls) search.old
-        (named_of s.old.layout memory (record_kind kind) pointer) (spare_at pointer result)) }
+    ensures asks { AsksWords C.told C.asked s.old s.new search.old (λ _. asked_of_record
+        s.old.layout search.old.met.keys (record_kind kind) pointer) (ended result) }
     ensures fault { IfErr result IsFault }
     ensures begun { search.new.begun.items ≡ search.old.begun.items }
     ensures same { StaysWhole C.told s.old s.new }
@@ -111,9 +112,8 @@ fn clause_failing<C: Callbacks, F: ToHost>(
     requires begun { the.leads_to field at ≡ Some threads → KnowsThreads s.old.layout search.old }
     ensures failing { OverKept C.told s.old search.old (λ memory. IfOk result (IsFailing
         s.old.layout memory thread field at word search.old search.new)) }
-    ensures asks { OverKept C.told s.old search.old (λ memory. AsksNaming
-        (C.asked s.old.table.calls) (C.asked s.new.table.calls) search.old
-        (named_by_word s.old.layout memory field at word) (one_if_failing result)) }
+    ensures asks { AsksWords C.told C.asked s.old s.new search.old (λ _. asked_of_word
+        s.old.layout search.old.met.keys field at word) (ended result) }
     ensures fault { IfErr result IsFault }
     ensures few { result ≡ Ok None → counts field ≡ true → word ≤ 64 }
     ensures begun { search.new.begun.items ≡ search.old.begun.items }
@@ -149,8 +149,8 @@ pub fn judge<C: Callbacks, F: ToHost>(
         (IsJudged s.old.layout memory (place_at addr field at) search.old search.new)
         result) }
     ensures few { IfOk result (λ found. counts field ≡ true → found ≤ 64) }
-    ensures asks { AsksFor C.told C.asked s.old s.new search.old
-        (λ _. place_at addr field at ∷ []) (one_if_stopped result) }
+    ensures asks { AsksFor C.told C.asked s.old s.new search.old thread
+        (λ _. place_at addr field at ∷ []) (ended result) }
     ensures begun { search.new.begun.items ≡ search.old.begun.items }
     ensures same { StaysWhole C.told s.old s.new }
     ensures cause { HasCause (C.faults s.old.table.calls) (C.faults s.new.table.calls)
@@ -211,8 +211,8 @@ pub fn judge_fields<C: Callbacks, F: ToHost>(
         Judges (refused_among s.old.layout memory thread (places_of addr fields.now))
         (IsFound s.old.layout memory addr fields.now search.old search.new) result) }
     ensures few { IfOk result (λ found. found.count ≤ 64) }
-    ensures asks { AsksFor C.told C.asked s.old s.new search.old
-        (λ _. places_of addr fields.now) (one_if_stopped result) }
+    ensures asks { AsksFor C.told C.asked s.old s.new search.old thread
+        (λ _. places_of addr fields.now) (ended result) }
     ensures begun { search.new.begun.items ≡ search.old.begun.items }
     ensures same { StaysWhole C.told s.old s.new }
     ensures cause { HasCause (C.faults s.old.table.calls) (C.faults s.new.table.calls)
@@ -242,8 +242,8 @@ pub fn judge_elements<C: Callbacks, F: ToHost>(
         Judges (refused_among s.old.layout memory 0 (elements_of addr field count)) (λ _.
         MeetsNamed s.old.layout memory (elements_of addr field count)
         search.old search.new) result) }
-    ensures asks { AsksFor C.told C.asked s.old s.new search.old
-        (λ _. elements_of addr field count) (one_if_stopped result) }
+    ensures asks { AsksFor C.told C.asked s.old s.new search.old 0
+        (λ _. elements_of addr field count) (ended result) }
     ensures begun { search.new.begun.items ≡ search.old.begun.items }
     ensures same { StaysWhole C.told s.old s.new }
     ensures cause { HasCause (C.faults s.old.table.calls) (C.faults s.new.table.calls)

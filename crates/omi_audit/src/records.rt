@@ -4,7 +4,9 @@ ghost use Rattle.omi_session.specs.Opened.{StaysWhole};
 ghost use Rattle.omi_outside.specs.Outside.{HasCause};
 ghost use Rattle.std.specs.Prelude.{◌≡◌, ◌+◌, ◌≤◌, ◌<◌, Err, OnOk, [], length};
 ghost use Rattle.std.specs.List.{flat_map, range_with_len};
-ghost use Rattle.omi_audit.specs.Judged.{OverKept, Asks, AsksFor, Judges, KnowsThreads, MeetsNamed, IsLinked, IsThread, AreThreads, IsRecord, Starts, IsSearched, all_places, one_if_stopped, refused_among, said_by, refused_thread, refused_record};
+ghost use Rattle.omi_audit.specs.InOrder.{AsksOnly, ended};
+ghost use Rattle.omi_audit.specs.Listed.{asked_in_records, asked_of_threads};
+ghost use Rattle.omi_audit.specs.Judged.{OverKept, AsksFor, AsksWords, Judges, KnowsThreads, MeetsNamed, IsLinked, IsThread, AreThreads, IsRecord, Starts, IsSearched, all_places, refused_among, said_by, refused_thread, refused_record};
 ghost use Rattle.omi_audit.specs.Search.{number_in, runtime_places, thread_places, group_places, task_places, record_places, reached};
 ghost use Rattle.omi_audit.specs.Found.{next_with};
 ghost use Rattle.omi_audit.specs.Verdicts.{chain_field};
@@ -33,8 +35,8 @@ pub fn judge_runtime<C: Callbacks, F: ToHost>(
         Judges (refused_among s.old.layout memory 0 (runtime_places s.old.layout memory)) (λ _.
         MeetsNamed s.old.layout memory [] search.old search.new) result) }
     ensures valid { IsValid s.old.layout }
-    ensures asks { AsksFor C.told C.asked s.old s.new search.old
-        (runtime_places s.old.layout) (one_if_stopped result) }
+    ensures asks { AsksFor C.told C.asked s.old s.new search.old 0
+        (runtime_places s.old.layout) (ended result) }
     ensures begun { search.new.begun.items ≡ search.old.begun.items }
     ensures same { StaysWhole C.told s.old s.new }
     ensures cause { HasCause (C.faults s.old.table.calls) (C.faults s.new.table.calls)
@@ -55,8 +57,8 @@ fn judge_thread<C: Callbacks, F: ToHost>(
     ensures judged { OverKept C.told s.old search.old (λ memory.
         Judges (refused_thread s.old.layout memory thread) (λ _.
         IsThread s.old.layout memory thread search.old search.new) result) }
-    ensures asks { AsksFor C.told C.asked s.old s.new search.old
-        (λ memory. thread_places s.old.layout memory thread) (one_if_stopped result) }
+    ensures asks { AsksFor C.told C.asked s.old s.new search.old thread
+        (λ memory. thread_places s.old.layout memory thread) (ended result) }
     ensures begun { OnOk result (length search.new.begun.items
         ≡ length search.old.begun.items + 1) }
     ensures same { StaysWhole C.told s.old s.new }
@@ -85,9 +87,9 @@ pub fn judge_threads<C: Callbacks, F: ToHost>(
         (flat_map (refused_thread s.old.layout memory) (range_with_len 0 (thread_count s.old.layout)))
         (λ _. AreThreads s.old.layout memory (range_with_len 0 (thread_count s.old.layout))
         search.old search.new) result) }
-    ensures asks { AsksFor C.told C.asked s.old s.new search.old (λ memory. flat_map
-        (thread_places s.old.layout memory) (range_with_len 0 (thread_count s.old.layout)))
-        (one_if_stopped result) }
+    ensures asks { AsksWords C.told C.asked s.old s.new search.old (λ memory. asked_of_threads
+        s.old.layout memory search.old.met.keys (range_with_len 0 (thread_count s.old.layout)))
+        (ended result) }
     ensures begun { OnOk result (KnowsThreads s.old.layout search.new) }
     ensures same { StaysWhole C.told s.old s.new }
     ensures cause { HasCause (C.faults s.old.table.calls) (C.faults s.new.table.calls)
@@ -117,9 +119,9 @@ fn judge_parts<C: Callbacks, F: ToHost>(
         (all_places s.old.layout memory addr fields.now elements))
         (IsLinked s.old.layout memory addr chain
         (all_places s.old.layout memory addr fields.now elements) search.old search.new) result) }
-    ensures asks { AsksFor C.told C.asked s.old s.new search.old
+    ensures asks { AsksFor C.told C.asked s.old s.new search.old 0
         (λ memory. all_places s.old.layout memory addr fields.now elements)
-        (one_if_stopped result) }
+        (ended result) }
     ensures begun { search.new.begun.items ≡ search.old.begun.items }
     ensures same { StaysWhole C.told s.old s.new }
     ensures cause { HasCause (C.faults s.old.table.calls) (C.faults s.new.table.calls)
@@ -141,8 +143,8 @@ fn judge_groups<C: Callbacks, F: ToHost>(
         Judges (refused_among s.old.layout memory 0 (group_places s.old.layout memory addr)) (λ _.
         MeetsNamed s.old.layout memory (group_places s.old.layout memory addr)
         search.old search.new) result) }
-    ensures asks { AsksFor C.told C.asked s.old s.new search.old
-        (λ memory. group_places s.old.layout memory addr) (one_if_stopped result) }
+    ensures asks { AsksFor C.told C.asked s.old s.new search.old 0
+        (λ memory. group_places s.old.layout memory addr) (ended result) }
     ensures begun { search.new.begun.items ≡ search.old.begun.items }
     ensures same { StaysWhole C.told s.old s.new }
     ensures cause { HasCause (C.faults s.old.table.calls) (C.faults s.new.table.calls)
@@ -168,8 +170,8 @@ fn judge_task<C: Callbacks, F: ToHost>(
         Judges (refused_among s.old.layout memory 0 (task_places s.old.layout memory addr))
         (IsLinked s.old.layout memory addr TaskScheduling
         (task_places s.old.layout memory addr) search.old search.new) result) }
-    ensures asks { AsksFor C.told C.asked s.old s.new search.old
-        (λ memory. task_places s.old.layout memory addr) (one_if_stopped result) }
+    ensures asks { AsksFor C.told C.asked s.old s.new search.old 0
+        (λ memory. task_places s.old.layout memory addr) (ended result) }
     ensures begun { search.new.begun.items ≡ search.old.begun.items }
     ensures same { StaysWhole C.told s.old s.new }
     ensures cause { HasCause (C.faults s.old.table.calls) (C.faults s.new.table.calls)
@@ -192,8 +194,8 @@ fn judge_either<C: Callbacks, F: ToHost>(
         Judges (refused_record s.old.layout memory addr)
         (IsLinked s.old.layout memory addr (chain_field s.old.layout memory addr)
         (record_places s.old.layout memory addr) search.old search.new) result) }
-    ensures asks { AsksFor C.told C.asked s.old s.new search.old
-        (λ memory. record_places s.old.layout memory addr) (one_if_stopped result) }
+    ensures asks { AsksFor C.told C.asked s.old s.new search.old 0
+        (λ memory. record_places s.old.layout memory addr) (ended result) }
     ensures begun { search.new.begun.items ≡ search.old.begun.items }
     ensures same { StaysWhole C.told s.old s.new }
     ensures cause { HasCause (C.faults s.old.table.calls) (C.faults s.new.table.calls)
@@ -217,8 +219,8 @@ fn judge_record<C: Callbacks, F: ToHost>(
     ensures judged { OverKept C.told s.old search.old (λ memory.
         Judges (refused_record s.old.layout memory addr) (λ _.
         IsRecord s.old.layout memory addr search.old search.new) result) }
-    ensures asks { AsksFor C.told C.asked s.old s.new search.old
-        (λ memory. record_places s.old.layout memory addr) (one_if_stopped result) }
+    ensures asks { AsksFor C.told C.asked s.old s.new search.old 0
+        (λ memory. record_places s.old.layout memory addr) (ended result) }
     ensures begun { search.new.begun.items ≡ search.old.begun.items }
     ensures same { StaysWhole C.told s.old s.new }
     ensures cause { HasCause (C.faults s.old.table.calls) (C.faults s.new.table.calls)
@@ -249,10 +251,9 @@ pub fn judge_met<C: Callbacks, F: ToHost>(
         (flat_map (refused_record s.old.layout memory) (reached s.old.layout memory))
         (λ _. IsSearched s.old.layout memory search.new) result) }
     ensures asks { OverKept C.told s.old search.old (λ memory.
-        Starts s.old.layout memory search.old → Asks s.old.layout memory
-        (C.asked s.old.table.calls) (C.asked s.new.table.calls) search.old
-        (flat_map (record_places s.old.layout memory) (reached s.old.layout memory))
-        (one_if_stopped result)) }
+        Starts s.old.layout memory search.old → AsksOnly (C.told s.old.table.calls) memory
+        (asked_in_records s.old.layout memory search.old.met.keys (reached s.old.layout memory))
+        (C.asked s.old.table.calls) (C.asked s.new.table.calls) (ended result)) }
     ensures begun { search.new.begun.items ≡ search.old.begun.items }
     ensures same { StaysWhole C.told s.old s.new }
     ensures cause { HasCause (C.faults s.old.table.calls) (C.faults s.new.table.calls)

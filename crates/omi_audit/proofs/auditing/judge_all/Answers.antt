@@ -1,6 +1,12 @@
-use Rattle.std.proofs.Common.{◌≡◌, ◌∙◌, ◌++◌, ℕ, [], length, ap, subst, arith}
+use Rattle.std.proofs.Common.{◌≡◌, ◌∙◌, ℕ, [], length, sym, ap, subst}
 use Rattle.std.specs.List.{range_with_len}
-use Rattle.omi_audit.specs.Judged.{Asks, AreThreads, refused_among, IsFirst, IsFine, IsSearched, AreClear, Starts}
+use Rattle.std.specs.Prelude.{Result, Ok}
+use Rattle.std.specs.Result.{IsErrAnd}
+use Rattle.omi_calls.specs.Asked.{Asked}
+use Rattle.omi_audit.specs.declared.stop.Stop.{Stop}
+use Rattle.omi_audit.specs.InOrder.{AsksOnly, ended, stopped_by}
+use Rattle.omi_audit.specs.Listed.{asked_words}
+use Rattle.omi_audit.specs.Judged.{AreThreads, refused_among, IsFirst, IsFine, IsSearched, AreClear, Starts}
 use Rattle.omi_audit.specs.Search.{reached}
 use Rattle.omi_audit.specs.Verdicts.{refusals}
 use Rattle.omi_audit.proofs.JudgedAll.{IsNew, knows_new, of_threads, of_records, of_chains, runtime_stops, threads_stop, records_stop, chains_stop, none_refused, threads_fine, records_fine, after_runtime, after_threads, starts}
@@ -9,8 +15,8 @@ use Rattle.omi_audit.specs.Search.{runtime_places}
 use Rattle.omi_layout.specs.Table.{thread_count}
 use Rattle.omi_word.specs.Words.{Words}
 use Rattle.omi_session.specs.Tells.{Tells}
-use Rattle.omi_audit.proofs.Asking.{asks_front}
-use Rattle.omi_audit.proofs.AskedAll.{asked_once, at_all, at_records, at_threads, records_ask, threads_ask}
+use Rattle.omi_audit.proofs.Asking.{asks_all, asks_behind, ended_by}
+use Rattle.omi_audit.proofs.AskedAll.{records_ask, runtime_ask, threads_ask}
 use Rattle.omi_audit.proofs.auditing.judge_all.Given.{Over}
 use Rattle.omi_audit.proofs.auditing.judge_all.Goals.{In_ok-judge_runtime, In_ok-judge_threads, In_ok-judge_met}
 use Rattle.omi_audit.proofs.auditing.judge_all.Goals as goal
@@ -43,12 +49,21 @@ module _ (g : Over) where
       c.judge_met.new.search c.in_ok-judge_met.ensures.judged
 
   searched : (c : In_ok-judge_met g) (m : Words) → Tells (g.C.Callbacks.told c.args.s.now.table.calls) m
-      → Asks c.args.s.now.layout m (g.C.Callbacks.asked c.args.s.now.table.calls) (g.C.Callbacks.asked c.judge_met.new.s.table.calls) c.new-search.result (at_all c.args.s.now.layout m) 0
+      → AsksOnly (g.C.Callbacks.told c.args.s.now.table.calls) m (asked_words c.args.s.now.layout m)
+      (g.C.Callbacks.asked c.args.s.now.table.calls) (g.C.Callbacks.asked c.judge_met.new.s.table.calls) (Ok tt)
   searched c =
-      records_ask g.C.Callbacks.told g.C.Callbacks.asked c.args.s.now c.judge_runtime.new.s c.in_ok-judge_runtime.ensures.same c.new-search.result c.judge_runtime.new.search
-      (begun (goal.at.In_ok-judge_met g c).In_ok-judge_runtime) c.in_ok-judge_runtime.ensures.judged c.in_ok-judge_runtime.ensures.asks
+      records_ask g.C.Callbacks.told g.C.Callbacks.asked c.args.s.now c.judge_runtime.new.s c.new-search.result c.judge_runtime.new.search
+      (begun (goal.at.In_ok-judge_met g c).In_ok-judge_runtime) c.in_ok-judge_runtime.ensures.same c.in_ok-judge_runtime.ensures.judged c.in_ok-judge_runtime.ensures.asks
       c.judge_threads.new.s c.in_ok-judge_threads.ensures.same c.judge_threads.new.search c.in_ok-judge_threads.ensures.judged c.in_ok-judge_threads.ensures.asks
-      c.judge_met.new.s 0 c.in_ok-judge_met.ensures.asks
+      c.judge_met.new.s (Ok tt) c.in_ok-judge_met.ensures.asks
+
+  -- what an audit that stopped asks for
+  asked_until : (c : In_ok-judge_runtime g) (m : Words) (now : Asked) (r : Result ℕ Stop) (stop : Stop) → IsErrAnd r (λ other. other ≡ stop)
+      → AsksOnly (g.C.Callbacks.told c.args.s.now.table.calls) m (asked_words c.args.s.now.layout m) (g.C.Callbacks.asked c.args.s.now.table.calls) now (stopped_by stop)
+      → AsksOnly (g.C.Callbacks.told c.args.s.now.table.calls) m (asked_words c.args.s.now.layout m) (g.C.Callbacks.asked c.args.s.now.table.calls) now (ended r)
+  asked_until c m now r stop is asks =
+      subst (AsksOnly (g.C.Callbacks.told c.args.s.now.table.calls) m (asked_words c.args.s.now.layout m) (g.C.Callbacks.asked c.args.s.now.table.calls) now)
+      (sym (ended_by r stop is)) asks
 
 pub returns-in_err-judge_runtime-clause-judged : goal.returns-in_err-judge_runtime-clause-judged
 returns-in_err-judge_runtime-clause-judged g c = λ memory tells.
@@ -116,44 +131,49 @@ returns-clause-judged g c = λ memory tells.
       known = c.len.ensures.len ∙ ap length fine.known.met;
     }
 
-pub returns-in_err-judge_threads-clause-reads : goal.returns-in_err-judge_threads-clause-reads
-returns-in_err-judge_threads-clause-reads g c = λ memory tells.
-    let w = c.args.s.now.layout in
-    let k = c.new-search.result in
-    let new = begun g (goal.at.returns-in_err-judge_threads-clause-reads g c).In_ok-judge_runtime in
-    let runtime = c.in_ok-judge_runtime.ensures in
-    asked_once w memory (g.C.Callbacks.asked c.args.s.now.table.calls) (g.C.Callbacks.asked c.judge_threads.new.s.table.calls) k 1 c.new-search.ensures.met (omega arith)
-    (threads_ask g.C.Callbacks.told g.C.Callbacks.asked c.args.s.now c.judge_runtime.new.s runtime.same k c.judge_runtime.new.search
-    new runtime.judged runtime.asks c.judge_threads.new.s 1 c.in_err-judge_threads.ensures.asks memory tells)
-
-pub returns-in_err-judge_met-clause-reads : goal.returns-in_err-judge_met-clause-reads
-returns-in_err-judge_met-clause-reads g c = λ memory tells.
-    let w = c.args.s.now.layout in
-    let k = c.new-search.result in
-    let new = begun g (goal.at.returns-in_err-judge_met-clause-reads g c).In_ok-judge_runtime in
-    let runtime = c.in_ok-judge_runtime.ensures in
-    let threads = c.in_ok-judge_threads.ensures in
-    asked_once w memory (g.C.Callbacks.asked c.args.s.now.table.calls) (g.C.Callbacks.asked c.judge_met.new.s.table.calls) k 1 c.new-search.ensures.met (omega arith)
-    (records_ask g.C.Callbacks.told g.C.Callbacks.asked c.args.s.now c.judge_runtime.new.s runtime.same k c.judge_runtime.new.search
-    new runtime.judged runtime.asks c.judge_threads.new.s threads.same c.judge_threads.new.search threads.judged threads.asks c.judge_met.new.s 1 c.in_err-judge_met.ensures.asks memory tells)
-
-pub returns-in_err-judge_chains-clause-reads : goal.returns-in_err-judge_chains-clause-reads
-returns-in_err-judge_chains-clause-reads g c = λ memory tells.
-    asked_once c.args.s.now.layout memory (g.C.Callbacks.asked c.args.s.now.table.calls) (g.C.Callbacks.asked c.judge_met.new.s.table.calls) c.new-search.result 0 c.new-search.ensures.met (omega arith)
-    (searched g (goal.at.returns-in_err-judge_chains-clause-reads g c).In_ok-judge_met memory tells)
-
-pub returns-clause-reads : goal.returns-clause-reads
-returns-clause-reads g c = λ memory tells.
-    asked_once c.args.s.now.layout memory (g.C.Callbacks.asked c.args.s.now.table.calls) (g.C.Callbacks.asked c.judge_met.new.s.table.calls) c.new-search.result 0 c.new-search.ensures.met (omega arith)
-    (searched g (goal.at.returns-clause-reads g c).In_ok-judge_met memory tells)
-
 pub returns-in_err-judge_runtime-clause-reads : goal.returns-in_err-judge_runtime-clause-reads
 returns-in_err-judge_runtime-clause-reads g c = λ memory tells.
     let w = c.args.s.now.layout in
     let k = c.new-search.result in
     let new : IsNew k = record { met = c.new-search.ensures.met; links = c.new-search.ensures.links; begun = c.new-search.ensures.begun } in
-    let asks = c.in_err-judge_runtime.ensures.asks memory tells (knows_new w memory k new) in
-    asked_once w memory (g.C.Callbacks.asked c.args.s.now.table.calls) (g.C.Callbacks.asked c.judge_runtime.new.s.table.calls) k 1 c.new-search.ensures.met (omega arith)
-    (asks_front w memory (g.C.Callbacks.asked c.args.s.now.table.calls) (g.C.Callbacks.asked c.judge_runtime.new.s.table.calls) k
-    (runtime_places w memory ++ at_threads w memory) (at_records w memory) 1
-    (asks_front w memory (g.C.Callbacks.asked c.args.s.now.table.calls) (g.C.Callbacks.asked c.judge_runtime.new.s.table.calls) k (runtime_places w memory) (at_threads w memory) 1 asks))
+    let stop = c.in_err-judge_runtime.field-0.0 in
+    subst
+    (AsksOnly (g.C.Callbacks.told c.args.s.now.table.calls) memory (asked_words w memory) (g.C.Callbacks.asked c.args.s.now.table.calls) (g.C.Callbacks.asked c.judge_runtime.new.s.table.calls))
+    (sym (ended_by c.from_residual.result stop c.from_residual.ensures.1))
+    (runtime_ask g.C.Callbacks.told g.C.Callbacks.asked c.args.s.now c.judge_runtime.new.s k c.judge_runtime.new.search new stop
+    c.in_err-judge_runtime.ensures.judged c.in_err-judge_runtime.ensures.asks memory tells)
+
+pub returns-in_err-judge_threads-clause-reads : goal.returns-in_err-judge_threads-clause-reads
+returns-in_err-judge_threads-clause-reads g c = λ memory tells.
+    let before = (goal.at.returns-in_err-judge_threads-clause-reads g c).In_ok-judge_runtime in
+    let runtime = c.in_ok-judge_runtime.ensures in
+    let stop = c.in_err-judge_threads.field-0.0 in
+    asked_until g before memory (g.C.Callbacks.asked c.judge_threads.new.s.table.calls) c.from_residual-in_err-judge_threads.result stop c.from_residual-in_err-judge_threads.ensures.1
+    (threads_ask g.C.Callbacks.told g.C.Callbacks.asked c.args.s.now c.judge_runtime.new.s c.new-search.result c.judge_runtime.new.search (begun g before)
+    runtime.same runtime.judged runtime.asks c.judge_threads.new.s stop c.in_err-judge_threads.ensures.judged c.in_err-judge_threads.ensures.asks memory tells)
+
+pub returns-in_err-judge_met-clause-reads : goal.returns-in_err-judge_met-clause-reads
+returns-in_err-judge_met-clause-reads g c = λ memory tells.
+    let before = (goal.at.returns-in_err-judge_met-clause-reads g c).In_ok-judge_runtime in
+    let runtime = c.in_ok-judge_runtime.ensures in
+    let threads = c.in_ok-judge_threads.ensures in
+    let stop = c.in_err-judge_met.field-0.0 in
+    asked_until g before memory (g.C.Callbacks.asked c.judge_met.new.s.table.calls) c.from_residual-in_err-judge_met.result stop c.from_residual-in_err-judge_met.ensures.1
+    (records_ask g.C.Callbacks.told g.C.Callbacks.asked c.args.s.now c.judge_runtime.new.s c.new-search.result c.judge_runtime.new.search (begun g before)
+    runtime.same runtime.judged runtime.asks c.judge_threads.new.s threads.same c.judge_threads.new.search threads.judged threads.asks
+    c.judge_met.new.s (stopped_by stop) c.in_err-judge_met.ensures.asks memory tells)
+
+pub returns-in_err-judge_chains-clause-reads : goal.returns-in_err-judge_chains-clause-reads
+returns-in_err-judge_chains-clause-reads g c = λ memory tells.
+    let at = goal.at.returns-in_err-judge_chains-clause-reads g c in
+    let w = c.args.s.now.layout in
+    let told = g.C.Callbacks.told c.args.s.now.table.calls in
+    let first = g.C.Callbacks.asked c.args.s.now.table.calls in
+    let last = g.C.Callbacks.asked c.judge_met.new.s.table.calls in
+    let stop = c.in_err-judge_chains.field-0.0 in
+    asked_until g at.In_ok-judge_runtime memory last c.from_residual-in_err-judge_chains.result stop c.from_residual-in_err-judge_chains.ensures.1
+    (asks_behind told memory (asked_words w memory) first last stop c.in_err-judge_chains.ensures.cause
+    (asks_all told memory (asked_words w memory) first last (searched g at.In_ok-judge_met memory tells)))
+
+pub returns-clause-reads : goal.returns-clause-reads
+returns-clause-reads g c = λ memory tells. searched g (goal.at.returns-clause-reads g c).In_ok-judge_met memory tells

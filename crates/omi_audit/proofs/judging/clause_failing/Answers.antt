@@ -1,5 +1,5 @@
-use Rattle.std.proofs.Common.{◌≡◌, ◌≤◌, ◌==◌, [], ◌&&◌, ◌||◌, ◌∙◌, ℕ, List, true, false, Some, None, sym, ap, nat_le, arith, leb-true}
-use Rattle.std.specs.Prelude.{is_some, nat_eq}
+use Rattle.std.proofs.Common.{◌≡◌, ◌≤◌, ◌==◌, [], ◌&&◌, ◌||◌, ◌∙◌, ℕ, List, true, false, Some, None, sym, ap, subst, nat_le, arith, leb-true}
+use Rattle.std.specs.Prelude.{Result, Ok, is_some, nat_eq}
 use Rattle.std.specs.Option.{option_map_or}
 use Rattle.indexmap.specs.IndexSet.{insert_all}
 use Rattle.omi_script.specs.declared.limits.TheConstants.{MAX_SIZES}
@@ -10,6 +10,10 @@ use Rattle.omi_layout.specs.Valid.{IsValid}
 use Rattle.omi_layout.proofs.Arenas.{test_right, threads_of_valid}
 use Rattle.omi_rep.specs.Look.{live_at}
 use Rattle.omi_session.specs.Named.{record_kind}
+use Rattle.omi_calls.specs.Asked.{Asked}
+use Rattle.omi_audit.specs.InOrder.{AsksOnly}
+use Rattle.omi_audit.specs.declared.verdict.AuditFault.{AuditFault}
+use Rattle.omi_audit.specs.Listed.{asked_of_record, asked_of_word}
 use Rattle.omi_audit.specs.Clauses.{leads_to, led_to, may_be_none, clause_4, clause_5, clause_6}
 use Rattle.omi_audit.specs.Found.{counts}
 use Rattle.omi_audit.specs.Judged.{Knows, named_of}
@@ -76,3 +80,23 @@ returns-else-may_stand-clause-failing g c = λ memory tells known.
       is = ap (λ (n : ℕ). Some n) c.pointer_clause.ensures ∙ sym (pointer_refused c.args.s.now.layout memory c.args.thread c.args.field c.args.at (kind g here) c.args.word (leads g here) fails);
       meets = λ is. absurd (cc);
     }
+
+-- what is asked for is what is asked for of the record to which the word leads
+led_asks : (g : Over) (c : In_ok-led g) (memory : Words) (r : Result (Unit {0}) AuditFault) (now : Asked)
+    → AsksOnly (g.C.Callbacks.told c.args.s.now.table.calls) memory (asked_of_record c.args.s.now.layout c.args.search.now.met.keys (kind g c) c.led_to.result) (g.C.Callbacks.asked c.args.s.now.table.calls) now r
+    → AsksOnly (g.C.Callbacks.told c.args.s.now.table.calls) memory (asked_of_word c.args.s.now.layout c.args.search.now.met.keys c.args.field c.args.at c.args.word) (g.C.Callbacks.asked c.args.s.now.table.calls) now r
+led_asks g c memory r now asks =
+    let w = c.args.s.now.layout in
+    let met = c.args.search.now.met.keys in
+    subst (λ l. AsksOnly (g.C.Callbacks.told c.args.s.now.table.calls) memory l (g.C.Callbacks.asked c.args.s.now.table.calls) now r)
+    (ap (asked_of_record w met (kind g c)) c.led_to.ensures
+    ∙ ap (λ o. option_map_or (λ k. asked_of_record w met k (led_to c.args.field c.args.word)) o []) (sym (leads g c)))
+    asks
+
+pub returns-then-may_stand-clause-asks : goal.returns-then-may_stand-clause-asks
+returns-then-may_stand-clause-asks g c = λ memory tells known.
+    led_asks g (goal.at.returns-then-may_stand-clause-asks g c).In_ok-led memory (Ok tt) (g.C.Callbacks.asked c.names.new.s.table.calls) (c.in_ok-led.ensures.asks memory tells known)
+
+pub returns-else-may_stand-clause-asks : goal.returns-else-may_stand-clause-asks
+returns-else-may_stand-clause-asks g c = λ memory tells known.
+    led_asks g (goal.at.returns-else-may_stand-clause-asks g c).In_ok-led memory (Ok tt) (g.C.Callbacks.asked c.names.new.s.table.calls) (c.in_ok-led.ensures.asks memory tells known)

@@ -1,5 +1,5 @@
-use Rattle.std.proofs.Common.{◌≡◌, ◌∙◌, ◌+◌, suc, [], ◌∷◌, take, length, get_or, Some, refl, sym, ap, subst, arith}
-use Rattle.std.specs.Prelude.{slice_get}
+use Rattle.std.proofs.Common.{◌≡◌, ◌∙◌, ◌+◌, inl, suc, [], ◌∷◌, take, length, get_or, Some, refl, sym, ap, subst, arith}
+use Rattle.std.specs.Prelude.{Ok, slice_get}
 use Rattle.std.proofs.Math.Seq.{take-length}
 use Rattle.std.proofs.lemmas.List.{length-map}
 use Rattle.std.proofs.lemmas.Option.{slice_get-get_or}
@@ -7,8 +7,10 @@ use Rattle.omi_session.proofs.Told.{stays_then}
 use Rattle.omi_layout.specs.declared.field.Field.TheVariants.{RuntimeVersion}
 use Rattle.omi_audit.specs.Search.{places_of}
 use Rattle.omi_audit.specs.Verdicts.{refused_at}
-use Rattle.omi_audit.specs.Judged.{Asks, place_at, refused_among, IsFine, IsFirst, IsFound, IsJudged}
-use Rattle.omi_audit.proofs.Asking.{asks_next, asks_start, asks_whole, stopped_one}
+use Rattle.omi_audit.specs.Judged.{place_at, refused_among, IsFine, IsFirst, IsFound, IsJudged}
+use Rattle.omi_audit.specs.InOrder.{AsksOnly, stopped_by}
+use Rattle.omi_audit.specs.Listed.{asked_among}
+use Rattle.omi_audit.proofs.Asking.{AsksAll, asks_all, asks_kept, ended_by, places_next, places_stop}
 use Rattle.omi_audit.proofs.JudgedPlaces.{AreFine, AreSaid, field_place, said_next, judges_stop, fine_start, fine_next, fine_stop}
 use Rattle.omi_audit.proofs.KeptOn.{kept_on}
 use Rattle.omi_audit.proofs.NamedWords.{still_knows_named}
@@ -18,7 +20,7 @@ pub loop-field-init : goal.loop-field-init
 loop-field-init g c = record {
   judged = λ memory tells known. fine_start c.args.s.now.layout memory c.args.thread c.args.search.now;
   said = λ memory tells known. record { next = refl; count = refl };
-  asks = λ memory tells known. asks_start c.args.s.now.layout memory (g.C.Callbacks.asked c.args.s.now.table.calls) c.args.search.now;
+  asks = λ memory tells known. (refl, refl);
   few = omega arith;
   begun = refl;
   same = record { table = record { same = refl; order = refl; to_host = refl }; layout = refl; handles = refl };
@@ -61,16 +63,20 @@ loop-field-preserved g c =
           c.with-found.ensures.next c.with-found.ensures.count);
       asks = λ memory tells known.
           let w = c.args.s.now.layout in
+          let i = c.args.thread in
+          let told = g.C.Callbacks.told c.args.s.now.table.calls in
+          let asked = g.C.Callbacks.asked in
           let p = place_at c.args.addr f 0 in
           let places = places_of c.args.addr fields in
+          let met = c.args.search.now.met.keys in
           let fine = before.judged memory tells known in
           let knows = still_knows_named w memory c.args.search.now c.loop-field.search (take k places) known fine.known in
-          subst (λ n. Asks w memory (g.C.Callbacks.asked c.args.s.now.table.calls) (g.C.Callbacks.asked c.judge.new.s.table.calls) c.args.search.now (take n places) 0) one
-          (asks_next w memory (g.C.Callbacks.asked c.args.s.now.table.calls) (g.C.Callbacks.asked c.loop-field.s.table.calls) (g.C.Callbacks.asked c.judge.new.s.table.calls)
-          c.args.search.now c.loop-field.search places k p 0 (field_place w memory c.args.addr fields k f at) (before.asks memory tells known) fine.known
-          (kept_on g.C.Callbacks.told c.args.s.now c.loop-field.s c.loop-field.search
-          (λ l m. Asks l m (g.C.Callbacks.asked c.loop-field.s.table.calls) (g.C.Callbacks.asked c.judge.new.s.table.calls) c.loop-field.search (p ∷ []) 0)
-          before.same done.asks memory tells knows));
+          subst (λ n. AsksAll told memory (asked_among w memory i met (take n places)) (asked c.args.s.now.table.calls) (asked c.judge.new.s.table.calls)) one
+          (asks_all told memory (asked_among w memory i met (take (suc k) places)) (asked c.args.s.now.table.calls) (asked c.judge.new.s.table.calls)
+          (places_next w memory i told met c.loop-field.search.met.keys (asked c.args.s.now.table.calls) (asked c.loop-field.s.table.calls) (asked c.judge.new.s.table.calls) (Ok tt)
+          places k p (field_place w memory c.args.addr fields k f at) fine.none fine.known.met (before.asks memory tells known)
+          (asks_kept g.C.Callbacks.told c.args.s.now c.loop-field.s c.loop-field.search (λ l m. asked_among l m i c.loop-field.search.met.keys (p ∷ []))
+          (asked c.loop-field.s.table.calls) (asked c.judge.new.s.table.calls) (Ok tt) before.same done.asks memory tells knows)));
       few = c.with-found.ensures.few;
       begun = done.begun ∙ before.begun;
       same = stays_then g.C.Callbacks.told c.args.s.now c.loop-field.s c.judge.new.s before.same done.same;
@@ -115,26 +121,39 @@ returns-in_err-word-clause-judged g c = λ memory tells known.
 
 pub returns-clause-asks : goal.returns-clause-asks
 returns-clause-asks g c = λ memory tells known.
-    asks_whole c.args.s.now.layout memory (g.C.Callbacks.asked c.args.s.now.table.calls) (g.C.Callbacks.asked c.loop-field.s.table.calls) c.args.search.now
-    c.loop-field.field-index (places_of c.args.addr c.args.fields.now) 0 (c.loop-field.invariant.asks memory tells known)
+    let fields = c.args.fields.now in
+    let places = places_of c.args.addr fields in
+    let long : length places ≡ length fields = length-map fields (λ f. place_at c.args.addr f 0) in
+    let end : c.loop-field.field-index ≡ length places = omega (arith, long) in
+    inl
+    (subst
+    (λ l. AsksAll (g.C.Callbacks.told c.args.s.now.table.calls) memory (asked_among c.args.s.now.layout memory c.args.thread c.args.search.now.met.keys l)
+    (g.C.Callbacks.asked c.args.s.now.table.calls) (g.C.Callbacks.asked c.loop-field.s.table.calls))
+    (ap (λ n. take n places) end ∙ take-length places) (c.loop-field.invariant.asks memory tells known))
 
 pub returns-in_err-word-clause-asks : goal.returns-in_err-word-clause-asks
 returns-in_err-word-clause-asks g c = λ memory tells known.
     let w = c.args.s.now.layout in
+    let i = c.args.thread in
+    let told = g.C.Callbacks.told c.args.s.now.table.calls in
+    let asked = g.C.Callbacks.asked in
     let fields = c.args.fields.now in
     let k = c.loop-field.field-index in
     let f = get_or fields k RuntimeVersion in
     let at : slice_get fields k ≡ Some f = slice_get-get_or fields k RuntimeVersion (omega arith) in
     let p = place_at c.args.addr f 0 in
     let places = places_of c.args.addr fields in
+    let met = c.args.search.now.met.keys in
+    let stop = c.in_err-word.field-0.0 in
     let before = c.loop-field.invariant in
     let fine = before.judged memory tells known in
     let knows = still_knows_named w memory c.args.search.now c.loop-field.search (take k places) known fine.known in
-    let stopped = stopped_one c.from_residual.result c.in_err-word.field-0.0 c.from_residual.ensures.1 in
-    subst (Asks w memory (g.C.Callbacks.asked c.args.s.now.table.calls) (g.C.Callbacks.asked c.judge.new.s.table.calls) c.args.search.now places) (sym stopped)
-    (asks_whole w memory (g.C.Callbacks.asked c.args.s.now.table.calls) (g.C.Callbacks.asked c.judge.new.s.table.calls) c.args.search.now (suc k) places 1
-    (asks_next w memory (g.C.Callbacks.asked c.args.s.now.table.calls) (g.C.Callbacks.asked c.loop-field.s.table.calls) (g.C.Callbacks.asked c.judge.new.s.table.calls)
-    c.args.search.now c.loop-field.search places k p 1 (field_place w memory c.args.addr fields k f at) (before.asks memory tells known) fine.known
-    (kept_on g.C.Callbacks.told c.args.s.now c.loop-field.s c.loop-field.search
-    (λ l m. Asks l m (g.C.Callbacks.asked c.loop-field.s.table.calls) (g.C.Callbacks.asked c.judge.new.s.table.calls) c.loop-field.search (p ∷ []) 1)
-    before.same c.in_err-word.ensures.asks memory tells knows)))
+    let first =
+    kept_on g.C.Callbacks.told c.args.s.now c.loop-field.s c.loop-field.search
+    (λ l m. IsFirst (refused_at l m i p) stop) before.same c.in_err-word.ensures.judged memory tells knows in
+    subst (AsksOnly told memory (asked_among w memory i met places) (asked c.args.s.now.table.calls) (asked c.judge.new.s.table.calls))
+    (sym (ended_by c.from_residual.result stop c.from_residual.ensures.1))
+    (places_stop w memory i told met c.loop-field.search.met.keys (asked c.args.s.now.table.calls) (asked c.loop-field.s.table.calls) (asked c.judge.new.s.table.calls)
+    places k p stop (field_place w memory c.args.addr fields k f at) fine.none fine.known.met (before.asks memory tells known) first
+    (asks_kept g.C.Callbacks.told c.args.s.now c.loop-field.s c.loop-field.search (λ l m. asked_among l m i c.loop-field.search.met.keys (p ∷ []))
+    (asked c.loop-field.s.table.calls) (asked c.judge.new.s.table.calls) (stopped_by stop) before.same c.in_err-word.ensures.asks memory tells knows))

@@ -7,7 +7,8 @@ use Rattle.omi_word.specs.Words.{Words}
 use Rattle.omi_rep.specs.Look.{slot_at}
 use Rattle.omi_rep.proofs.Slots.{slot_same}
 use Rattle.omi_audit.specs.Search.{is_region, region_places, task_places}
-use Rattle.omi_audit.specs.Judged.{Asks, one_if_stopped}
+use Rattle.omi_audit.specs.InOrder.{AsksOnly, ended}
+use Rattle.omi_audit.specs.Listed.{asked_among}
 use Rattle.omi_audit.proofs.JudgedRecords.{judged_kind}
 use Rattle.omi_audit.proofs.records.judge_either.Goals as goal
 
@@ -35,14 +36,18 @@ pub returns-then-is_some-clause-asks : goal.returns-then-is_some-clause-asks
 returns-then-is_some-clause-asks g c = λ memory tells known.
     let w = c.args.s.now.layout in
     let region = region_by w memory c.args.addr c.layout.result.now.table c.layout.ensures c.region_of.result c.region_of.ensures ∙ sym c.is_some.ensures ∙ c.if-is_some.true in
-    subst (λ b. Asks w memory (g.C.Callbacks.asked c.args.s.now.table.calls) (g.C.Callbacks.asked c.judge_parts.new.s.table.calls) c.args.search.now
-    (cond b (region_places w memory c.args.addr) (task_places w memory c.args.addr)) (one_if_stopped c.judge_parts.result)) (sym region)
+    subst
+    (λ b. AsksOnly (g.C.Callbacks.told c.args.s.now.table.calls) memory
+    (asked_among w memory 0 c.args.search.now.met.keys (cond b (region_places w memory c.args.addr) (task_places w memory c.args.addr)))
+    (g.C.Callbacks.asked c.args.s.now.table.calls) (g.C.Callbacks.asked c.judge_parts.new.s.table.calls) (ended c.judge_parts.result)) (sym region)
     (c.judge_parts.ensures.asks memory tells known)
 
 pub returns-else-is_some-clause-asks : goal.returns-else-is_some-clause-asks
 returns-else-is_some-clause-asks g c = λ memory tells known.
     let w = c.args.s.now.layout in
     let region = region_by w memory c.args.addr c.layout.result.now.table c.layout.ensures c.region_of.result c.region_of.ensures ∙ sym c.is_some.ensures ∙ c.if-is_some.false in
-    subst (λ b. Asks w memory (g.C.Callbacks.asked c.args.s.now.table.calls) (g.C.Callbacks.asked c.judge_task.new.s.table.calls) c.args.search.now
-    (cond b (region_places w memory c.args.addr) (task_places w memory c.args.addr)) (one_if_stopped c.judge_task.result)) (sym region)
+    subst
+    (λ b. AsksOnly (g.C.Callbacks.told c.args.s.now.table.calls) memory
+    (asked_among w memory 0 c.args.search.now.met.keys (cond b (region_places w memory c.args.addr) (task_places w memory c.args.addr)))
+    (g.C.Callbacks.asked c.args.s.now.table.calls) (g.C.Callbacks.asked c.judge_task.new.s.table.calls) (ended c.judge_task.result)) (sym region)
     (c.judge_task.ensures.asks memory tells known)

@@ -4,8 +4,9 @@ use Rattle.std.proofs.Common.{◌≡◌, ◌≤◌, take, length}
 use Rattle.std.specs.List.{flat_map, range_with_len}
 use Rattle.omi_layout.specs.Table.{thread_count}
 use Rattle.omi_session.specs.Opened.{StaysWhole}
-use Rattle.omi_audit.specs.Judged.{OverKept, Asks, IsFine, AreThreads, refused_thread}
-use Rattle.omi_audit.specs.Search.{thread_places}
+use Rattle.omi_audit.specs.Judged.{OverKept, IsFine, AreThreads, refused_thread}
+use Rattle.omi_audit.specs.Listed.{asked_of_threads}
+use Rattle.omi_audit.proofs.Asking.{AsksAll}
 use Rattle.omi_audit.proofs.records.judge_threads.Given as goal
 
 abbrev pub invariant-loop-thread : goal.invariant-loop-thread
@@ -15,8 +16,9 @@ invariant-loop-thread g l =
           IsFine (flat_map (refused_thread l.initial.s.layout memory) (take l.thread (range_with_len 0 (thread_count l.initial.s.layout))))
           (AreThreads l.initial.s.layout memory (take l.thread (range_with_len 0 (thread_count l.initial.s.layout))) l.initial.search l.search));
       asks : OverKept g.C.Callbacks.told l.initial.s l.initial.search (λ memory.
-          Asks l.initial.s.layout memory (g.C.Callbacks.asked l.initial.s.table.calls) (g.C.Callbacks.asked l.s.table.calls) l.initial.search
-          (flat_map (thread_places l.initial.s.layout memory) (take l.thread (range_with_len 0 (thread_count l.initial.s.layout)))) 0);
+          AsksAll (g.C.Callbacks.told l.initial.s.table.calls) memory
+          (asked_of_threads l.initial.s.layout memory l.initial.search.met.keys (take l.thread (range_with_len 0 (thread_count l.initial.s.layout))))
+          (g.C.Callbacks.asked l.initial.s.table.calls) (g.C.Callbacks.asked l.s.table.calls));
       end : l.thread-end ≡ thread_count l.initial.s.layout;
       begun : length l.search.begun.items ≡ l.thread;
       same : StaysWhole g.C.Callbacks.told l.initial.s l.s;
