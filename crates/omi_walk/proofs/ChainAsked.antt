@@ -4,6 +4,7 @@ use Rattle.std.specs.Cmp.{unsigned_ties}
 use Rattle.std.specs.Ordering.{nat_cmp}
 use Rattle.std.specs.BTreeSet.{BTreeSet, contains, Updates}
 use Rattle.std.specs.Prelude.{Result, Ok, Err, IsErrAnd}
+use Rattle.omi_calls.specs.Asked.{Asked}
 use Rattle.omi_calls.specs.Told.{Told}
 use Rattle.omi_session.specs.Opened.{Opened}
 use Rattle.omi_session.specs.Reads.{then_reads}
@@ -28,7 +29,7 @@ also_met old new key updates address =
     go true = refl
     go false = refl
 
-module _ {A C F : Type 0} (told : C → Told) (asked : C → ℕ) (s : Opened C F)
+module _ {A C F : Type 0} (told : C → Told) (asked : C → Asked) (s : Opened C F)
     (ask : List ℕ → (ℕ → Bool) → Met → Asks (A × Option Met)) (count : ℕ) (first : Option Met) where
   abbrev pub all_asked : Asks (List A)
   all_asked = ask_chain (ask s.layout) count none_met first

@@ -2,6 +2,7 @@
 use Rattle.std.proofs.Common.{append_assoc, append-nil, ◌≡◌, ℕ, List, [], ◌∷◌, ◌++◌, Option, refl, sym, ap, ◌∙◌}
 use Rattle.std.specs.FinMap.{get}
 use Rattle.std.specs.Prelude.{Result, Ok, Err, IsErrAnd}
+use Rattle.omi_calls.specs.Asked.{Asked}
 use Rattle.omi_calls.specs.Told.{Told}
 use Rattle.omi_handle.specs.declared.handle.Held.{Held}
 use Rattle.omi_session.specs.Opened.{Opened}
@@ -64,7 +65,7 @@ with_parts {E} {A} {B} ask ys (x ∷ xs) left =
 
 -- ---- in a session
 
-module _ {X Y C F : Type 0} (told : C → Told) (asked : C → ℕ) (s : Opened C F) (pair : ℕ × ℕ)
+module _ {X Y C F : Type 0} (told : C → Told) (asked : C → Asked) (s : Opened C F) (pair : ℕ × ℕ)
     (ask : List ℕ → Option Held → X → Asks Y) (all : List X) where
   -- what is asked of these in the session where it began
   abbrev pub ask_here : X → Asks Y

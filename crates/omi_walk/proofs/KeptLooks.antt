@@ -1,9 +1,10 @@
 -- What a walk answers that keeps a handle of each task: the tasks of the report, or its refusal.
-use Rattle.std.proofs.Common.{◌≡◌, ℕ, List, [], ◌∷◌, map, sym, ap, subst, ◌∙◌, arith}
+use Rattle.std.proofs.Common.{◌≡◌, ℕ, List, [], ◌∷◌, map, sym, ap, subst, ◌∙◌}
 use Rattle.std.specs.Prelude.{All, Result, Ok, Err, IfOk, IfErr, IsErrAnd}
 use Rattle.std.proofs.lemmas.List.Elements.{All-nil, All-cons, All-head, All-tail, All-map}
 use Rattle.std.proofs.lemmas.Result.{IfOk-weaker, err_from_is_err_and}
 use Rattle.omi_calls.specs.Kept.{Kept}
+use Rattle.omi_calls.specs.Asked.{Asked}
 use Rattle.omi_calls.specs.Told.{Told}
 use Rattle.omi_handle.specs.declared.handle.TaskHandle.{TaskHandle}
 use Rattle.omi_model.specs.declared.id.Tid.{Tid}
@@ -18,7 +19,7 @@ use Rattle.omi_walk.specs.AskView.{ask_view}
 use Rattle.omi_walk.specs.Asking.{Asks}
 use Rattle.omi_walk.specs.Gives.{Looks}
 use Rattle.omi_walk.specs.Kept.{IsLive, task_names, names_kept, look_names, ask_names}
-use Rattle.omi_walk.specs.Walks.{Walks}
+use Rattle.omi_walk.specs.Walks.{RanInRoom, Walks}
 use Rattle.omi_walk.proofs.Goes.{walks_ok, walks_err, walks_unsaid}
 use Rattle.omi_walk.proofs.LiveTasks.{rows_after}
 use Rattle.omi_walk.proofs.Steps.{look_stops, look_unsaid}
@@ -38,7 +39,7 @@ each_kept P (k ∷ kept) all =
     All-cons (λ (k : Tid × TaskHandle). P k.0) k kept (All-head P k.0 (map (λ k. k.0) kept) all)
     (each_kept P kept (All-tail P k.0 (map (λ k. k.0) kept) all))
 
-module _ {C F : Type 0} (told : C → Told) (asked : C → ℕ) (s t new : Opened C F) (contexts : List ℕ) where
+module _ {C F : Type 0} (told : C → Told) (asked : C → Asked) (s t new : Opened C F) (contexts : List ℕ) where
   -- all were kept, or memory ran out
   pub looks_kept : (v : View) (r : Answer) → IfOk r (AreKept v.tasks) → IfErr r (λ fault. fault ≡ OutOfMemory)
       → Looks told s (Ok v) (λ w memory. look_view w memory contexts)
@@ -64,11 +65,9 @@ module _ {C F : Type 0} (told : C → Told) (asked : C → ℕ) (s t new : Opene
       → Walks told asked s t r reads
       → Walks told asked s new r reads
   asked_then r reads table walks = record {
-    is = walks.is;
-    most = λ memory tells.
-        let one = walks.most memory tells in
-        let same = ap (λ (k : Kept C F). asked k.calls) table in
-        omega (arith, one, same);
+    ran = λ memory tells.
+        subst (λ (k : Kept C F). RanInRoom (told s.table.calls) memory reads (asked s.table.calls) (asked k.calls) r) (sym table)
+        (walks.ran memory tells);
   }
 
   pub walks_kept : (v : View) (r : Answer) → IfOk r (AreKept v.tasks) → IfErr r (λ fault. fault ≡ OutOfMemory)
@@ -79,7 +78,7 @@ module _ {C F : Type 0} (told : C → Told) (asked : C → ℕ) (s t new : Opene
       (walks_ok told asked s t task_names v (map (λ k. k.0) kept) (ask_view s.layout contexts) names walks)
   walks_kept v (Err fault) names full table walks =
       asked_then (Err fault) (ask_names s.layout contexts) table
-      (walks_unsaid told asked s t task_names (Ok v) (Err fault) (ask_view s.layout contexts) walks full)
+      (walks_unsaid told asked s t task_names (Ok v) (Err fault) (ask_view s.layout contexts) (λ e. (cc)) walks full)
 
   pub walks_refused : (fault : WalkFault) (r : Answer) → IsErrAnd r (λ why. why ≡ fault)
       → Walks {A = View} told asked s t (Err fault) (ask_view s.layout contexts)

@@ -3,6 +3,7 @@ use Rattle.std.proofs.Common.{◌≡◌, ℕ, Option, Some, refl, sym, ap, ◌�
 use Rattle.std.specs.FinMap.{get}
 use Rattle.std.specs.Option.{option_map}
 use Rattle.std.specs.Prelude.{Result, Ok, Err}
+use Rattle.omi_calls.specs.Asked.{Asked}
 use Rattle.omi_calls.specs.Told.{Told}
 use Rattle.omi_handle.specs.declared.handle.Held.{Held}
 use Rattle.omi_session.specs.declared.rc.Rc.{Rc}
@@ -25,25 +26,25 @@ named : {C F : Type 0} (s mid : Opened C F) (m : Met) → mid.layout ≡ s.layou
     → m ≡ met s.layout m.held
 named s mid m layout name = met_is s.layout m (ap (λ w. name_of w m.held) (sym layout) ∙ name)
 
-module _ {C F : Type 0} {told : C → Told} {asked : C → ℕ} {s mid new : Opened C F} {reads : Reads Held} {pair : ℕ × ℕ}
+module _ {C F : Type 0} {told : C → Told} {asked : C → Asked} {s mid new : Opened C F} {reads : Reads Held} {pair : ℕ × ℕ}
     (m : Met) (answered : Answered told asked s mid (Ok pair) reads) (there : get mid.handles.held pair ≡ Some m.held)
     (name : name_of mid.layout m.held ≡ Some m.name) (layout : mid.layout ≡ s.layout) (table : new.table ≡ mid.table) where
   -- it was found
-  pub object_found : (change : Result Held Rc → Result Held WalkFault) → change (Ok m.held) ≡ Ok m.held
+  pub object_found : (change : Result Held Rc → Result Held WalkFault) → change (Err CallbackError) ≡ Err Callback → change (Ok m.held) ≡ Ok m.held
       → Walks told asked s new (Ok m) (ask_object s.layout change reads)
   unfolding ask_object
-  object_found change is =
+  object_found change failed is =
       walks_ok told asked s new (met s.layout) m.held m _ (named s mid m layout name)
-      (of_made_ok told asked s mid new pair m.held reads change m.held answered there is table)
+      (of_made_ok told asked s mid new pair m.held reads change m.held failed answered there is table)
 
   -- the same of one of which there may be none
   pub maybe_found : (found : Option Held) → Walks told asked s new (Ok (Some m)) (ask_maybe s.layout found reads)
   unfolding ask_maybe
   maybe_found found =
       walks_ok told asked s new (option_map (met s.layout)) (Some m.held) (Some m) _ (ap Some (named s mid m layout name))
-      (of_made_ok told asked s mid new pair m.held reads (maybe_absent found) (Some m.held) answered there refl table)
+      (of_made_ok told asked s mid new pair m.held reads (maybe_absent found) (Some m.held) refl answered there refl table)
 
-module _ {C F : Type 0} {told : C → Told} {asked : C → ℕ} {s mid : Opened C F} {reads : Reads Held} {rc : Rc}
+module _ {C F : Type 0} {told : C → Told} {asked : C → Asked} {s mid : Opened C F} {reads : Reads Held} {rc : Rc}
     (answered : Answered told asked s mid (Err rc) reads) where
   -- it was refused
   pub object_refused : (change : Result Held Rc → Result Held WalkFault) (fault : WalkFault)

@@ -4,6 +4,7 @@ use Rattle.std.specs.Prelude.{◌≢◌, Result, Ok, Err, IfSome}
 use Rattle.std.specs.BTreeMap.{BTreeMap}
 use Rattle.std.specs.List.{All}
 use Rattle.std.proofs.lemmas.List.Elements.{All-head, All-tail}
+use Rattle.omi_calls.specs.Asked.{Asked}
 use Rattle.omi_calls.specs.Told.{Told}
 use Rattle.omi_handle.specs.declared.handle.Kind.TheVariants.{Region}
 use Rattle.omi_model.specs.declared.view.View.{View}
@@ -22,6 +23,7 @@ use Rattle.omi_walk.specs.declared.fault.WalkFault.TheVariants.{Damaged, Cycle, 
 use Rattle.omi_walk.specs.AskLooked.{as_walked}
 use Rattle.omi_walk.specs.AskView.{ask_view}
 use Rattle.omi_walk.specs.Walks.{Walks}
+use Rattle.omi_walk.proofs.Goes.{walks_is}
 use Rattle.omi_walk.proofs.AskedView.{looked_view}
 
 -- what holds of all holds of the one that is found
@@ -66,10 +68,10 @@ gives_of {A} (Err (Cycle addr)) l is = go l (is (λ e. cc) (λ e. cc))
     go (Err (plain.Cycle a)) e =
         let same : Cycle addr ≡ Cycle a = cc in let one : a ≡ addr = cc in ap (λ a. Err (plain.Cycle a)) one
 
-pub looks_of_reads : {C F : Type 0} (told : C → Told) (asked : C → ℕ) (s t : Opened C F) (contexts : List ℕ) (r : Result View WalkFault)
+pub looks_of_reads : {C F : Type 0} (told : C → Told) (asked : C → Asked) (s t : Opened C F) (contexts : List ℕ) (r : Result View WalkFault)
     → IsValid s.layout
     → Walks told asked s t r (ask_view s.layout contexts) → Looks told s r (λ w memory. look_view w memory contexts)
 unfolding Looks
 looks_of_reads told asked s t contexts r valid walks = λ memory tells.
     gives_of r (look_view s.layout memory contexts)
-    (λ ne no. walks.is memory tells ne no ∙ looked_view s.layout memory contexts valid)
+    (λ ne no. walks_is told asked walks memory tells ne no ∙ looked_view s.layout memory contexts valid)

@@ -10,6 +10,7 @@ use Rattle.omi_layout.specs.Table.{records}
 use Rattle.omi_walk.specs.Objects.{IsMet}
 use Rattle.omi_walk.proofs.Chained.{one_met}
 use Rattle.omi_walk.proofs.Steps.{leaves_same, leaves_then, met_after}
+use Rattle.omi_calls.specs.Asked.{Asked}
 use Rattle.omi_calls.specs.Told.{Told}
 use Rattle.omi_session.specs.Opened.{Opened}
 use Rattle.omi_walk.specs.declared.met.Met.{Met}
@@ -23,7 +24,7 @@ use Rattle.omi_walk.proofs.Goes.{goes_unsaid, walks_ok, walks_err}
 use Rattle.omi_walk.proofs.chain.enclosing.Goals as goal
 
 -- the next region was asked for
-walked_enclosed : {C F : Type 0} (told : C → Told) (asked : C → ℕ) (s t : Opened C F)
+walked_enclosed : {C F : Type 0} (told : C → Told) (asked : C → Asked) (s t : Opened C F)
     (known : ℕ → Bool) (r : Met) (next : Option Met)
     → Walks told asked s t (Ok next) (ask_outward s.layout known (Some r.held))
     → Walks told asked s t (Ok (r, next)) (ask_enclosed s.layout known r)
@@ -33,7 +34,7 @@ walked_enclosed told asked s t known r next walks =
     (ask_outward s.layout known (Some r.held)) refl walks
 
 -- the chain of regions from one on, in the session where it began
-module _ {C F : Type 0} (told : C → Told) (asked : C → ℕ) (s : Opened C F) (first : Met) where
+module _ {C F : Type 0} (told : C → Told) (asked : C → Asked) (s : Opened C F) (first : Met) where
   abbrev count : ℕ
   count = records s.layout regions
 

@@ -15,7 +15,7 @@ returns-in-Ok-clause-leaves g c =
 
 pub returns-in-Ok-clause-reads : goal.returns-in-Ok-clause-reads
 returns-in-Ok-clause-reads g c =
-    object_found c.let_go.result c.in-Ok.ensures.answer c.let_go.ensures.object c.let_go.ensures.name c.get_thread_in_parallel.ensures.stays.layout c.let_go.ensures.table (of_member (get c.args.s.now.handles.held (region_pair c.args.r))) refl
+    object_found c.let_go.result c.in-Ok.ensures.answer c.let_go.ensures.object c.let_go.ensures.name c.get_thread_in_parallel.ensures.stays.layout c.let_go.ensures.table (of_member (get c.args.s.now.handles.held (region_pair c.args.r))) refl refl
 
 pub returns-in-Err-clause-reads : goal.returns-in-Err-clause-reads
 returns-in-Err-clause-reads g c =

@@ -21,7 +21,7 @@ returns-in_err-list_of-in-Ok-clause-reads g c =
     let asked = g.C.Callbacks.asked in
     let s = c.args.s.now in
     let pair = task_pair c.args.k in
-    walks_unsaid told asked s _ (λ (v : Value). v.numbers) (Ok c.in-Ok.value) _ _
+    walks_unsaid told asked s _ (λ (v : Value). v.numbers) (Ok c.in-Ok.value) _ _ (λ e. (cc))
     (of_answers told asked s _ (Ok c.in-Ok.value) (Ok c.in-Ok.value) (walked (get s.handles.held pair)) (icv_value s.layout (get s.handles.held) (scoped.Task c.args.k) NTHREADS_VAR) refl refl c.in-Ok.ensures.answer)
     c.from_residual.ensures.1
 

@@ -11,6 +11,7 @@ use Rattle.omi_walk.proofs.Steps.{leaves_same, leaves_then, next_range, no_more}
 use Rattle.std.specs.Prelude.{Result, Ok, Err}
 use Rattle.omi_walk.specs.declared.met.Met.{Met}
 use Rattle.std.specs.BTreeMap.{BTreeMap}
+use Rattle.omi_calls.specs.Asked.{Asked}
 use Rattle.omi_calls.specs.Told.{Told}
 use Rattle.omi_session.specs.Opened.{Opened}
 use Rattle.omi_walk.specs.declared.fault.WalkFault.{WalkFault}
@@ -24,7 +25,7 @@ use Rattle.omi_walk.proofs.EachAsked.{EachGoes, asks_begin, asks_part, part_stop
 use Rattle.omi_walk.proofs.region_rows.region_rows.Goals as goal
 
 -- the rows of regions, by the slots of one thread after the other
-module _ {C F : Type 0} (told : C → Told) (asked : C → ℕ) (s : Opened C F)
+module _ {C F : Type 0} (told : C → Told) (asked : C → Asked) (s : Opened C F)
     (index : BTreeMap ℕ Met) where
   -- the regions that the index has in these slots: all of them, and those that these threads made
   abbrev met_at : List (ℕ × ℕ) → List Met

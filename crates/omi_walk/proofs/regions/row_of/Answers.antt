@@ -22,6 +22,7 @@ use Rattle.omi_walk.proofs.Goes.{goes_told}
 use Rattle.omi_walk.proofs.Goes.{Left, left_first, left_on, left_stop, left_end}
 use Rattle.omi_walk.proofs.regions.row_of.Given.{Over}
 use Rattle.omi_walk.proofs.regions.row_of.Goals.{After-bounded, In_ok-func, In_ok-levels, In_ok-active, In_ok-size, In_ok-enclosing, In_ok-members}
+use Rattle.omi_walk.proofs.Goes.{walks_is}
 use Rattle.omi_walk.proofs.regions.row_of.Goals as goal
 
 pub members-requires-clause-few : goal.members-requires-clause-few
@@ -92,7 +93,7 @@ module _ (g : Over) where
         goes = goes_told told g.C.Callbacks.asked s c.related_of.new.s (ask_row c.args.s.now.layout c.args.region (get c.args.s.now.handles.held (region_pair c.args.r))) (members_of c c.in_ok-size.size) (members_of c c.bounded.result)
             (λ memory tells. ap (members_of c) (sym (c.bounded.ensures.same (
             let known = size_within t.layout memory (get t.handles.held (region_pair c.args.r)) c.in_ok-size.size
-            (c.in_ok-size.ensures.reads.is memory (still_tells (told s.table.calls) (told t.table.calls) memory so.goes.stays.table.same tells) (λ e. cc) (λ e. cc)) in
+            (walks_is told g.C.Callbacks.asked c.in_ok-size.ensures.reads memory (still_tells (told s.table.calls) (told t.table.calls) memory so.goes.stays.table.same tells) (λ e. cc) (λ e. cc)) in
             let bound : c.from-most.result ≡ thread_count t.layout =
             c.from-most.ensures
             ∙ c.threads.ensures

@@ -12,6 +12,7 @@ use Rattle.omi_ask.specs.Regions.{region_of_task}
 use Rattle.omi_walk.specs.Fault.{walked, fault_of}
 use Rattle.omi_walk.proofs.Looked.{followed_lives, found_leaves, found_met}
 use Rattle.omi_walk.proofs.ObjectWalks.{object_found, object_refused}
+use Rattle.omi_session.proofs.Handed.{answered_is}
 use Rattle.omi_walk.proofs.related.region_of.Goals as goal
 
 pub returns-in-Ok-clause-met : goal.returns-in-Ok-clause-met
@@ -20,7 +21,7 @@ returns-in-Ok-clause-met g c =
     found_met g.C.Callbacks.told c.args.s.now c.get_task_parallel_handle.new.s c.let_go.new.s Region _ c.in-Ok.ensures.handles c.get_task_parallel_handle.ensures.stays
     c.let_go.ensures.layout c.let_go.ensures.table c.let_go.result
     (region_of_task c.args.s.now.layout (get c.args.s.now.handles.held (task_pair c.args.k)))
-    c.let_go.ensures.object c.let_go.ensures.kind c.let_go.ensures.place c.let_go.ensures.name c.in-Ok.ensures.answer.is
+    c.let_go.ensures.object c.let_go.ensures.kind c.let_go.ensures.place c.let_go.ensures.name (answered_is c.in-Ok.ensures.answer)
     (λ memory o is. lives c.args.s.now.layout (get c.args.s.now.handles.held (task_pair c.args.k)) memory o is)
   where
     lives : (w : List ℕ) (found : Option Held) (memory : Words) (o : Held)
@@ -37,7 +38,7 @@ returns-in-Ok-clause-leaves g c =
 
 pub returns-in-Ok-clause-reads : goal.returns-in-Ok-clause-reads
 returns-in-Ok-clause-reads g c =
-    object_found c.let_go.result c.in-Ok.ensures.answer c.let_go.ensures.object c.let_go.ensures.name c.get_task_parallel_handle.ensures.stays.layout c.let_go.ensures.table (walked (get c.args.s.now.handles.held (task_pair c.args.k))) refl
+    object_found c.let_go.result c.in-Ok.ensures.answer c.let_go.ensures.object c.let_go.ensures.name c.get_task_parallel_handle.ensures.stays.layout c.let_go.ensures.table (walked (get c.args.s.now.handles.held (task_pair c.args.k))) refl refl
 
 pub returns-in-Err-clause-reads : goal.returns-in-Err-clause-reads
 returns-in-Err-clause-reads g c =

@@ -10,6 +10,7 @@ use Rattle.omi_handle.specs.declared.handle.Held.{Held}
 use Rattle.omi_walk.proofs.AskedObjects.{inquiry_is}
 use Rattle.omi_walk.proofs.Looked.{found_leaves, found_met, optional_lives}
 use Rattle.omi_walk.proofs.ObjectWalks.{maybe_found, maybe_refused}
+use Rattle.omi_session.proofs.Handed.{answered_is}
 use Rattle.omi_walk.proofs.related.related_of.Goals as goal
 
 pub returns-in-Ok-clause-met : goal.returns-in-Ok-clause-met
@@ -21,7 +22,7 @@ returns-in-Ok-clause-met g c =
     c.let_go.ensures.layout c.let_go.ensures.table c.let_go.result
     (related w (kind_from c.args.relation) found (kind_to c.args.relation) (field_of c.args.relation))
     c.let_go.ensures.object
-    (c.let_go.ensures.kind ∙ c.kind.ensures) c.let_go.ensures.place c.let_go.ensures.name c.in-Ok.ensures.answer.is
+    (c.let_go.ensures.kind ∙ c.kind.ensures) c.let_go.ensures.place c.let_go.ensures.name (answered_is c.in-Ok.ensures.answer)
     (λ memory. optional_lives w memory (object_of w (kind_from c.args.relation) found) (kind_to c.args.relation) (field_of c.args.relation) (λ x. x.addr))
 
 pub returns-in-Ok-clause-leaves : goal.returns-in-Ok-clause-leaves

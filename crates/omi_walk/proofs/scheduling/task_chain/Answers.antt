@@ -9,6 +9,7 @@ use Rattle.omi_layout.specs.Field.{tasks}
 use Rattle.omi_layout.specs.Table.{records}
 use Rattle.omi_walk.proofs.Steps.{leaves_same, leaves_then}
 use Rattle.std.specs.Prelude.{Ok, Err}
+use Rattle.omi_calls.specs.Asked.{Asked}
 use Rattle.omi_calls.specs.Told.{Told}
 use Rattle.omi_session.specs.Opened.{Opened}
 use Rattle.omi_walk.specs.declared.met.Met.{Met}
@@ -27,7 +28,7 @@ use Rattle.omi_walk.proofs.Goes.{goes_unsaid, walks_ok, walks_err}
 use Rattle.omi_walk.proofs.scheduling.task_chain.Goals as goal
 
 -- a task was asked about
-walked_chained : {C F : Type 0} (told : C → Told) (asked : C → ℕ) (s t : Opened C F) (known : ℕ → Bool)
+walked_chained : {C F : Type 0} (told : C → Told) (asked : C → Asked) (s t : Opened C F) (known : ℕ → Bool)
     (i : ℕ) (k : Met) (link : Link)
     → Walks told asked s t (Ok link) (ask_task s.layout known i k)
     → Walks told asked s t (Ok (link.row, link.next)) (ask_chained s.layout i known k)
@@ -37,7 +38,7 @@ walked_chained told asked s t known i k link walks =
     (ask_task s.layout known i k) refl walks
 
 -- the chain of a thread from its first task on, in the session where it began
-module _ {C F : Type 0} (told : C → Told) (asked : C → ℕ) (s : Opened C F) (thread : ℕ)
+module _ {C F : Type 0} (told : C → Told) (asked : C → Asked) (s : Opened C F) (thread : ℕ)
     (first : Option Met) where
   abbrev ask_row : List ℕ → (ℕ → Bool) → Met → Asks (TaskRow × Option Met)
   ask_row w = ask_chained w thread

@@ -87,7 +87,7 @@ unsaid g c r is =
     (next_left contexts c.loop-native.native-index c.loop-native-test.true) c.loop-native.invariant.goes in
     subst
     (λ xs. Walks told asked s c.thread_row.new.s r (ask_threads s.layout xs)) c.as_slice-native-items.ensures
-    (walks_unsaid told asked s c.thread_row.new.s all_seen (Err OutOfMemory) r _
+    (walks_unsaid told asked s c.thread_row.new.s all_seen (Err OutOfMemory) r _ (λ e. (cc))
     (goes_unsaid told asked s c.thread_row.new.s _ _ (Err OutOfMemory)
     (asks_next told asked s (0, 0) (λ w k native. ask_thread w native) contexts c.loop-native.s c.thread_row.new.s c.loop-native.invariant.seen _ _ _ c.in_ok-seen.seen so c.thread_row.ensures.leaves c.in_ok-seen.ensures.reads) refl)
     is)

@@ -4,6 +4,7 @@ use Rattle.omi_layout.specs.Valid.{IsValid}
 use Rattle.omi_walk.proofs.Looked.{found_leaves}
 use Rattle.omi_walk.proofs.ObjectWalks.{maybe_found, maybe_refused}
 use Rattle.omi_walk.proofs.ThreadLooks.{thread_lives}
+use Rattle.omi_session.proofs.Handed.{answered_is}
 use Rattle.omi_walk.proofs.threads.thread_with.Goals as goal
 
 pub returns-in-Ok-clause-met : goal.returns-in-Ok-clause-met
@@ -11,7 +12,7 @@ returns-in-Ok-clause-met g c =
     thread_lives g.C.Callbacks.told c.args.s.now c.get_thread_handle.new.s c.let_go.new.s c.args.native _
     (subst (λ w. IsValid w) c.layout-layout.ensures c.layout-layout.result.now.valid)
     c.get_thread_handle.ensures.stays c.let_go.ensures.layout c.let_go.ensures.table c.let_go.result
-    c.let_go.ensures.object c.let_go.ensures.kind c.let_go.ensures.place c.let_go.ensures.name c.in-Ok.ensures.answer.is
+    c.let_go.ensures.object c.let_go.ensures.kind c.let_go.ensures.place c.let_go.ensures.name (answered_is c.in-Ok.ensures.answer)
 
 pub returns-in-Ok-clause-leaves : goal.returns-in-Ok-clause-leaves
 returns-in-Ok-clause-leaves g c =
