@@ -35,6 +35,7 @@ told_again core other zero same = λ i. record {
   order = Some (zero i);
   words = λ _. Some (words_of_segments (same i));
   symbols = Some (symbol_in (aligned_word_at (words_of_segments (same i))));
+  fails = None;
   sizes = usual_sizes;
 }
 

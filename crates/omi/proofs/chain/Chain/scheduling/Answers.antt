@@ -1,7 +1,11 @@
-use Rattle.std.proofs.Common.{sym, subst}
+use Rattle.std.proofs.Common.{sym, ap, subst}
 use Rattle.std.proofs.lemmas.Result.{err_from_is_err_and}
 use Rattle.omi_handle.specs.declared.handle.Kind.TheVariants.{Task}
-use Rattle.omi_session.specs.Made.{Makes}
+use Rattle.std.specs.FinMap.{get}
+use Rattle.omi_asktask.specs.Tasks.{scheduling_task}
+use Rattle.omi_session.specs.Made.{IsMade, Makes, task_pair}
+use Rattle.omi_session.specs.Reads.{answer_on}
+use Rattle.omi_session.proofs.Handed.{answered_is, answered_most}
 use Rattle.omi.proofs.chain.Chain.scheduling.Goals as goal
 
 pub returns-in_err-next-clause-handles : goal.returns-in_err-next-clause-handles
@@ -14,3 +18,22 @@ pub returns-clause-handles : goal.returns-clause-handles
 returns-clause-handles g c =
     let makes = subst (λ made. Makes Task c.args.s.now.handles c.get_scheduling_task_handle.new.s.handles made) (sym c.of_task-made.ensures) c.get_scheduling_task_handle.ensures.handles in
     rw c.task_at.ensures (c.in_ok-next.ensures.handles Task c.args.s.now.handles makes)
+
+pub returns-in_err-next-clause-answer : goal.returns-in_err-next-clause-answer
+returns-in_err-next-clause-answer g c = λ memory tells.
+    let made = subst (λ made. IsMade c.get_scheduling_task_handle.new.s.handles made (answer_on memory (scheduling_task c.args.s.now.layout (get c.args.s.now.handles.held (task_pair c.args.k))))) (sym c.of_task-made.ensures) (answered_is c.get_scheduling_task_handle.ensures.answer memory tells) in
+    let p = err_from_is_err_and c.from_residual-in_err-next.result c.from_residual-in_err-next.ensures.1 in
+    rw (p.1, p.2) (c.in_err-next.ensures.answer (answer_on memory (scheduling_task c.args.s.now.layout (get c.args.s.now.handles.held (task_pair c.args.k)))) made)
+
+pub returns-clause-answer : goal.returns-clause-answer
+returns-clause-answer g c = λ memory tells.
+    let made = subst (λ made. IsMade c.get_scheduling_task_handle.new.s.handles made (answer_on memory (scheduling_task c.args.s.now.layout (get c.args.s.now.handles.held (task_pair c.args.k))))) (sym c.of_task-made.ensures) (answered_is c.get_scheduling_task_handle.ensures.answer memory tells) in
+    rw c.task_at.ensures (c.in_ok-next.ensures.answer (answer_on memory (scheduling_task c.args.s.now.layout (get c.args.s.now.handles.held (task_pair c.args.k)))) made)
+
+pub returns-in_err-next-clause-reads : goal.returns-in_err-next-clause-reads
+returns-in_err-next-clause-reads g c = λ memory tells.
+    rw (ap (λ k. g.C.Callbacks.asked k.calls) c.judged.ensures.table) (answered_most c.get_scheduling_task_handle.ensures.answer memory tells)
+
+pub returns-clause-reads : goal.returns-clause-reads
+returns-clause-reads g c = λ memory tells.
+    rw (ap (λ k. g.C.Callbacks.asked k.calls) c.judged.ensures.table) (answered_most c.get_scheduling_task_handle.ensures.answer memory tells)
