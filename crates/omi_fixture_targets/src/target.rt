@@ -2,7 +2,7 @@
 
 ghost use Rattle.std.specs.Prelude.{◌≡◌, ◌≤◌, None, if◌then◌else◌};
 ghost use Rattle.omi_corefile.specs.ByteOrder.{number_of};
-ghost use Rattle.omi_calls.specs.Memory.{calls_made, faults_counted, usual_sizes};
+ghost use Rattle.omi_calls.specs.Memory.{faults_counted, usual_sizes};
 
 use omi_calls::{Callbacks, Got, MemCalls, Place, Sizes};
 use std::cell::Cell;
@@ -51,12 +51,11 @@ impl<'a> Callbacks for Target<'a> {
       order = None;
       words = λ _. None;
       symbols = None;
+      fails = None;
       sizes = usual_sizes;
     } };
 
     ghost faults = { λ a. faults_counted a.calls };
-
-    ghost asked = { λ a. calls_made a.calls };
 
     fn read_memory(&mut self, addr: u64, to: &mut [u8; 8]) -> Got {
         self.asked.reads.set(self.asked.reads.get().wrapping_add(1));

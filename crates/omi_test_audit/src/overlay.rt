@@ -1,7 +1,7 @@
 //! Callbacks over a core of which two words are changed or taken away while a session is open, and that count what they are asked.
 
 ghost use Rattle.std.specs.Prelude.{◌≢◌, None};
-ghost use Rattle.omi_calls.specs.Memory.{calls_made, faults_counted, usual_sizes};
+ghost use Rattle.omi_calls.specs.Memory.{faults_counted, usual_sizes};
 
 use omi_calls::{Callbacks, Got, MemCalls, Place, Sizes};
 use omi_fixture_targets::Change;
@@ -49,12 +49,11 @@ impl<'a> Callbacks for Overlay<'a> {
       order = None;
       words = λ _. None;
       symbols = None;
+      fails = None;
       sizes = usual_sizes;
     } };
 
     ghost faults = { λ a. faults_counted a.calls };
-
-    ghost asked = { λ a. calls_made a.calls };
 
     fn read_memory(&mut self, addr: u64, to: &mut [u8; 8]) -> Got {
         self.seen.reads.set(self.seen.reads.get().wrapping_add(1));

@@ -20,12 +20,11 @@ impl Callbacks for OneBigWord {
       order = Some 1;
       words = λ _. Some (λ (addr : ℕ). if addr == 65536 then Some 72623859790382856 else None);
       symbols = None;
+      fails = None;
       sizes = usual_sizes;
     } };
 
     ghost faults = { λ _. 0 };
-
-    ghost asked = { λ _. 0 };
 
     fn read_memory(&mut self, addr: u64, to: &mut [u8; 8]) -> Got {
         if addr == 0x10000 {
