@@ -16,10 +16,8 @@
 /* How many words a layout table has. omi_table_words() answers the same. */
 #define OMI_TABLE_WORDS 56
 
-/* The codes of an answer: 0, a return code of OMPD (1 to 11), or one of these. The code of a stray word comes where a word is needed, and no
- * more were asked for than are known: so one is known that was not asked for. */
+/* The codes of an answer: 0, a return code of OMPD (1 to 11), or that of a word that is needed. */
 #define OMI_OK 0
-#define OMI_STRAY_WORD 254
 #define OMI_NEEDS_WORD 255
 
 /* A word that is known: what stands at a byte address of the target, which is a multiple of 8. Where nothing is mapped there, the word

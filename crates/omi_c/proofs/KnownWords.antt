@@ -1,59 +1,66 @@
--- A memory that has the known words is one that they tell, and what isn't known by the callbacks isn't known at all.
-use Rattle.std.proofs.Common.{◌≡◌, ℕ, ◌%◌, ◌≤◌, true, false, Bool, eqb, List, [], ◌∷◌, length, arith, Option, Some, None, refl, ap}
-use Rattle.std.specs.Prelude.{is_some}
-use Rattle.std.proofs.lemmas.Bool.{eqb-true}
-use Rattle.omi_word.specs.Words.{Words}
-use Rattle.omi_calls.specs.Told.{Told, aligned_word_at}
+-- Reads that are made over known words come to what an inquiry over these does.
+use Rattle.std.proofs.Common.{◌≡◌, inl, inr, ℕ, true, false, cond, List, Option, Some, None, Result, Err, refl, sym, ap, ◌∙◌}
+use Rattle.std.specs.Option.{option_map}
+use Rattle.omi_calls.specs.Asked.{Asked, Word, asked_after}
+use Rattle.omi_calls.specs.Told.{Told}
+use Rattle.omi_session.specs.declared.rc.Rc.{Rc}
+use Rattle.omi_session.specs.declared.rc.Rc.TheVariants.{CallbackError}
+use Rattle.omi_session.specs.Reads.{Reads, Answer, Read, Ran}
 use Rattle.omi_session.specs.Tells.{Tells}
 use Rattle.omi_c.specs.declared.known.Known.{Known}
-use Rattle.omi_c.specs.Known.{Has, word_known, known_at, known_or, words_by, told_by_known}
+use Rattle.omi_c.specs.Known.{is_unknown, told_by_known, word_at, words_by}
+use Rattle.omi_c.specs.Replies.{Needs, Lacks, asked_on, replied}
+use Rattle.omi_c.specs.Causes.{reply_by}
 
-known_word : (memory : Words) (addr : ℕ) (found : Option Known)
-    → ((k : Known) → found ≡ Some k → memory addr ≡ word_known k) → memory addr ≡ known_or found (memory addr)
-known_word memory addr (Some k) words = words k refl
-known_word memory addr None words = refl
-
-at_address : (known : List Known) (memory : Words) → Has known memory → (addr : ℕ) (aligned : Bool) → eqb (addr % 8) 0 ≡ aligned
-    → memory addr ≡ aligned_word_at (words_by known memory) addr
-at_address known memory has addr true is =
-    rw is (known_word memory addr (known_at known addr) (λ k. has.words addr k (eqb-true (addr % 8) 0 is)))
-at_address known memory has addr false is = rw is (has.aligned addr (λ zero. absurd (cc)))
-
--- known words tell each memory that has them
-pub has_tells : (known : List Known) (memory : Words) (told : Told) → told ≡ told_by_known known → Has known memory
-    → Tells told memory
-has_tells known memory told is has = record {
+-- known words tell a memory that has no others
+pub known_tells : (known : List Known) (told : Told) → told ≡ told_by_known known → Tells told (word_at known)
+known_tells known told is = record {
   order = 0;
   order_told = ap (λ t. t.order) is;
-  words = words_by known memory;
-  rest = memory;
-  words_told = ap (λ t. t.words memory) is;
-  is = λ i addr. at_address known memory has addr (eqb (addr % 8) 0) refl i;
+  words = words_by known (λ _. None);
+  rest = λ _. None;
+  words_told = ap (λ t. t.words (λ _. None)) is;
+  is = refl;
 }
 
-same_words : (a b : Words) → (let some : Words → Option Words = λ w. Some w in some a ≡ some b) → a ≡ b
-same_words a b e = ap (λ o. unwrapped o) e
-  where
-    unwrapped : Option Words → Words
-    unwrapped (Some w) = w
-    unwrapped None = a
+-- what an inquiry came to that left this missed word and this answer
+pub record Came {A : Type 0} (known : List Known) (reads : Reads A) (missed : Option ℕ) (result : Result A Rc) : Type 0 where
+  pub is : reply_by missed result ≡ asked_on known reads
+  pub failed : (addr : ℕ) → missed ≡ Some addr → result ≡ Err CallbackError
 
--- what two lists of words tell alike at an address isn't known by the one if it isn't by the other
-unknown_by : (a b : Option Known) → ((other : Option ℕ) → known_or a other ≡ known_or b other) → is_some a ≡ false
-    → is_some b ≡ false
-unknown_by a None alike lacks = refl
-unknown_by None (Some k) alike lacks = absurd (let none = alike None in let some = alike (Some 0) in cc)
-unknown_by (Some j) (Some k) alike lacks = absurd cc
+module _ {A : Type 0} (known : List Known) where
+  -- the first read was answered, and the rest came to this
+  came_on : (addr : ℕ) (more : Option ℕ → Reads A) (missed : Option ℕ) (result : Result A Rc) → is_unknown known addr ≡ false
+      → Came known (more (word_at known addr)) missed result → Came known (Read addr more) missed result
+  came_on addr more missed result known_there came = record {
+    is =
+        came.is
+        ∙ sym (ap (λ b. cond b (Lacks (Needs addr)) (asked_on known (more (word_at known addr)))) known_there);
+    failed = came.failed;
+  }
 
-pub unknown_alike : (a b : List Known) (addr : ℕ) → told_by_known a ≡ told_by_known b → is_some (known_at a addr) ≡ false
-    → is_some (known_at b addr) ≡ false
-unknown_alike a b addr same =
-    unknown_by (known_at a addr) (known_at b addr)
-    (λ other. ap (λ w. w addr) (same_words (words_by a (λ _. other)) (words_by b (λ _. other)) (ap (λ t. t.words (λ _. other)) same)))
-
--- where something is known, a word is
-pub some_known : (known : List Known) (addr : ℕ) (found : Option Known) → found ≡ known_at known addr → is_some found ≡ true
-    → 1 ≤ length known
-some_known [] addr None is some = absurd cc
-some_known [] addr (Some k) is some = absurd cc
-some_known (k ∷ known) addr found is some = omega arith
+  pub came_over : (reads : Reads A) (before now : Asked) (result : Result A Rc) → before.missed ≡ Some None
+      → Ran (told_by_known known) (word_at known) CallbackError reads before now result
+      → (missed : Option ℕ) → now.missed ≡ Some missed → Came known reads missed result
+  came_over (Answer answer) before now result none ran missed is =
+      let same : Some missed ≡ Some None = sym is ∙ ap (λ a. a.missed) ran.0 ∙ none in
+      let nothing : missed ≡ None = cc in
+      record {
+        is = ap (λ m. reply_by m result) nothing ∙ ap replied ran.1;
+        failed = λ addr some. absurd (let clash = sym some ∙ nothing in cc);
+      }
+  came_over (Read addr more) before now result none (inl fails) missed is =
+      let unknown : is_unknown known addr ≡ true = fails.0 (is_unknown known) refl in
+      let kept : now.missed ≡ Some (Some addr) =
+      ap (λ a. a.missed) fails.1 ∙ ap (λ m. option_map (λ _. Some addr) m) none in
+      let same : Some missed ≡ Some (Some addr) = sym is ∙ kept in
+      let there : missed ≡ Some addr = cc in
+      record {
+        is =
+            ap (λ m. reply_by m result) there
+            ∙ sym (ap (λ b. cond b (Lacks (Needs addr)) (asked_on known (more (word_at known addr)))) unknown);
+        failed = λ other some. fails.2;
+      }
+  came_over (Read addr more) before now result none (inr goes) missed is =
+      came_on addr more missed result (goes.0 (is_unknown known) refl)
+      (came_over (more (word_at known addr)) (asked_after (Word addr) before) now result none goes.1 missed is)

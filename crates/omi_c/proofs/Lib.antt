@@ -7,3 +7,4 @@ pub mod Scoping
 pub mod Scoped
 pub mod Entries
 pub mod RangeTells
+pub mod AskedAgain

@@ -12,7 +12,7 @@ use Rattle.omi_c.specs.declared.answers.Refusal.{Refusal}
 use Rattle.omi_c.specs.declared.answers.Text.{Text}
 use Rattle.omi_c.specs.declared.known.Known.{Known}
 use Rattle.omi_c.specs.Answers.{number_of, number_by, text_by, refusal_of}
-use Rattle.omi_c.specs.Replies.{Cause, Says, Reply, Lacks, IsReply, IsUnopened, Spells}
+use Rattle.omi_c.specs.Replies.{TakesSome, Cause, Says, Reply, Lacks, IsReply, IsUnopened, Spells}
 use Rattle.omi_c.specs.Scopes.{reads_of, IsNoScope, IsClosedFor}
 use Rattle.omi_c.specs.Texts.{SpellsText, whole}
 use Rattle.omi_c.proofs.Closed.{closed_spells, closed_text, first_unopened}
@@ -25,30 +25,30 @@ no_scope w scope object inquiry other =
 
 module _ {A : Type 0} (w : List ℕ) (known : List Known) (scope : ℕ) (object : Object) (inquiry : Handles → Scoped → Reads A)
   where
-    unsupported : IsNoScope scope → IsValid w → IsReply w known (reads_of w scope object inquiry) (Lacks (Says Unsupported))
+    unsupported : IsNoScope scope → IsValid w → IsReply TakesSome w known (reads_of w scope object inquiry) (Lacks (Says Unsupported))
     unsupported other valid =
-        subst (λ reads. IsReply w known reads (Lacks (Says Unsupported))) (sym (no_scope w scope object inquiry other)) (valid, λ memory has. refl)
+        subst (λ reads. IsReply TakesSome w known reads (Lacks (Says Unsupported))) (sym (no_scope w scope object inquiry other)) (inr (valid, inl refl))
 
     pub scoped_closed : {R : Type 0} (spelled : Reply A → R) (by : Refusal → R)
-        → ((cause : Cause) → IsUnopened w known cause → spelled (Lacks cause) ≡ by (refusal_of cause))
+        → ((cause : Cause) → IsUnopened TakesSome w cause → spelled (Lacks cause) ≡ by (refusal_of cause))
         → spelled (Lacks (Says Unsupported)) ≡ by (refusal_of (Says Unsupported))
-        → (refusal : Refusal) → IsClosedFor w known scope refusal → Spells spelled w known (reads_of w scope object inquiry) (by refusal)
+        → (refusal : Refusal) → IsClosedFor w scope refusal → Spells TakesSome spelled w known (reads_of w scope object inquiry) (by refusal)
     scoped_closed spelled by alike none refusal (inl other) =
         record { reply = Lacks (Says Unsupported); is = unsupported other.0 other.1; spells = ap by other.2 ∙ sym none }
     scoped_closed spelled by alike none refusal (inr closed) =
-        closed_spells w known (reads_of w scope object inquiry) spelled by alike refusal closed
+        closed_spells TakesSome w known (reads_of w scope object inquiry) spelled by alike refusal closed
 
 pub number_closed : (w : List ℕ) (known : List Known) (scope : ℕ) (object : Object) (inquiry : Handles → Scoped → Reads ℕ) (refusal : Refusal)
-    (answer : Number) → answer ≡ number_by refusal 0 → IsClosedFor w known scope refusal
-    → Spells number_of w known (reads_of w scope object inquiry) answer
+    (answer : Number) → answer ≡ number_by refusal 0 → IsClosedFor w scope refusal
+    → Spells TakesSome number_of w known (reads_of w scope object inquiry) answer
 number_closed w known scope object inquiry refusal answer is closed =
-    subst (Spells number_of w known (reads_of w scope object inquiry)) (sym is)
+    subst (Spells TakesSome number_of w known (reads_of w scope object inquiry)) (sym is)
     (scoped_closed w known scope object inquiry number_of (λ r. number_by r 0)
-    (λ cause un. ap (number_by (refusal_of cause)) (first_unopened w known cause un)) refl refusal closed)
+    (λ cause un. ap (number_by (refusal_of cause)) (first_unopened TakesSome w cause un)) refl refusal closed)
 
 pub text_closed : (w : List ℕ) (known : List Known) (scope : ℕ) (object : Object) (inquiry : Handles → Scoped → Reads (List ℕ)) (refusal : Refusal)
-    (before : List ℕ) (answer : Text) → answer ≡ text_by refusal → IsClosedFor w known scope refusal
-    → SpellsText whole w known (reads_of w scope object inquiry) before before answer
+    (before : List ℕ) (answer : Text) → answer ≡ text_by refusal → IsClosedFor w scope refusal
+    → SpellsText TakesSome whole w known (reads_of w scope object inquiry) before before answer
 text_closed w known scope object inquiry refusal before answer is (inl other) = record {
   reply = Lacks (Says Unsupported);
   is = unsupported w known scope object inquiry other.0 other.1;
@@ -56,5 +56,5 @@ text_closed w known scope object inquiry refusal before answer is (inl other) = 
   put = refl;
 }
 text_closed w known scope object inquiry refusal before answer is (inr closed) =
-    subst (SpellsText whole w known (reads_of w scope object inquiry) before before) (sym is)
-    (closed_text w known (reads_of w scope object inquiry) whole (λ cause. refl) before refusal closed)
+    subst (SpellsText TakesSome whole w known (reads_of w scope object inquiry) before before) (sym is)
+    (closed_text TakesSome w known (reads_of w scope object inquiry) whole (λ cause. refl) before refusal closed)

@@ -14,8 +14,8 @@ use Rattle.omi_c.specs.declared.answers.Number.{Number}
 use Rattle.omi_c.specs.declared.answers.State.{State}
 use Rattle.omi_c.specs.declared.answers.TaskFrames.{TaskFrames}
 use Rattle.omi_c.specs.declared.answers.Text.{Text}
-use Rattle.omi_c.specs.declared.answers.TheConstants.{OK, NEEDS_WORD, STRAY_WORD}
-use Rattle.omi_c.specs.Replies.{Cause, WrongLength, Refused, Needs, Stray, Says, Reply, Gives, Lacks}
+use Rattle.omi_c.specs.declared.answers.TheConstants.{OK, NEEDS_WORD}
+use Rattle.omi_c.specs.Replies.{Cause, WrongLength, Refused, Needs, Says, Reply, Gives, Lacks}
 
 -- the place that a return code names
 abbrev pub place_named : Rc → ℕ
@@ -26,7 +26,6 @@ abbrev pub refusal_of : Cause → Refusal
 refusal_of WrongLength = record { code = code_of Incompatible; place = 0 }
 refusal_of (Refused fault) = record { code = code_of (fault_code 0 fault); place = word_named fault }
 refusal_of (Needs addr) = record { code = NEEDS_WORD; place = addr }
-refusal_of Stray = record { code = STRAY_WORD; place = 0 }
 refusal_of (Says rc) = record { code = code_of rc; place = place_named rc }
 
 abbrev pub no_object : Object

@@ -1,5 +1,5 @@
 -- What is answered for words that are audited.
-use Rattle.std.specs.Prelude.{◌≡◌, ℕ, true, false, List, [], nat_le, if◌then◌else◌}
+use Rattle.std.specs.Prelude.{◌≡◌, ℕ, true, false, List, nat_le, if◌then◌else◌}
 use Rattle.omi_audit.specs.declared.verdict.Verdict.{Verdict}
 use Rattle.omi_audit.specs.declared.verdict.Verdict.TheVariants.{Yes, No}
 use Rattle.omi_audit.specs.Verdicts.{verdict}
@@ -12,12 +12,12 @@ use Rattle.omi_c.specs.declared.answers.Audited.{Audited}
 use Rattle.omi_c.specs.declared.answers.Refusal.{Refusal}
 use Rattle.omi_c.specs.declared.answers.TheConstants.{OK}
 use Rattle.omi_c.specs.Answers.{refusal_of}
-use Rattle.omi_c.specs.Replies.{Reply, Gives, Lacks, IsUnopened, Says}
+use Rattle.omi_c.specs.Replies.{Reply, Gives, Lacks, TakesSome, IsUnopened, Says}
 
 -- what is answered for a memory in the layout of a table: the verdict, or why there is none, which is that the table is refused or memory ran out
 abbrev pub IsVerdict : List ℕ → Words → Reply Verdict → Type 0
 IsVerdict w memory (Gives v) = IsValid w × (v ≡ verdict w memory)
-IsVerdict w memory (Lacks cause) = IsUnopened w [] cause
+IsVerdict w memory (Lacks cause) = IsUnopened TakesSome w cause
 
 -- how it is spelled
 abbrev pub audited_by : Refusal → Audited

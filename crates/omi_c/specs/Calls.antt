@@ -1,5 +1,6 @@
--- What callbacks over known words tell, and what they count.
-use Rattle.std.specs.Prelude.{ℕ}
+-- What callbacks over known words tell, and what they keep.
+use Rattle.std.specs.Prelude.{ℕ, Option, Some, None}
+use Rattle.omi_calls.specs.Asked.{Asked}
 use Rattle.omi_calls.specs.Told.{Told}
 use Rattle.omi_c.specs.declared.calls.KnownCalls.{KnownCalls}
 use Rattle.omi_c.specs.Known.{told_by_known}
@@ -7,14 +8,14 @@ use Rattle.omi_c.specs.Known.{told_by_known}
 abbrev pub told_of : KnownCalls → Told
 told_of calls = told_by_known calls.known.now
 
--- how many words were asked for
-abbrev pub asked_of : KnownCalls → ℕ
-asked_of calls = calls.asked
-
--- how many reads failed
+-- how many calls failed
 abbrev pub faults_of : KnownCalls → ℕ
 faults_of calls = calls.faults
 
--- the address that is asked for and isn't known, once a read has failed
-abbrev pub missing_of : KnownCalls → ℕ
-missing_of calls = calls.missing
+-- the address of the latest word that was asked for and isn't known, if one was
+abbrev pub missed_of : KnownCalls → Option ℕ
+missed_of calls = calls.missed
+
+-- they list nothing, and keep this address
+abbrev pub asked_of : KnownCalls → Asked
+asked_of calls = record { listed = None; missed = Some (missed_of calls) }

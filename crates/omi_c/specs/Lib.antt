@@ -11,3 +11,4 @@ pub mod Judged
 pub mod Order
 pub mod Range
 pub mod Audit
+pub mod AskedAgain

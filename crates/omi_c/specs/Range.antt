@@ -19,6 +19,7 @@ told_by_range start words = record {
   order = Some 0;
   words = λ _. Some (words_from start words);
   symbols = None;
+  fails = None;
   sizes = usual_sizes;
 }
 

@@ -1,14 +1,13 @@
 -- What is answered to the reads of an inquiry over the words that are known.
-use Rattle.std.specs.Prelude.{◌≡◌, ◌≢◌, ℕ, ◌<◌, ◌≤◌, false, List, length, Ok, Err, is_some}
-use Rattle.omi_word.specs.Words.{Words}
+use Rattle.std.specs.Prelude.{◌≡◌, ◌≢◌, ◌⊎◌, ℕ, List, length, Result, Ok, Err, if◌then◌else◌}
 use Rattle.omi_layout.specs.declared.fault.LayoutFault.{LayoutFault}
 use Rattle.omi_layout.specs.declared.limits.TheConstants.{TABLE_WORDS}
 use Rattle.omi_layout.specs.Valid.{IsValid, RefusesTable}
 use Rattle.omi_session.specs.declared.rc.Rc.{Rc}
-use Rattle.omi_session.specs.declared.rc.Rc.TheVariants.{NoMem, CallbackError}
-use Rattle.omi_session.specs.Reads.{Reads, answer_on, addresses_on}
+use Rattle.omi_session.specs.declared.rc.Rc.TheVariants.{NoMem}
+use Rattle.omi_session.specs.Reads.{Reads, Answer, Read}
 use Rattle.omi_c.specs.declared.known.Known.{Known}
-use Rattle.omi_c.specs.Known.{Has, known_at}
+use Rattle.omi_c.specs.Known.{is_unknown, word_at}
 
 -- why there is no value
 pub data Cause : Type 0 where
@@ -18,8 +17,6 @@ pub data Cause : Type 0 where
   Refused : LayoutFault → Cause
   -- the word at this address is needed
   Needs : ℕ → Cause
-  -- a word is needed, and no more were asked for than are known
-  Stray : Cause
   -- the inquiry is refused
   Says : Rc → Cause
 
@@ -27,16 +24,15 @@ pub data Reply (A : Type 0) : Type 0 where
   Gives : A → Reply A
   Lacks : Cause → Reply A
 
--- the word at an address isn't known, and more words are read than are known, on each memory that has those
-pub record IsNeeded {A : Type 0} (known : List Known) (reads : Reads A) (addr : ℕ) : Type 0 where
-  pub unknown : is_some (known_at known addr) ≡ false
-  pub more : (memory : Words) → Has known memory → length known < length (addresses_on memory reads)
+abbrev pub replied : {A : Type 0} → Result A Rc → Reply A
+replied (Ok x) = Gives x
+replied (Err rc) = Lacks (Says rc)
 
--- the cause is the refusal of the reads on each memory that has the known words. Nothing is said where memory ran out
-abbrev pub IsSaid : {A : Type 0} → List Known → Reads A → Rc → Type 0
-IsSaid known reads NoMem = Unit {0}
-IsSaid known reads CallbackError = ⊥
-IsSaid known reads rc = (memory : Words) → Has known memory → answer_on memory reads ≡ Err rc
+-- an inquiry over known words: each word that it reads is the known one, up to its answer or to the first word that isn't known
+abbrev pub asked_on : {A : Type 0} → List Known → Reads A → Reply A
+asked_on known (Answer answer) = replied answer
+asked_on known (Read addr more) =
+    if is_unknown known addr then Lacks (Needs addr) else asked_on known (more (word_at known addr))
 
 -- this is why the words of a table are no layout
 abbrev pub IsNoTable : List ℕ → Cause → Type 0
@@ -44,28 +40,37 @@ IsNoTable w WrongLength = length w ≢ TABLE_WORDS
 IsNoTable w (Refused fault) = RefusesTable w fault
 IsNoTable w cause = ⊥
 
--- this is why reads in a layout have no value
-abbrev pub IsCause : {A : Type 0} → List ℕ → List Known → Reads A → Cause → Type 0
-IsCause w known reads (Needs addr) = IsValid w × IsNeeded known reads addr
-IsCause w known reads Stray = IsValid w × (1 ≤ length known)
-IsCause w known reads (Says rc) = IsValid w × IsSaid known reads rc
-IsCause w known reads cause = IsNoTable w cause
+-- there is no value, whatever is asked, since the words of a table are no layout
+pub record IsTableRefused {A : Type 0} (w : List ℕ) (reply : Reply A) : Type 0 where
+  pub cause : Cause
+  pub is : IsNoTable w cause
+  pub says : reply ≡ Lacks cause
 
--- what is answered to reads in a layout: the value on each memory that has the known words, or why there is none
-abbrev pub IsReply : {A : Type 0} → List ℕ → List Known → Reads A → Reply A → Type 0
-IsReply w known reads (Gives x) =
-    IsValid w × ((memory : Words) → Has known memory → answer_on memory reads ≡ Ok x)
-IsReply w known reads (Lacks cause) = IsCause w known reads cause
+-- whether a call takes memory, which may run out
+pub data Room : Type 0 where
+  TakesNone : Room
+  TakesSome : Room
+
+abbrev pub MayRunOut : Room → Type 0
+MayRunOut TakesNone = ⊥
+MayRunOut TakesSome = Unit {0}
+
+-- in a layout the reply is that of the inquiry over the known words. A call that takes memory may say that it ran out
+abbrev pub IsRepliedTo : {A : Type 0} → Room → List ℕ → List Known → Reads A → Reply A → Type 0
+IsRepliedTo room w known reads reply =
+    IsValid w × ((reply ≡ asked_on known reads) ⊎ (MayRunOut room × (reply ≡ Lacks (Says NoMem))))
+
+abbrev pub IsReply : {A : Type 0} → Room → List ℕ → List Known → Reads A → Reply A → Type 0
+IsReply room w known reads reply = IsTableRefused w reply ⊎ IsRepliedTo room w known reads reply
 
 -- an answer spells what is answered to reads
-pub record Spells {A R : Type 0} (spelled : Reply A → R) (w : List ℕ) (known : List Known) (reads : Reads A)
+pub record Spells {A R : Type 0} (room : Room) (spelled : Reply A → R) (w : List ℕ) (known : List Known) (reads : Reads A)
     (answer : R) : Type 0 where
   pub reply : Reply A
-  pub is : IsReply w known reads reply
+  pub is : IsReply room w known reads reply
   pub spells : answer ≡ spelled reply
 
 -- why no session is opened in a layout, whatever is to be asked
-abbrev pub IsUnopened : List ℕ → List Known → Cause → Type 0
-IsUnopened w known Stray = IsValid w × (1 ≤ length known)
-IsUnopened w known (Says NoMem) = IsValid w
-IsUnopened w known cause = IsNoTable w cause
+abbrev pub IsUnopened : Room → List ℕ → Cause → Type 0
+IsUnopened room w (Says NoMem) = IsValid w × MayRunOut room
+IsUnopened room w cause = IsNoTable w cause

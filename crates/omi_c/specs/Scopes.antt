@@ -11,9 +11,8 @@ use Rattle.omi_session.specs.Made.{thread_pair, region_pair, task_pair}
 use Rattle.omi_session.specs.Reads.{Reads, Answer}
 use Rattle.omi_c.specs.declared.answers.Object.{Object}
 use Rattle.omi_c.specs.declared.answers.Refusal.{Refusal}
-use Rattle.omi_c.specs.declared.known.Known.{Known}
 use Rattle.omi_c.specs.Opened.{IsClosed}
-use Rattle.omi_c.specs.Replies.{Says}
+use Rattle.omi_c.specs.Replies.{Says, TakesSome}
 use Rattle.omi_c.specs.Answers.{refusal_of}
 
 module _ (w : List ℕ) (scope : ℕ) (object : Object) where
@@ -46,6 +45,6 @@ pub record IsNoScope (scope : ℕ) : Type 0 where
   pub no_task : scope ≢ 6
 
 -- the refusal says why nothing can be asked: no variable has the scope, or no session is opened
-abbrev pub IsClosedFor : List ℕ → List Known → ℕ → Refusal → Type 0
-IsClosedFor w known scope refusal =
-    (IsNoScope scope × IsValid w × (refusal ≡ refusal_of (Says Unsupported))) ⊎ IsClosed w known refusal
+abbrev pub IsClosedFor : List ℕ → ℕ → Refusal → Type 0
+IsClosedFor w scope refusal =
+    (IsNoScope scope × IsValid w × (refusal ≡ refusal_of (Says Unsupported))) ⊎ IsClosed TakesSome w refusal

@@ -6,7 +6,7 @@ use Rattle.omi_c.specs.declared.answers.Entry.{Entry}
 use Rattle.omi_c.specs.declared.answers.Text.{Text}
 use Rattle.omi_c.specs.declared.answers.TheConstants.{OK}
 use Rattle.omi_c.specs.declared.known.Known.{Known}
-use Rattle.omi_c.specs.Replies.{Says, Reply, Gives, Lacks, IsReply}
+use Rattle.omi_c.specs.Replies.{Says, Reply, Gives, Lacks, Room, TakesNone, IsReply}
 use Rattle.omi_c.specs.Answers.{refusal_of, text_of}
 
 -- the bytes after a text was put at their front. What has no room is left out, and what is behind the text stays
@@ -19,10 +19,10 @@ bytes_after before (Gives text) = put_over text before
 bytes_after before (Lacks cause) = before
 
 -- an answer and the bytes spell the text that is made of what is answered to reads
-pub record SpellsText {A : Type 0} (chosen : Reply A → Reply (List ℕ)) (w : List ℕ) (known : List Known) (reads : Reads A)
+pub record SpellsText {A : Type 0} (room : Room) (chosen : Reply A → Reply (List ℕ)) (w : List ℕ) (known : List Known) (reads : Reads A)
     (before after : List ℕ) (answer : Text) : Type 0 where
   pub reply : Reply A
-  pub is : IsReply w known reads reply
+  pub is : IsReply room w known reads reply
   pub spells : answer ≡ text_of (chosen reply)
   pub put : after ≡ bytes_after before (chosen reply)
 
@@ -64,6 +64,6 @@ icv_name_of (Lacks cause) = Lacks cause
 pub record SpellsEntry {A : Type 0} (entry : Reply A → Entry) (name : Reply A → Reply (List ℕ)) (w : List ℕ) (reads : Reads A)
     (before after : List ℕ) (answer : Entry) : Type 0 where
   pub reply : Reply A
-  pub is : IsReply w [] reads reply
+  pub is : IsReply TakesNone w [] reads reply
   pub spells : answer ≡ entry reply
   pub put : after ≡ bytes_after before (name reply)

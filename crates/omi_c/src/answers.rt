@@ -1,4 +1,4 @@
-//! What inquiries answer to C. In each answer stands a code first: 0, a return code of OMPD, or one of the two below; and then, but for
+//! What inquiries answer to C. In each answer stands a code first: 0, a return code of OMPD, or the one below; and then, but for
 //! an entry of an enumeration, a place: the byte address of the word that is needed, of a damaged record or pointer, or the number of a
 //! word of the layout table that is wrong. All else is 0 where the code isn't 0, but for the number of an Incomplete.
 
@@ -7,9 +7,6 @@ pub const OK: u32 = 0;
 
 /// The code where a word is needed that isn't known. The place is its byte address.
 pub const NEEDS_WORD: u32 = 255;
-
-/// The code where a word is needed that isn't known, and no more were asked for than are known.
-pub const STRAY_WORD: u32 = 254;
 
 /// An object: the byte address of its record, and the life word that the record has while the object lives.
 #[repr(C)]

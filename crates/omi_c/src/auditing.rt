@@ -1,6 +1,6 @@
 //! The audit of a memory: the verdict on the words of a target's records, as C hands them in.
 
-ghost use Rattle.std.specs.Prelude.{◌≡◌, [], IfErr, IfOk};
+ghost use Rattle.std.specs.Prelude.{◌≡◌, IfErr, IfOk};
 ghost use Rattle.omi_calls.specs.Kept.{TakesAll, GivesNumbers};
 ghost use Rattle.omi_layout.specs.Valid.{IsValid};
 ghost use Rattle.omi_audit.specs.Verdicts as the;
@@ -8,7 +8,7 @@ ghost use Rattle.omi_c.specs.Answers.{text_of};
 ghost use Rattle.omi_c.specs.Audit.{IsAudited, audited_by, audited_of, field_reply};
 ghost use Rattle.omi_c.specs.Opened.{IsClosed};
 ghost use Rattle.omi_c.specs.Range.{memory_of};
-ghost use Rattle.omi_c.specs.Replies.{Gives};
+ghost use Rattle.omi_c.specs.Replies.{Gives, TakesSome};
 ghost use Rattle.omi_c.specs.Texts.{bytes_after};
 
 use crate::answers::{Audited, OK, Refusal, Text};
@@ -80,7 +80,7 @@ fn verdict_on<H: ToHost>(
     ensures valid { IfOk result (λ _. IsValid table.now) }
     ensures verdict { IfOk result (λ v.
         v ≡ the.verdict table.now (memory_of range.entry.start range.entry.words.now)) }
-    ensures refused { IfErr result (IsClosed table.now []) }
+    ensures refused { IfErr result (IsClosed TakesSome table.now) }
 {
     let layout = layout_of(table)?;
     let calls = Table::new(RangeCalls::over(range), 0, to_host);

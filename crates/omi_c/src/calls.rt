@@ -1,60 +1,42 @@
 //! Callbacks over known words.
 
-ghost use Rattle.std.specs.Prelude.{◌≡◌, ◌≢◌, ◌≤◌, false, is_some};
-ghost use Rattle.omi_c.specs.Known.{known_at, told_by_known};
+ghost use Rattle.std.specs.Prelude.{◌≡◌, None};
+ghost use Rattle.omi_c.specs.Known.{told_by_known};
 
 use crate::finding::find_known;
 use crate::known::Known;
 use omi_calls::{Callbacks, Got, Place, Sizes};
 use omi_corefile::word_bytes;
 
-/// An address at which nothing may be known: no word stands at an address that is no multiple of 8.
-pub const NO_WORD: u64 = 1;
-
 /// A debugger that has nothing but some words of the target. A read of another word fails, and its address is kept. So does each
-/// look-up of a symbol, for which `NO_WORD` is kept.
+/// look-up of a symbol.
 #[derive(Drop)]
 pub struct KnownCalls<'a> {
     known: &'a [Known],
-    asked: u64,
     faults: u64,
-    missing: u64,
-    ghost free: { is_some (known_at known.now 1) ≡ false },
-    ghost unknown: { faults ≢ 0 → is_some (known_at known.now missing) ≡ false },
-    ghost counted: { faults ≤ asked },
+    missed: Option<u64>,
 }
 
 impl<'a> KnownCalls<'a> {
-    ghost use Rattle.omi_c.specs.Calls.{told_of, asked_of, faults_of, missing_of};
+    ghost use Rattle.omi_c.specs.Calls.{told_of, missed_of};
 
     /// Callbacks over these words.
     pub fn over(known: &'a [Known]) -> KnownCalls<'a>
-        requires { is_some (known_at known.now NO_WORD) ≡ false }
         ensures told { told_of result ≡ told_by_known known.now }
-        ensures asked { asked_of result ≡ 0 }
-        ensures faults { faults_of result ≡ 0 }
+        ensures missed { missed_of result ≡ None }
     {
         KnownCalls {
             known,
-            asked: 0,
             faults: 0,
-            missing: NO_WORD,
+            missed: None,
         }
     }
 
-    /// The address of the word that was asked for and isn't known, once a read has failed.
-    pub fn missing(&self) -> u64
-        requires { faults_of self.now ≢ 0 }
-        ensures { result ≡ missing_of self.now }
+    /// The address of the latest word that was asked for and isn't known.
+    pub fn missed(&self) -> Option<u64>
+        ensures { result ≡ missed_of self.now }
     {
-        self.missing
-    }
-
-    /// How many words were asked for.
-    pub fn asked(&self) -> u64
-        ensures { result ≡ asked_of self.now }
-    {
-        self.asked
+        self.missed
     }
 }
 
@@ -68,7 +50,6 @@ impl<'a> Callbacks for KnownCalls<'a> {
     ghost asked = { asked_of };
 
     fn read_memory(&mut self, addr: u64, to: &mut [u8; 8]) -> Got {
-        self.asked = self.asked.saturating_add(1);
         if addr % 8 != 0 {
             return Got::NotMapped;
         }
@@ -79,7 +60,7 @@ impl<'a> Callbacks for KnownCalls<'a> {
             }
             Some(_) => Got::NotMapped,
             None => {
-                self.missing = addr;
+                self.missed = Some(addr);
                 self.faults = self.faults.saturating_add(1);
                 Got::Failed
             }
@@ -87,9 +68,7 @@ impl<'a> Callbacks for KnownCalls<'a> {
     }
 
     fn symbol_addr_lookup(&mut self, _name: &str) -> Place {
-        self.asked = self.asked.saturating_add(1);
         self.faults = self.faults.saturating_add(1);
-        self.missing = NO_WORD;
         Place::Failed
     }
 

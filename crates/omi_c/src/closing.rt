@@ -1,49 +1,38 @@
 //! What becomes of the answer of an inquiry.
 
-ghost use Rattle.std.specs.Prelude.{◌≡◌, ◌≢◌, ℕ, List, Err, IfOk, IsSome};
+ghost use Rattle.std.specs.Prelude.{◌≡◌, ℕ, List, IfOk, IsSome};
 ghost use Rattle.std.specs.FinMap.{get};
 ghost use Rattle.omi_asktask.specs.declared.words.Frames as declared;
 ghost use Rattle.omi_session.specs.Reads.{Reads};
-ghost use Rattle.omi_session.specs.declared.rc.Rc.TheVariants.{CallbackError};
 ghost use Rattle.omi_handle.specs.declared.handle.Held.{Held};
 ghost use Rattle.omi_session.specs.Made.{as_pair, region_pair, task_pair, thread_pair};
-ghost use Rattle.omi_c.specs.Calls.{faults_of};
+ghost use Rattle.omi_c.specs.declared.known.Known.{Known};
+ghost use Rattle.omi_c.specs.Calls.{missed_of};
 ghost use Rattle.omi_c.specs.Opened.{IsAsked, IsMadeOver};
-ghost use Rattle.omi_c.specs.Replies.{Spells};
+ghost use Rattle.omi_c.specs.Replies.{Room, Spells, TakesSome};
 ghost use Rattle.omi_c.specs.Answers.{refusal_of, found_by, found_of, number_by, number_of, first_said, state_by, state_of, frames_by, frames_of};
 ghost use Rattle.omi_c.specs.Causes.{cause_by};
 
-use crate::answers::{
-    Found, NEEDS_WORD, Number, OK, Object, Refusal, STRAY_WORD, State, TaskFrames,
-};
+use crate::answers::{Found, NEEDS_WORD, Number, OK, Object, Refusal, State, TaskFrames};
 use crate::calls::KnownCalls;
-use crate::known::Known;
 use omi_asktask::Frames;
 use omi_calls::ToHost;
 use omi_handle::{RegionHandle, TaskHandle, ThreadHandle};
 use omi_session::{Rc, Session};
 
-/// The refusal of an inquiry. Where a callback failed, a word is needed that isn't known.
-pub fn refusal<'a, H: ToHost>(s: Session<KnownCalls<'a>, H>, known: &[Known], rc: Rc) -> Refusal
-    requires { rc ≡ CallbackError → faults_of s.table.calls ≢ 0 }
-    ensures { result ≡ refusal_of (cause_by known.now s.entry.table.calls rc) }
+/// The refusal of an inquiry. Where a word was missed, that one is needed.
+pub fn refusal<'a, H: ToHost>(s: Session<KnownCalls<'a>, H>, rc: Rc) -> Refusal
+    ensures { result ≡ refusal_of (cause_by (missed_of s.entry.table.calls) rc) }
 {
     let (_parted, table) = s.part();
     let calls = table.into_calls();
+    if let Some(needed) = calls.missed() {
+        return Refusal {
+            code: NEEDS_WORD,
+            place: needed,
+        };
+    }
     match rc {
-        Rc::CallbackError => {
-            if calls.asked() > known.len() as u64 {
-                Refusal {
-                    code: NEEDS_WORD,
-                    place: calls.missing(),
-                }
-            } else {
-                Refusal {
-                    code: STRAY_WORD,
-                    place: 0,
-                }
-            }
-        }
         Rc::Error { addr, field: _ } => Refusal {
             code: u32::from(rc.code()),
             place: addr,
@@ -82,15 +71,10 @@ impl Number {
 }
 
 /// The object that the library holds under a pair of key and serial.
-fn found<'a, H: ToHost>(
-    s: Session<KnownCalls<'a>, H>,
-    known: &[Known],
-    pair: Result<(u64, u64), Rc>,
-) -> Found
-    requires failed { pair ≡ Err CallbackError → faults_of s.table.calls ≢ 0 }
-    requires held { IfOk pair (λ p. IsSome (get s.handles.held p)) }
-    ensures { (w : List ℕ) (reads : Reads Held) → IsMadeOver w known.now reads s.entry pair
-        → Spells found_of w known.now reads result }
+fn found<'a, H: ToHost>(s: Session<KnownCalls<'a>, H>, pair: Result<(u64, u64), Rc>) -> Found
+    requires { IfOk pair (λ p. IsSome (get s.handles.held p)) }
+    ensures { (w : List ℕ) (known : List Known) (reads : Reads Held) → IsMadeOver w known reads s.entry pair
+        → Spells TakesSome found_of w known reads result }
 {
     match pair {
         Ok((key, serial)) => {
@@ -106,65 +90,59 @@ fn found<'a, H: ToHost>(
                 },
             }
         }
-        Err(rc) => Found::refused(refusal(s, known, rc)),
+        Err(rc) => Found::refused(refusal(s, rc)),
     }
 }
 
 /// The thread that was found.
 pub fn found_thread<'a, H: ToHost>(
     s: Session<KnownCalls<'a>, H>,
-    known: &[Known],
     thread: Result<ThreadHandle, Rc>,
 ) -> Found
-    requires failed { thread ≡ Err CallbackError → faults_of s.table.calls ≢ 0 }
-    requires held { IfOk thread (λ h. IsSome (get s.handles.held (thread_pair h))) }
-    ensures { (w : List ℕ) (reads : Reads Held)
-        → IsMadeOver w known.now reads s.entry (as_pair thread_pair thread)
-        → Spells found_of w known.now reads result }
+    requires { IfOk thread (λ h. IsSome (get s.handles.held (thread_pair h))) }
+    ensures { (w : List ℕ) (known : List Known) (reads : Reads Held)
+        → IsMadeOver w known reads s.entry (as_pair thread_pair thread)
+        → Spells TakesSome found_of w known reads result }
 {
     let pair = match thread {
         Ok(h) => Ok((h.key, h.serial)),
         Err(rc) => Err(rc),
     };
-    found(s, known, pair)
+    found(s, pair)
 }
 
 /// The region that was found.
 pub fn found_region<'a, H: ToHost>(
     s: Session<KnownCalls<'a>, H>,
-    known: &[Known],
     region: Result<RegionHandle, Rc>,
 ) -> Found
-    requires failed { region ≡ Err CallbackError → faults_of s.table.calls ≢ 0 }
-    requires held { IfOk region (λ h. IsSome (get s.handles.held (region_pair h))) }
-    ensures { (w : List ℕ) (reads : Reads Held)
-        → IsMadeOver w known.now reads s.entry (as_pair region_pair region)
-        → Spells found_of w known.now reads result }
+    requires { IfOk region (λ h. IsSome (get s.handles.held (region_pair h))) }
+    ensures { (w : List ℕ) (known : List Known) (reads : Reads Held)
+        → IsMadeOver w known reads s.entry (as_pair region_pair region)
+        → Spells TakesSome found_of w known reads result }
 {
     let pair = match region {
         Ok(h) => Ok((h.key, h.serial)),
         Err(rc) => Err(rc),
     };
-    found(s, known, pair)
+    found(s, pair)
 }
 
 /// The task that was found.
 pub fn found_task<'a, H: ToHost>(
     s: Session<KnownCalls<'a>, H>,
-    known: &[Known],
     task: Result<TaskHandle, Rc>,
 ) -> Found
-    requires failed { task ≡ Err CallbackError → faults_of s.table.calls ≢ 0 }
-    requires held { IfOk task (λ h. IsSome (get s.handles.held (task_pair h))) }
-    ensures { (w : List ℕ) (reads : Reads Held)
-        → IsMadeOver w known.now reads s.entry (as_pair task_pair task)
-        → Spells found_of w known.now reads result }
+    requires { IfOk task (λ h. IsSome (get s.handles.held (task_pair h))) }
+    ensures { (w : List ℕ) (known : List Known) (reads : Reads Held)
+        → IsMadeOver w known reads s.entry (as_pair task_pair task)
+        → Spells TakesSome found_of w known reads result }
 {
     let pair = match task {
         Ok(h) => Ok((h.key, h.serial)),
         Err(rc) => Err(rc),
     };
-    found(s, known, pair)
+    found(s, pair)
 }
 
 impl State {
@@ -208,14 +186,9 @@ fn first_said(rc: Rc) -> u64
 }
 
 /// A number that was read.
-pub fn number<'a, H: ToHost>(
-    s: Session<KnownCalls<'a>, H>,
-    known: &[Known],
-    number: Result<u64, Rc>,
-) -> Number
-    requires { number ≡ Err CallbackError → faults_of s.table.calls ≢ 0 }
-    ensures { (w : List ℕ) (reads : Reads ℕ) → IsAsked w known.now reads s.entry number
-        → Spells number_of w known.now reads result }
+pub fn number<'a, H: ToHost>(s: Session<KnownCalls<'a>, H>, number: Result<u64, Rc>) -> Number
+    ensures { (room : Room) (w : List ℕ) (known : List Known) (reads : Reads ℕ) → IsAsked room w known reads s.entry number
+        → Spells room number_of w known reads result }
 {
     match number {
         Ok(number) => Number {
@@ -225,20 +198,15 @@ pub fn number<'a, H: ToHost>(
         },
         Err(rc) => {
             let first = first_said(rc);
-            Number::refused(refusal(s, known, rc), first)
+            Number::refused(refusal(s, rc), first)
         }
     }
 }
 
 /// A state that was read.
-pub fn state<'a, H: ToHost>(
-    s: Session<KnownCalls<'a>, H>,
-    known: &[Known],
-    state: Result<(u32, u64), Rc>,
-) -> State
-    requires { state ≡ Err CallbackError → faults_of s.table.calls ≢ 0 }
-    ensures { (w : List ℕ) (reads : Reads (ℕ × ℕ)) → IsAsked w known.now reads s.entry state
-        → Spells state_of w known.now reads result }
+pub fn state<'a, H: ToHost>(s: Session<KnownCalls<'a>, H>, state: Result<(u32, u64), Rc>) -> State
+    ensures { (room : Room) (w : List ℕ) (known : List Known) (reads : Reads (ℕ × ℕ)) → IsAsked room w known reads s.entry state
+        → Spells room state_of w known reads result }
 {
     match state {
         Ok((state, wait)) => State {
@@ -247,19 +215,17 @@ pub fn state<'a, H: ToHost>(
             state,
             wait,
         },
-        Err(rc) => State::refused(refusal(s, known, rc)),
+        Err(rc) => State::refused(refusal(s, rc)),
     }
 }
 
 /// Frames that were read.
 pub fn frames<'a, H: ToHost>(
     s: Session<KnownCalls<'a>, H>,
-    known: &[Known],
     frames: Result<Frames, Rc>,
 ) -> TaskFrames
-    requires { frames ≡ Err CallbackError → faults_of s.table.calls ≢ 0 }
-    ensures { (w : List ℕ) (reads : Reads declared.Frames) → IsAsked w known.now reads s.entry frames
-        → Spells frames_of w known.now reads result }
+    ensures { (room : Room) (w : List ℕ) (known : List Known) (reads : Reads declared.Frames) → IsAsked room w known reads s.entry frames
+        → Spells room frames_of w known reads result }
 {
     match frames {
         Ok(f) => TaskFrames {
@@ -270,6 +236,6 @@ pub fn frames<'a, H: ToHost>(
             exit_flag: f.exit_flag,
             enter_flag: f.enter_flag,
         },
-        Err(rc) => TaskFrames::refused(refusal(s, known, rc)),
+        Err(rc) => TaskFrames::refused(refusal(s, rc)),
     }
 }

@@ -1,15 +1,15 @@
 //! The inquiry for the initial task.
 
-ghost use Rattle.std.specs.Prelude.{◌≡◌, ◌≢◌, ℕ, List, Err};
+ghost use Rattle.std.specs.Prelude.{◌≡◌, ℕ, List};
 ghost use Rattle.omi_calls.specs.Kept.{TakesAll, GivesNumbers};
 ghost use Rattle.omi_handle.specs.declared.handle.Held as declared;
-ghost use Rattle.omi_session.specs.declared.rc.Rc.TheVariants.{CallbackError};
 ghost use Rattle.omi_session.specs.Opened.{StaysWhole};
 ghost use Rattle.omi_session.specs.Reads.{Reads, Answers};
-ghost use Rattle.omi_c.specs.Calls.{told_of, asked_of, faults_of};
+ghost use Rattle.omi_c.specs.declared.known.Known as declared_known;
+ghost use Rattle.omi_c.specs.Calls.{told_of, asked_of};
 ghost use Rattle.omi_c.specs.Initial as initial;
 ghost use Rattle.omi_c.specs.Opened.{IsAsked};
-ghost use Rattle.omi_c.specs.Replies.{Spells};
+ghost use Rattle.omi_c.specs.Replies.{Room, Spells, TakesNone};
 ghost use Rattle.omi_c.specs.Answers.{found_of};
 
 use crate::answers::{Found, OK, Object};
@@ -28,7 +28,6 @@ fn first_task<'a, H: ToHost>(s: &mut Session<KnownCalls<'a>, H>) -> Result<Held,
     ensures answer { Answers told_of asked_of s.old s.new result
         (initial.initial_task s.old.layout) }
     ensures same { StaysWhole told_of s.old s.new }
-    ensures cause { result ≡ Err CallbackError → faults_of s.new.table.calls ≢ 0 }
 {
     let address = s.layout().task_at(0, 0);
     let life = word(s, address, Field::TaskLife, 0)?;
@@ -36,14 +35,9 @@ fn first_task<'a, H: ToHost>(s: &mut Session<KnownCalls<'a>, H>) -> Result<Held,
 }
 
 /// An object that was found without a handle.
-fn found<'a, H: ToHost>(
-    s: Session<KnownCalls<'a>, H>,
-    known: &[Known],
-    held: Result<Held, Rc>,
-) -> Found
-    requires { held ≡ Err CallbackError → faults_of s.table.calls ≢ 0 }
-    ensures { (w : List ℕ) (reads : Reads declared.Held) → IsAsked w known.now reads s.entry held
-        → Spells found_of w known.now reads result }
+fn found<'a, H: ToHost>(s: Session<KnownCalls<'a>, H>, held: Result<Held, Rc>) -> Found
+    ensures { (room : Room) (w : List ℕ) (known : List declared_known.Known) (reads : Reads declared.Held) → IsAsked room w known reads s.entry held
+        → Spells room found_of w known reads result }
 {
     match held {
         Ok(held) => Found {
@@ -54,7 +48,7 @@ fn found<'a, H: ToHost>(
                 life: held.life,
             },
         },
-        Err(rc) => Found::refused(refusal(s, known, rc)),
+        Err(rc) => Found::refused(refusal(s, rc)),
     }
 }
 
@@ -62,12 +56,12 @@ fn found<'a, H: ToHost>(
 fn initial_task<H: ToHost>(alloc: Global, table: &[u64], known: &[Known], to_host: H) -> Found
     requires takes { TakesAll (H.takes to_host) }
     requires gives { GivesNumbers (H.gives to_host) 0 }
-    ensures { Spells found_of table.now known.now (initial.initial_task table.now) result }
+    ensures { Spells TakesNone found_of table.now known.now (initial.initial_task table.now) result }
 {
     match open(alloc, table, known, to_host) {
         Ok(mut s) => {
             let held = first_task(&mut s);
-            found(s, known, held)
+            found(s, held)
         }
         Err(refusal) => Found::refused(refusal),
     }
@@ -76,7 +70,7 @@ fn initial_task<H: ToHost>(alloc: Global, table: &[u64], known: &[Known], to_hos
 /// The initial task of the program, whose record is the first one of thread 0's tasks. Unavailable before it is made and behind its end.
 #[unsafe(no_mangle)]
 pub extern "C" fn omi_initial_task(alloc: Global, table: &[u64], known: &[Known]) -> Found
-    ensures { Spells found_of table.now known.now (initial.initial_task table.now) result }
+    ensures { Spells TakesNone found_of table.now known.now (initial.initial_task table.now) result }
 {
     initial_task(alloc, table, known, lowest_first)
 }

@@ -11,6 +11,7 @@ mod enumerations;
 mod finding;
 mod initial;
 mod known;
+mod laws;
 mod library;
 mod opening;
 mod range;

@@ -8,7 +8,7 @@ ghost use Rattle.omi_numbers.specs.declared.words.TheConstants.{OPENMP_VERSION};
 ghost use Rattle.omi_rep.specs.Records.{runtime_address};
 ghost use Rattle.omi_session.specs.Inquiry.{word_of};
 ghost use Rattle.omi_session.specs.Reads.{Answer};
-ghost use Rattle.omi_c.specs.Replies.{Spells};
+ghost use Rattle.omi_c.specs.Replies.{Spells, TakesNone};
 ghost use Rattle.omi_c.specs.Answers.{number_of};
 ghost use Rattle.omi_c.specs.Judged.{IsJudged};
 ghost use Rattle.omi_c.specs.Texts.{SpellsText, put_over, whole};
@@ -67,13 +67,13 @@ pub extern "C" fn omi_judge_table(table: &[u64]) -> Number
 fn openmp_version<H: ToHost>(alloc: Global, table: &[u64], known: &[Known], to_host: H) -> Number
     requires takes { TakesAll (H.takes to_host) }
     requires gives { GivesNumbers (H.gives to_host) 0 }
-    ensures { Spells number_of table.now known.now
+    ensures { Spells TakesNone number_of table.now known.now
         (word_of table.now (runtime_address table.now) RuntimeVersion 0) result }
 {
     match open(alloc, table, known, to_host) {
         Ok(mut s) => {
             let answer = s.get_omp_version();
-            number(s, known, answer)
+            number(s, answer)
         }
         Err(refusal) => Number::refused(refusal, 0),
     }
@@ -82,7 +82,7 @@ fn openmp_version<H: ToHost>(alloc: Global, table: &[u64], known: &[Known], to_h
 /// The version of OpenMP that the target's runtime has, as year and month.
 #[unsafe(no_mangle)]
 pub extern "C" fn omi_openmp_version(alloc: Global, table: &[u64], known: &[Known]) -> Number
-    ensures { Spells number_of table.now known.now
+    ensures { Spells TakesNone number_of table.now known.now
         (word_of table.now (runtime_address table.now) RuntimeVersion 0) result }
 {
     openmp_version(alloc, table, known, lowest_first)
@@ -92,7 +92,7 @@ pub extern "C" fn omi_openmp_version(alloc: Global, table: &[u64], known: &[Know
 fn openmp_text<H: ToHost>(alloc: Global, table: &[u64], to: &mut [u8], to_host: H) -> Text
     requires takes { TakesAll (H.takes to_host) }
     requires gives { GivesNumbers (H.gives to_host) 0 }
-    ensures { SpellsText whole table.now [] (Answer (Ok (codes "OpenMP 5.0 host")))
+    ensures { SpellsText TakesNone whole table.now [] (Answer (Ok (codes "OpenMP 5.0 host")))
         to.old to.new result }
 {
     match open(alloc, table, &[], to_host) {
@@ -108,7 +108,7 @@ fn openmp_text<H: ToHost>(alloc: Global, table: &[u64], to: &mut [u8], to_host: 
 /// The version of OpenMP of this library, as text.
 #[unsafe(no_mangle)]
 pub extern "C" fn omi_openmp_text(alloc: Global, table: &[u64], to: &mut [u8]) -> Text
-    ensures { SpellsText whole table.now [] (Answer (Ok (codes "OpenMP 5.0 host")))
+    ensures { SpellsText TakesNone whole table.now [] (Answer (Ok (codes "OpenMP 5.0 host")))
         to.old to.new result }
 {
     openmp_text(alloc, table, to, lowest_first)

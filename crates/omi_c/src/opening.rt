@@ -8,12 +8,11 @@ ghost use Rattle.omi_session.specs.Inquiry as inquiry;
 ghost use Rattle.omi_session.specs.Opened.{IsFresh};
 ghost use Rattle.omi_session.specs.Made.{thread_pair, region_pair, task_pair};
 ghost use Rattle.omi_c.specs.Answers.{refusal_of};
-ghost use Rattle.omi_c.specs.Replies.{Refused};
+ghost use Rattle.omi_c.specs.Replies.{Refused, TakesSome};
 ghost use Rattle.omi_c.specs.Opened.{IsOpenedOver, IsNoLayout, IsClosed};
 
-use crate::answers::{Object, Refusal, STRAY_WORD};
-use crate::calls::{KnownCalls, NO_WORD};
-use crate::finding::find_known;
+use crate::answers::{Object, Refusal};
+use crate::calls::KnownCalls;
 use crate::known::Known;
 use omi_calls::{Table, ToHost};
 use omi_handle::{Kind, RegionHandle, TaskHandle, ThreadHandle};
@@ -74,15 +73,9 @@ pub fn open<'a, H: ToHost>(
     requires gives { GivesNumbers (H.gives to_host) 0 }
     ensures opened { IfOk result (IsOpenedOver table.now known.now) }
     ensures fresh { IfOk result (λ s. IsFresh s.handles) }
-    ensures refused { IfErr result (IsClosed table.now known.now) }
+    ensures refused { IfErr result (IsNoLayout table.now) }
 {
     let layout = layout_of(table)?;
-    if find_known(known, NO_WORD).is_some() {
-        return Err(Refusal {
-            code: STRAY_WORD,
-            place: 0,
-        });
-    }
     let calls = Table::new(KnownCalls::over(known), 0, to_host);
     Ok(Session::in_layout(alloc, calls, layout))
 }
@@ -141,7 +134,7 @@ pub fn open_with<'a, H: ToHost>(
     ensures opened { IfOk result (λ asking. IsOpenedOver table.now known.now asking.0) }
     ensures held { IfOk result (λ asking. get asking.0.handles.held (asking.1.key, asking.1.serial)
         ≡ inquiry.object_at table.now kind object.addr object.life) }
-    ensures refused { IfErr result (IsClosed table.now known.now) }
+    ensures refused { IfErr result (IsClosed TakesSome table.now) }
 {
     let mut session = open(alloc, table, known, to_host)?;
     match object_at(session.layout(), kind, object.addr, object.life) {

@@ -53,8 +53,6 @@ impl<'a> Callbacks for RangeCalls<'a> {
 
     ghost faults = { λ _. 0 };
 
-    ghost asked = { λ _. 0 };
-
     fn read_memory(&mut self, addr: u64, to: &mut [u8; 8]) -> Got {
         match self.memory.word(addr) {
             Some(word) => {

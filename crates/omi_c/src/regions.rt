@@ -5,7 +5,7 @@ ghost use Rattle.omi_calls.specs.Kept.{TakesAll, GivesNumbers};
 ghost use Rattle.omi_handle.specs.declared.handle.Kind.TheVariants as object;
 ghost use Rattle.omi_ask.specs.Regions as regions;
 ghost use Rattle.omi_session.specs.Inquiry as part;
-ghost use Rattle.omi_c.specs.Replies.{Spells};
+ghost use Rattle.omi_c.specs.Replies.{Spells, TakesSome};
 ghost use Rattle.omi_c.specs.Answers.{found_of};
 
 use crate::answers::{Found, Object};
@@ -27,13 +27,13 @@ fn curr_parallel<H: ToHost>(
 ) -> Found
     requires takes { TakesAll (H.takes to_host) }
     requires gives { GivesNumbers (H.gives to_host) 0 }
-    ensures { Spells found_of table.now known.now
+    ensures { Spells TakesSome found_of table.now known.now
         (regions.current_region table.now (part.object_at table.now object.Thread thread.addr thread.life)) result }
 {
     match open_with(alloc, table, known, Kind::Thread, thread, to_host) {
         Ok((mut s, pair)) => {
             let found = get_curr_parallel_handle(&mut s, pair.thread());
-            found_region(s, known, found)
+            found_region(s, found)
         }
         Err(refusal) => Found::refused(refusal),
     }
@@ -47,7 +47,7 @@ pub extern "C" fn omi_curr_parallel(
     known: &[Known],
     thread: Object,
 ) -> Found
-    ensures { Spells found_of table.now known.now
+    ensures { Spells TakesSome found_of table.now known.now
         (regions.current_region table.now (part.object_at table.now object.Thread thread.addr thread.life)) result }
 {
     curr_parallel(alloc, table, known, thread, lowest_first)
@@ -63,13 +63,13 @@ fn enclosing_parallel<H: ToHost>(
 ) -> Found
     requires takes { TakesAll (H.takes to_host) }
     requires gives { GivesNumbers (H.gives to_host) 0 }
-    ensures { Spells found_of table.now known.now
+    ensures { Spells TakesSome found_of table.now known.now
         (regions.enclosing_region table.now (part.object_at table.now object.Region region.addr region.life)) result }
 {
     match open_with(alloc, table, known, Kind::Region, region, to_host) {
         Ok((mut s, pair)) => {
             let found = get_enclosing_parallel_handle(&mut s, pair.region());
-            found_region(s, known, found)
+            found_region(s, found)
         }
         Err(refusal) => Found::refused(refusal),
     }
@@ -83,7 +83,7 @@ pub extern "C" fn omi_enclosing_parallel(
     known: &[Known],
     region: Object,
 ) -> Found
-    ensures { Spells found_of table.now known.now
+    ensures { Spells TakesSome found_of table.now known.now
         (regions.enclosing_region table.now (part.object_at table.now object.Region region.addr region.life)) result }
 {
     enclosing_parallel(alloc, table, known, region, lowest_first)
@@ -99,13 +99,13 @@ fn task_parallel<H: ToHost>(
 ) -> Found
     requires takes { TakesAll (H.takes to_host) }
     requires gives { GivesNumbers (H.gives to_host) 0 }
-    ensures { Spells found_of table.now known.now
+    ensures { Spells TakesSome found_of table.now known.now
         (regions.region_of_task table.now (part.object_at table.now object.Task task.addr task.life)) result }
 {
     match open_with(alloc, table, known, Kind::Task, task, to_host) {
         Ok((mut s, pair)) => {
             let found = get_task_parallel_handle(&mut s, pair.task());
-            found_region(s, known, found)
+            found_region(s, found)
         }
         Err(refusal) => Found::refused(refusal),
     }
@@ -119,7 +119,7 @@ pub extern "C" fn omi_task_parallel(
     known: &[Known],
     task: Object,
 ) -> Found
-    ensures { Spells found_of table.now known.now
+    ensures { Spells TakesSome found_of table.now known.now
         (regions.region_of_task table.now (part.object_at table.now object.Task task.addr task.life)) result }
 {
     task_parallel(alloc, table, known, task, lowest_first)

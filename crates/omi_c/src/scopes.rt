@@ -30,7 +30,7 @@ pub fn open_scoped<'a, H: ToHost>(
     requires gives { GivesNumbers (H.gives to_host) 0 }
     ensures opened { IfOk result (λ asked. IsOpenedOver table.now known.now asked.0) }
     ensures of { IfOk result (λ asked. IsOf table.now scope object (get asked.0.handles.held) asked.1) }
-    ensures refused { IfErr result (IsClosedFor table.now known.now scope) }
+    ensures refused { IfErr result (IsClosedFor table.now scope) }
 {
     match scope {
         2 => {

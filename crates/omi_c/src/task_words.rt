@@ -5,7 +5,7 @@ ghost use Rattle.omi_calls.specs.Kept.{TakesAll, GivesNumbers};
 ghost use Rattle.omi_handle.specs.declared.handle.Kind.TheVariants as object;
 ghost use Rattle.omi_session.specs.Inquiry as part;
 ghost use Rattle.omi_asktask.specs.TaskWords as words;
-ghost use Rattle.omi_c.specs.Replies.{Spells};
+ghost use Rattle.omi_c.specs.Replies.{Spells, TakesSome};
 ghost use Rattle.omi_c.specs.Answers.{frames_of, number_of};
 
 use crate::answers::{Number, Object, TaskFrames};
@@ -27,13 +27,13 @@ fn task_function<H: ToHost>(
 ) -> Number
     requires takes { TakesAll (H.takes to_host) }
     requires gives { GivesNumbers (H.gives to_host) 0 }
-    ensures { Spells number_of table.now known.now
+    ensures { Spells TakesSome number_of table.now known.now
         (words.function table.now (part.object_at table.now object.Task task.addr task.life)) result }
 {
     match open_with(alloc, table, known, Kind::Task, task, to_host) {
         Ok((mut s, pair)) => {
             let answer = get_task_function(&mut s, pair.task());
-            number(s, known, answer)
+            number(s, answer)
         }
         Err(refusal) => Number::refused(refusal, 0),
     }
@@ -47,7 +47,7 @@ pub extern "C" fn omi_task_function(
     known: &[Known],
     task: Object,
 ) -> Number
-    ensures { Spells number_of table.now known.now
+    ensures { Spells TakesSome number_of table.now known.now
         (words.function table.now (part.object_at table.now object.Task task.addr task.life)) result }
 {
     task_function(alloc, table, known, task, lowest_first)
@@ -63,13 +63,13 @@ fn task_frame<H: ToHost>(
 ) -> TaskFrames
     requires takes { TakesAll (H.takes to_host) }
     requires gives { GivesNumbers (H.gives to_host) 0 }
-    ensures { Spells frames_of table.now known.now
+    ensures { Spells TakesSome frames_of table.now known.now
         (words.frames table.now (part.object_at table.now object.Task task.addr task.life)) result }
 {
     match open_with(alloc, table, known, Kind::Task, task, to_host) {
         Ok((mut s, pair)) => {
             let answer = get_task_frame(&mut s, pair.task());
-            frames(s, known, answer)
+            frames(s, answer)
         }
         Err(refusal) => TaskFrames::refused(refusal),
     }
@@ -83,7 +83,7 @@ pub extern "C" fn omi_task_frame(
     known: &[Known],
     task: Object,
 ) -> TaskFrames
-    ensures { Spells frames_of table.now known.now
+    ensures { Spells TakesSome frames_of table.now known.now
         (words.frames table.now (part.object_at table.now object.Task task.addr task.life)) result }
 {
     task_frame(alloc, table, known, task, lowest_first)

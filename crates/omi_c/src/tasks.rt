@@ -5,7 +5,7 @@ ghost use Rattle.omi_calls.specs.Kept.{TakesAll, GivesNumbers};
 ghost use Rattle.omi_handle.specs.declared.handle.Kind.TheVariants as object;
 ghost use Rattle.omi_session.specs.Inquiry as part;
 ghost use Rattle.omi_asktask.specs.Tasks as tasks;
-ghost use Rattle.omi_c.specs.Replies.{Spells};
+ghost use Rattle.omi_c.specs.Replies.{Spells, TakesSome};
 ghost use Rattle.omi_c.specs.Answers.{found_of};
 
 use crate::answers::{Found, Object};
@@ -30,13 +30,13 @@ fn curr_task<H: ToHost>(
 ) -> Found
     requires takes { TakesAll (H.takes to_host) }
     requires gives { GivesNumbers (H.gives to_host) 0 }
-    ensures { Spells found_of table.now known.now
+    ensures { Spells TakesSome found_of table.now known.now
         (part.current_task table.now (part.object_at table.now object.Thread thread.addr thread.life)) result }
 {
     match open_with(alloc, table, known, Kind::Thread, thread, to_host) {
         Ok((mut s, pair)) => {
             let found = get_curr_task_handle(&mut s, pair.thread());
-            found_task(s, known, found)
+            found_task(s, found)
         }
         Err(refusal) => Found::refused(refusal),
     }
@@ -50,7 +50,7 @@ pub extern "C" fn omi_curr_task(
     known: &[Known],
     thread: Object,
 ) -> Found
-    ensures { Spells found_of table.now known.now
+    ensures { Spells TakesSome found_of table.now known.now
         (part.current_task table.now (part.object_at table.now object.Thread thread.addr thread.life)) result }
 {
     curr_task(alloc, table, known, thread, lowest_first)
@@ -66,13 +66,13 @@ fn generating_task<H: ToHost>(
 ) -> Found
     requires takes { TakesAll (H.takes to_host) }
     requires gives { GivesNumbers (H.gives to_host) 0 }
-    ensures { Spells found_of table.now known.now
+    ensures { Spells TakesSome found_of table.now known.now
         (tasks.generating_task table.now (part.object_at table.now object.Task task.addr task.life)) result }
 {
     match open_with(alloc, table, known, Kind::Task, task, to_host) {
         Ok((mut s, pair)) => {
             let found = get_generating_task_handle(&mut s, pair.task());
-            found_task(s, known, found)
+            found_task(s, found)
         }
         Err(refusal) => Found::refused(refusal),
     }
@@ -86,7 +86,7 @@ pub extern "C" fn omi_generating_task(
     known: &[Known],
     task: Object,
 ) -> Found
-    ensures { Spells found_of table.now known.now
+    ensures { Spells TakesSome found_of table.now known.now
         (tasks.generating_task table.now (part.object_at table.now object.Task task.addr task.life)) result }
 {
     generating_task(alloc, table, known, task, lowest_first)
@@ -102,13 +102,13 @@ fn scheduling_task<H: ToHost>(
 ) -> Found
     requires takes { TakesAll (H.takes to_host) }
     requires gives { GivesNumbers (H.gives to_host) 0 }
-    ensures { Spells found_of table.now known.now
+    ensures { Spells TakesSome found_of table.now known.now
         (tasks.scheduling_task table.now (part.object_at table.now object.Task task.addr task.life)) result }
 {
     match open_with(alloc, table, known, Kind::Task, task, to_host) {
         Ok((mut s, pair)) => {
             let found = get_scheduling_task_handle(&mut s, pair.task());
-            found_task(s, known, found)
+            found_task(s, found)
         }
         Err(refusal) => Found::refused(refusal),
     }
@@ -122,7 +122,7 @@ pub extern "C" fn omi_scheduling_task(
     known: &[Known],
     task: Object,
 ) -> Found
-    ensures { Spells found_of table.now known.now
+    ensures { Spells TakesSome found_of table.now known.now
         (tasks.scheduling_task table.now (part.object_at table.now object.Task task.addr task.life)) result }
 {
     scheduling_task(alloc, table, known, task, lowest_first)
@@ -139,13 +139,13 @@ fn task_in_parallel<H: ToHost>(
 ) -> Found
     requires takes { TakesAll (H.takes to_host) }
     requires gives { GivesNumbers (H.gives to_host) 0 }
-    ensures { Spells found_of table.now known.now
+    ensures { Spells TakesSome found_of table.now known.now
         (part.member table.now (part.object_at table.now object.Region region.addr region.life) member) result }
 {
     match open_with(alloc, table, known, Kind::Region, region, to_host) {
         Ok((mut s, pair)) => {
             let found = get_task_in_parallel(&mut s, pair.region(), member);
-            found_task(s, known, found)
+            found_task(s, found)
         }
         Err(refusal) => Found::refused(refusal),
     }
@@ -160,7 +160,7 @@ pub extern "C" fn omi_task_in_parallel(
     region: Object,
     member: u32,
 ) -> Found
-    ensures { Spells found_of table.now known.now
+    ensures { Spells TakesSome found_of table.now known.now
         (part.member table.now (part.object_at table.now object.Region region.addr region.life) member) result }
 {
     task_in_parallel(alloc, table, known, region, member, lowest_first)

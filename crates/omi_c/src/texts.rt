@@ -1,18 +1,17 @@
 //! Texts that are put at the front of bytes which C lends.
 
-ghost use Rattle.std.specs.Prelude.{◌≡◌, ◌≢◌, ℕ, List, Err, length, map, string_bytes};
-ghost use Rattle.omi_session.specs.declared.rc.Rc.TheVariants.{CallbackError};
+ghost use Rattle.std.specs.Prelude.{◌≡◌, ℕ, List, length, map, string_bytes};
 ghost use Rattle.omi_session.specs.Reads.{Reads};
 ghost use Rattle.omi_icv.specs.Written.{as_bytes};
 ghost use Rattle.omi_c.specs.Answers.{text_by};
-ghost use Rattle.omi_c.specs.Calls.{faults_of};
+ghost use Rattle.omi_c.specs.declared.known.Known.{Known};
 ghost use Rattle.omi_c.specs.Opened.{IsAsked};
+ghost use Rattle.omi_c.specs.Replies.{Room};
 ghost use Rattle.omi_c.specs.Texts.{SpellsText, put_over, whole, one_of};
 
 use crate::answers::{OK, Refusal, Text};
 use crate::calls::KnownCalls;
 use crate::closing::refusal;
-use crate::known::Known;
 use omi_calls::ToHost;
 use omi_session::{Rc, Session};
 
@@ -42,14 +41,12 @@ impl Text {
 /// A text that was made.
 pub fn text<'a, H: ToHost>(
     s: Session<KnownCalls<'a>, H>,
-    known: &[Known],
     text: Result<String, Rc>,
     to: &mut [u8],
 ) -> Text
-    requires { text ≡ Err CallbackError → faults_of s.table.calls ≢ 0 }
-    ensures { (w : List ℕ) (reads : Reads (List ℕ))
-        → IsAsked w known.now reads s.entry (as_bytes string_bytes text)
-        → SpellsText whole w known.now reads to.old to.new result }
+    ensures { (room : Room) (w : List ℕ) (known : List Known) (reads : Reads (List ℕ))
+        → IsAsked room w known reads s.entry (as_bytes string_bytes text)
+        → SpellsText room whole w known reads to.old to.new result }
 {
     match text {
         Ok(text) => Text {
@@ -57,22 +54,20 @@ pub fn text<'a, H: ToHost>(
             place: 0,
             length: put(to, text.as_bytes()),
         },
-        Err(rc) => Text::refused(refusal(s, known, rc)),
+        Err(rc) => Text::refused(refusal(s, rc)),
     }
 }
 
 /// One of the texts that were made, by its place from 0 on.
 pub fn text_at<'a, H: ToHost>(
     s: Session<KnownCalls<'a>, H>,
-    known: &[Known],
     texts: Result<Vec<String>, Rc>,
     index: u32,
     to: &mut [u8],
 ) -> Text
-    requires { texts ≡ Err CallbackError → faults_of s.table.calls ≢ 0 }
-    ensures { (w : List ℕ) (reads : Reads (List (List ℕ)))
-        → IsAsked w known.now reads s.entry (as_bytes (λ texts. map string_bytes texts.items) texts)
-        → SpellsText (one_of index) w known.now reads to.old to.new result }
+    ensures { (room : Room) (w : List ℕ) (known : List Known) (reads : Reads (List (List ℕ)))
+        → IsAsked room w known reads s.entry (as_bytes (λ texts. map string_bytes texts.items) texts)
+        → SpellsText room (one_of index) w known reads to.old to.new result }
 {
     match texts {
         Ok(texts) => {
@@ -91,6 +86,6 @@ pub fn text_at<'a, H: ToHost>(
                 }
             }
         }
-        Err(rc) => Text::refused(refusal(s, known, rc)),
+        Err(rc) => Text::refused(refusal(s, rc)),
     }
 }

@@ -6,7 +6,7 @@ ghost use Rattle.omi_handle.specs.declared.handle.Kind.TheVariants as object;
 ghost use Rattle.omi_ask.specs.Threads as threads;
 ghost use Rattle.omi_session.specs.Inquiry as part;
 ghost use Rattle.omi_icv.specs.StateWords as states;
-ghost use Rattle.omi_c.specs.Replies.{Spells};
+ghost use Rattle.omi_c.specs.Replies.{Spells, TakesSome};
 ghost use Rattle.omi_c.specs.Answers.{found_of, number_of, state_of};
 
 use crate::answers::{Found, Number, Object, State};
@@ -30,13 +30,13 @@ fn thread_with_id<H: ToHost>(
 ) -> Found
     requires takes { TakesAll (H.takes to_host) }
     requires gives { GivesNumbers (H.gives to_host) 0 }
-    ensures { Spells found_of table.now known.now
+    ensures { Spells TakesSome found_of table.now known.now
         (threads.thread_with table.now kind native) result }
 {
     match open(alloc, table, known, to_host) {
         Ok(mut s) => {
             let found = get_thread_handle(&mut s, kind, native);
-            found_thread(s, known, found)
+            found_thread(s, found)
         }
         Err(refusal) => Found::refused(refusal),
     }
@@ -51,7 +51,7 @@ pub extern "C" fn omi_thread_with_id(
     kind: u32,
     native: u64,
 ) -> Found
-    ensures { Spells found_of table.now known.now
+    ensures { Spells TakesSome found_of table.now known.now
         (threads.thread_with table.now kind native) result }
 {
     thread_with_id(alloc, table, known, kind, native, lowest_first)
@@ -68,13 +68,13 @@ fn thread_in_parallel<H: ToHost>(
 ) -> Found
     requires takes { TakesAll (H.takes to_host) }
     requires gives { GivesNumbers (H.gives to_host) 0 }
-    ensures { Spells found_of table.now known.now
+    ensures { Spells TakesSome found_of table.now known.now
         (threads.thread_of_member table.now (part.object_at table.now object.Region region.addr region.life) member) result }
 {
     match open_with(alloc, table, known, Kind::Region, region, to_host) {
         Ok((mut s, pair)) => {
             let found = get_thread_in_parallel(&mut s, pair.region(), member);
-            found_thread(s, known, found)
+            found_thread(s, found)
         }
         Err(refusal) => Found::refused(refusal),
     }
@@ -89,7 +89,7 @@ pub extern "C" fn omi_thread_in_parallel(
     region: Object,
     member: u32,
 ) -> Found
-    ensures { Spells found_of table.now known.now
+    ensures { Spells TakesSome found_of table.now known.now
         (threads.thread_of_member table.now (part.object_at table.now object.Region region.addr region.life) member) result }
 {
     thread_in_parallel(alloc, table, known, region, member, lowest_first)
@@ -106,13 +106,13 @@ fn thread_id<H: ToHost>(
 ) -> Number
     requires takes { TakesAll (H.takes to_host) }
     requires gives { GivesNumbers (H.gives to_host) 0 }
-    ensures { Spells number_of table.now known.now
+    ensures { Spells TakesSome number_of table.now known.now
         (threads.native_id table.now kind (part.object_at table.now object.Thread thread.addr thread.life)) result }
 {
     match open_with(alloc, table, known, Kind::Thread, thread, to_host) {
         Ok((mut s, pair)) => {
             let answer = get_thread_id(&mut s, kind, pair.thread());
-            number(s, known, answer)
+            number(s, answer)
         }
         Err(refusal) => Number::refused(refusal, 0),
     }
@@ -127,7 +127,7 @@ pub extern "C" fn omi_thread_id(
     kind: u32,
     thread: Object,
 ) -> Number
-    ensures { Spells number_of table.now known.now
+    ensures { Spells TakesSome number_of table.now known.now
         (threads.native_id table.now kind (part.object_at table.now object.Thread thread.addr thread.life)) result }
 {
     thread_id(alloc, table, known, kind, thread, lowest_first)
@@ -143,13 +143,13 @@ fn thread_state<H: ToHost>(
 ) -> State
     requires takes { TakesAll (H.takes to_host) }
     requires gives { GivesNumbers (H.gives to_host) 0 }
-    ensures { Spells state_of table.now known.now
+    ensures { Spells TakesSome state_of table.now known.now
         (states.state table.now (part.object_at table.now object.Thread thread.addr thread.life)) result }
 {
     match open_with(alloc, table, known, Kind::Thread, thread, to_host) {
         Ok((mut s, pair)) => {
             let answer = get_state(&mut s, pair.thread());
-            state(s, known, answer)
+            state(s, answer)
         }
         Err(refusal) => State::refused(refusal),
     }
@@ -163,7 +163,7 @@ pub extern "C" fn omi_thread_state(
     known: &[Known],
     thread: Object,
 ) -> State
-    ensures { Spells state_of table.now known.now
+    ensures { Spells TakesSome state_of table.now known.now
         (states.state table.now (part.object_at table.now object.Thread thread.addr thread.life)) result }
 {
     thread_state(alloc, table, known, thread, lowest_first)

@@ -5,7 +5,7 @@ ghost use Rattle.omi_calls.specs.Kept.{TakesAll, GivesNumbers};
 ghost use Rattle.omi_icv.specs.Icvs as icvs;
 ghost use Rattle.omi_icv.specs.StateWords as words;
 ghost use Rattle.omi_icv.specs.Display as shown;
-ghost use Rattle.omi_c.specs.Replies.{Spells};
+ghost use Rattle.omi_c.specs.Replies.{Spells, TakesSome};
 ghost use Rattle.omi_c.specs.Answers.{number_of};
 ghost use Rattle.omi_c.specs.Scopes.{reads_of};
 ghost use Rattle.omi_c.specs.Texts.{SpellsText, whole, one_of};
@@ -34,13 +34,13 @@ fn icv_number<H: ToHost>(
 ) -> Number
     requires takes { TakesAll (H.takes to_host) }
     requires gives { GivesNumbers (H.gives to_host) 0 }
-    ensures { Spells number_of table.now known.now (reads_of table.now scope object
+    ensures { Spells TakesSome number_of table.now known.now (reads_of table.now scope object
         (λ held of. icvs.icv_from_scope table.now held of icv)) result }
 {
     match open_scoped(alloc, table, known, scope, object, to_host) {
         Ok((mut s, of)) => {
             let answer = get_icv_from_scope(&mut s, of, icv);
-            number(s, known, answer)
+            number(s, answer)
         }
         Err(refusal) => Number::refused(refusal, 0),
     }
@@ -56,7 +56,7 @@ pub extern "C" fn omi_icv_number(
     object: Object,
     icv: u32,
 ) -> Number
-    ensures { Spells number_of table.now known.now (reads_of table.now scope object
+    ensures { Spells TakesSome number_of table.now known.now (reads_of table.now scope object
         (λ held of. icvs.icv_from_scope table.now held of icv)) result }
 {
     icv_number(alloc, table, known, scope, object, icv, lowest_first)
@@ -75,13 +75,13 @@ fn icv_text<H: ToHost>(
 ) -> Text
     requires takes { TakesAll (H.takes to_host) }
     requires gives { GivesNumbers (H.gives to_host) 0 }
-    ensures { SpellsText whole table.now known.now (reads_of table.now scope object
+    ensures { SpellsText TakesSome whole table.now known.now (reads_of table.now scope object
         (λ held of. icvs.icv_string_from_scope table.now held of icv)) to.old to.new result }
 {
     match open_scoped(alloc, table, known, scope, object, to_host) {
         Ok((mut s, of)) => {
             let answer = get_icv_string_from_scope(&mut s, alloc, of, icv);
-            text(s, known, answer, to)
+            text(s, answer, to)
         }
         Err(refusal) => Text::refused(refusal),
     }
@@ -98,7 +98,7 @@ pub extern "C" fn omi_icv_text(
     icv: u32,
     to: &mut [u8],
 ) -> Text
-    ensures { SpellsText whole table.now known.now (reads_of table.now scope object
+    ensures { SpellsText TakesSome whole table.now known.now (reads_of table.now scope object
         (λ held of. icvs.icv_string_from_scope table.now held of icv)) to.old to.new result }
 {
     icv_text(alloc, table, known, scope, object, icv, to, lowest_first)
@@ -115,13 +115,13 @@ fn tool_data<H: ToHost>(
 ) -> Number
     requires takes { TakesAll (H.takes to_host) }
     requires gives { GivesNumbers (H.gives to_host) 0 }
-    ensures { Spells number_of table.now known.now
+    ensures { Spells TakesSome number_of table.now known.now
         (reads_of table.now scope object (words.tool_data table.now)) result }
 {
     match open_scoped(alloc, table, known, scope, object, to_host) {
         Ok((mut s, of)) => {
             let answer = get_tool_data(&mut s, of);
-            number(s, known, answer)
+            number(s, answer)
         }
         Err(refusal) => Number::refused(refusal, 0),
     }
@@ -136,7 +136,7 @@ pub extern "C" fn omi_tool_data(
     scope: u32,
     object: Object,
 ) -> Number
-    ensures { Spells number_of table.now known.now
+    ensures { Spells TakesSome number_of table.now known.now
         (reads_of table.now scope object (words.tool_data table.now)) result }
 {
     tool_data(alloc, table, known, scope, object, lowest_first)
@@ -153,13 +153,13 @@ fn control_var<H: ToHost>(
 ) -> Text
     requires takes { TakesAll (H.takes to_host) }
     requires gives { GivesNumbers (H.gives to_host) 0 }
-    ensures { SpellsText (one_of index) table.now known.now (shown.display table.now)
+    ensures { SpellsText TakesSome (one_of index) table.now known.now (shown.display table.now)
         to.old to.new result }
 {
     match open(alloc, table, known, to_host) {
         Ok(mut s) => {
             let answer = get_display_control_vars(&mut s, alloc);
-            text_at(s, known, answer, index, to)
+            text_at(s, answer, index, to)
         }
         Err(refusal) => Text::refused(refusal),
     }
@@ -174,7 +174,7 @@ pub extern "C" fn omi_control_var(
     index: u32,
     to: &mut [u8],
 ) -> Text
-    ensures { SpellsText (one_of index) table.now known.now (shown.display table.now)
+    ensures { SpellsText TakesSome (one_of index) table.now known.now (shown.display table.now)
         to.old to.new result }
 {
     control_var(alloc, table, known, index, to, lowest_first)

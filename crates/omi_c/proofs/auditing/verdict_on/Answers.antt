@@ -20,6 +20,6 @@ returns-in-Ok-clause-verdict g c =
 pub returns-in-Err-OutOfMemory-clause-refused : goal.returns-in-Err-OutOfMemory-clause-refused
 returns-in-Err-OutOfMemory-clause-refused g c = record {
   cause = Says NoMem;
-  is = subst IsValid c.in_ok-layout.ensures.layout c.in_ok-layout.layout.valid;
+  is = (subst IsValid c.in_ok-layout.ensures.layout c.in_ok-layout.layout.valid, tt);
   gives = ap (λ n. record { code = n; place = 0 }) (c.from.ensures ∙ c.code.ensures);
 }

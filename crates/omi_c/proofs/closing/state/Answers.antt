@@ -1,21 +1,21 @@
-use Rattle.std.proofs.Common.{Err, refl, ap, ◌∙◌}
+use Rattle.std.proofs.Common.{refl, ap, ◌∙◌}
 use Rattle.omi_c.specs.Replies.{Gives, Lacks}
+use Rattle.omi_c.specs.Calls.{missed_of}
 use Rattle.omi_c.specs.Causes.{cause_by}
 use Rattle.omi_c.specs.Answers.{state_by}
 use Rattle.omi_c.proofs.Asked.{asked_gives, asked_lacks}
 use Rattle.omi_c.proofs.closing.state.Goals as goal
 
 pub returns-in-Ok : goal.returns-in-Ok
-returns-in-Ok g c = λ w reads over. record {
+returns-in-Ok g c = λ room w known reads over. record {
   reply = Gives (c.in-Ok.state, c.in-Ok.wait);
-  is = asked_gives w c.args.known.now reads c.args.s c.args.state over (c.in-Ok.state, c.in-Ok.wait) c.in-Ok.is;
+  is = asked_gives room w known reads c.args.s c.args.state over (c.in-Ok.state, c.in-Ok.wait) c.in-Ok.is;
   spells = refl;
 }
 
 pub returns-in-Err : goal.returns-in-Err
-returns-in-Err g c = λ w reads over. record {
-  reply = Lacks (cause_by c.args.known.now c.args.s.table.calls c.in-Err.rc);
-  is = asked_lacks w c.args.known.now reads c.args.s c.args.state over c.in-Err.rc c.in-Err.is
-      (λ e. c.requires (c.in-Err.is ∙ ap Err e));
+returns-in-Err g c = λ room w known reads over. record {
+  reply = Lacks (cause_by (missed_of c.args.s.table.calls) c.in-Err.rc);
+  is = asked_lacks room w known reads c.args.s c.args.state over c.in-Err.rc c.in-Err.is;
   spells = c.refused.ensures ∙ ap state_by c.refusal.ensures;
 }

@@ -1,18 +1,18 @@
-use Rattle.std.proofs.Common.{Err, refl, sym, ap, subst, length, ◌==◌, ◌∙◌}
+use Rattle.std.proofs.Common.{inl, inr, Err, refl, sym, ap, subst, length, ◌==◌, ◌∙◌}
 use Rattle.omi_icv.specs.Enumeration as inquiry
 use Rattle.omi_session.specs.Reads.{Answer}
 use Rattle.omi_session.specs.declared.rc.Rc.TheVariants.{BadInput}
 use Rattle.omi_session.specs.Rc.{code_of}
-use Rattle.omi_c.specs.Replies.{Says, Gives, Lacks}
+use Rattle.omi_c.specs.Replies.{TakesNone, Says, Gives, Lacks, replied}
 use Rattle.omi_c.specs.Texts.{SpellsEntry, icv_entry_of, icv_name_of, entry_by, put_over}
-use Rattle.omi_c.proofs.Closed.{closed_entry}
+use Rattle.omi_c.proofs.Closed.{closed_entry, no_layout_closed}
 use Rattle.omi_c.proofs.Entries.{icv_refused}
 use Rattle.omi_c.proofs.enumerations.next_icv.Goals as goal
 
 pub returns-in-Ok-enumerate_icvs : goal.returns-in-Ok-enumerate_icvs
 returns-in-Ok-enumerate_icvs g c = record {
   reply = Gives (c.in-Ok-enumerate_icvs.next, c.in-Ok-enumerate_icvs.name.now, c.in-Ok-enumerate_icvs.scope, c.in-Ok-enumerate_icvs.more);
-  is = (c.in-Ok.ensures.opened.valid, λ memory has. sym c.in-Ok-enumerate_icvs.ensures.next);
+  is = inr (c.in-Ok.ensures.opened.valid, inl (ap replied c.in-Ok-enumerate_icvs.ensures.next));
   spells = ap (λ n. record { code = 0; next = c.in-Ok-enumerate_icvs.next; scope = c.in-Ok-enumerate_icvs.scope; more = c.in-Ok-enumerate_icvs.more == 1; length = n }) (c.put.ensures.length ∙ ap length c.as_bytes.ensures.value);
   put = c.put.ensures.put ∙ ap (λ bytes. put_over bytes c.args.to.now) c.as_bytes.ensures.value;
 }
@@ -23,7 +23,7 @@ returns-in-Ok g c =
     let bad = icv_refused c.args.current c.in-Err-enumerate_icvs.rc named in
     record {
       reply = Lacks (Says BadInput);
-      is = (c.in-Ok.ensures.opened.valid, λ memory has. named ∙ ap Err bad);
+      is = inr (c.in-Ok.ensures.opened.valid, inl (sym (ap replied (named ∙ ap Err bad))));
       spells = c.refused.ensures ∙ ap entry_by (c.from.ensures ∙ c.code.ensures ∙ ap code_of bad);
       put = refl;
     }
@@ -31,4 +31,4 @@ returns-in-Ok g c =
 pub returns : goal.returns
 returns g c =
     subst (SpellsEntry icv_entry_of icv_name_of c.args.table.now (Answer (inquiry.next_icv c.args.current)) c.args.to.now c.args.to.now) (sym c.refused-in-Err.ensures)
-    (closed_entry c.args.table.now _ (Answer (inquiry.next_icv c.args.current)) icv_entry_of icv_name_of (λ cause. refl) (λ cause. refl) refl c.args.to.now c.in-Err.refusal c.in-Err.ensures.refused)
+    (closed_entry c.args.table.now (Answer (inquiry.next_icv c.args.current)) icv_entry_of icv_name_of (λ cause. refl) (λ cause. refl) c.args.to.now c.in-Err.refusal (no_layout_closed TakesNone c.args.table.now c.in-Err.refusal c.in-Err.ensures.refused))

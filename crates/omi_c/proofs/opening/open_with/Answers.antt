@@ -12,15 +12,14 @@ returns-in-Ok-clause-opened g c =
       valid = o.valid;
       layout = c.in-Ok.ensures.stays.layout ∙ o.layout;
       told = c.in-Ok.ensures.stays.table.same ∙ o.told;
-      asked = ap (λ t. t.calls.asked) c.in-Ok.ensures.table ∙ o.asked;
-      faults = ap (λ t. t.calls.faults) c.in-Ok.ensures.table ∙ o.faults;
+      missed = ap (λ t. t.calls.missed) c.in-Ok.ensures.table ∙ o.missed;
       few = (let made = c.in-Ok.ensures.counted in let none = c.in_ok-session.ensures.fresh.made in omega (arith, made, none));
     }
 
 pub returns-in-Some-clause-refused : goal.returns-in-Some-clause-refused
 returns-in-Some-clause-refused g c = record {
   cause = Says NoMem;
-  is = c.in_ok-session.ensures.opened.valid;
+  is = (c.in_ok-session.ensures.opened.valid, tt);
   gives = ap (λ n. record { code = n; place = 0 }) (c.from.ensures ∙ c.code.ensures);
 }
 

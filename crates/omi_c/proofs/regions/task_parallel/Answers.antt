@@ -4,7 +4,7 @@ use Rattle.omi_handle.specs.declared.handle.Kind.TheVariants as object
 use Rattle.omi_ask.specs.Regions as regions
 use Rattle.omi_session.specs.Inquiry as part
 use Rattle.omi_session.specs.Made.{region_pair, as_pair}
-use Rattle.omi_c.specs.Replies.{Spells}
+use Rattle.omi_c.specs.Replies.{TakesSome, Spells}
 use Rattle.omi_c.specs.Answers.{found_of, found_by}
 use Rattle.omi_c.proofs.Closed.{closed_spells}
 use Rattle.omi_c.proofs.Asked.{made_over}
@@ -12,12 +12,12 @@ use Rattle.omi_c.proofs.regions.task_parallel.Goals as goal
 
 pub returns-in-Ok : goal.returns-in-Ok
 returns-in-Ok g c =
-    c.found_region.ensures c.args.table.now _
+    c.found_region.ensures c.args.table.now c.args.known.now _
     (made_over c.args.table.now c.args.known.now c.in-Ok.s _ c.in-Ok.ensures.opened (part.object_at c.args.table.now object.Task c.args.task.addr c.args.task.life)
     regions.region_of_task (get c.in-Ok.s.handles.held (c.task.result.key, c.task.result.serial)) (as_pair region_pair c.get_task_parallel_handle-found.result)
     (ap (get c.in-Ok.s.handles.held) c.task.ensures ∙ c.in-Ok.ensures.held) c.get_task_parallel_handle-found.ensures.answer c.get_task_parallel_handle-found.ensures.stays)
 
 pub returns-in-Err : goal.returns-in-Err
 returns-in-Err g c =
-    subst (Spells found_of c.args.table.now c.args.known.now _) (sym c.refused.ensures)
-    (closed_spells c.args.table.now c.args.known.now _ found_of found_by (λ cause is. refl) c.in-Err.refusal c.in-Err.ensures.refused)
+    subst (Spells TakesSome found_of c.args.table.now c.args.known.now _) (sym c.refused.ensures)
+    (closed_spells TakesSome c.args.table.now c.args.known.now _ found_of found_by (λ cause is. refl) c.in-Err.refusal c.in-Err.ensures.refused)

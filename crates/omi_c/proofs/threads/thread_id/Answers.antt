@@ -3,7 +3,7 @@ use Rattle.std.specs.FinMap.{get}
 use Rattle.omi_handle.specs.declared.handle.Kind.TheVariants as object
 use Rattle.omi_ask.specs.Threads as threads
 use Rattle.omi_session.specs.Inquiry as part
-use Rattle.omi_c.specs.Replies.{Spells}
+use Rattle.omi_c.specs.Replies.{TakesSome, Spells}
 use Rattle.omi_c.specs.Answers.{number_of, number_by, refusal_of}
 use Rattle.omi_c.proofs.Closed.{closed_spells, first_unopened}
 use Rattle.omi_c.proofs.Asked.{asked_over}
@@ -11,12 +11,12 @@ use Rattle.omi_c.proofs.threads.thread_id.Goals as goal
 
 pub returns-in-Ok : goal.returns-in-Ok
 returns-in-Ok g c =
-    c.number.ensures c.args.table.now _
+    c.number.ensures TakesSome c.args.table.now c.args.known.now _
     (asked_over c.args.table.now c.args.known.now c.in-Ok.s _ c.in-Ok.ensures.opened (part.object_at c.args.table.now object.Thread c.args.thread.addr c.args.thread.life)
     (λ w t. threads.native_id w c.args.kind t) (get c.in-Ok.s.handles.held (c.thread.result.key, c.thread.result.serial)) c.get_thread_id-answer.result
     (ap (get c.in-Ok.s.handles.held) c.thread.ensures ∙ c.in-Ok.ensures.held) c.get_thread_id-answer.ensures.answer c.get_thread_id-answer.ensures.same)
 
 pub returns-in-Err : goal.returns-in-Err
 returns-in-Err g c =
-    subst (Spells number_of c.args.table.now c.args.known.now _) (sym c.refused.ensures)
-    (closed_spells c.args.table.now c.args.known.now _ number_of (λ r. number_by r 0) (λ cause is. ap (number_by (refusal_of cause)) (first_unopened c.args.table.now c.args.known.now cause is)) c.in-Err.refusal c.in-Err.ensures.refused)
+    subst (Spells TakesSome number_of c.args.table.now c.args.known.now _) (sym c.refused.ensures)
+    (closed_spells TakesSome c.args.table.now c.args.known.now _ number_of (λ r. number_by r 0) (λ cause is. ap (number_by (refusal_of cause)) (first_unopened TakesSome c.args.table.now cause is)) c.in-Err.refusal c.in-Err.ensures.refused)

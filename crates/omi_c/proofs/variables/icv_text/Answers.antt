@@ -10,12 +10,13 @@ use Rattle.omi_c.proofs.Scoping.{scoped_reads, text_alike}
 use Rattle.omi_icv.specs.Written.{as_bytes}
 use Rattle.std.specs.Prelude.{string_bytes}
 use Rattle.omi_c.proofs.Scoped.{text_closed}
+use Rattle.omi_c.specs.Replies.{TakesSome}
 use Rattle.omi_c.proofs.variables.icv_text.Goals as goal
 
 pub returns-in-Ok : goal.returns-in-Ok
 returns-in-Ok g c =
     let inquiry : Handles → Scoped → Reads (List ℕ) = (λ held of. icv_string_from_scope c.args.table.now held of c.args.icv) in
-    c.text.ensures c.args.table.now _
+    c.text.ensures TakesSome c.args.table.now c.args.known.now _
     (written_reads c.args.table.now c.args.known.now c.in-Ok.s _ c.in-Ok.ensures.opened
     (icv_string_from_scope c.in-Ok.s.layout (get c.in-Ok.s.handles.held) c.in-Ok.of c.args.icv) (reads_of c.args.table.now c.args.scope c.args.object inquiry) (as_bytes string_bytes c.get_icv_string_from_scope-answer.result)
     (ap (λ w. icv_string_from_scope w (get c.in-Ok.s.handles.held) c.in-Ok.of c.args.icv) c.in-Ok.ensures.opened.layout
