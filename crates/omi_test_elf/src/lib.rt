@@ -1,4 +1,5 @@
-//! Tests of omi_elf: ELF core files written by hand, each fault at each of its turns, and a file in odd orders.
+//! Tests of omi_elf and omi_read: ELF core files written by hand, each fault at each of its turns, a file in odd orders, and files of which
+//! pieces are read.
 #![tactic(auto)]
 
 #[cfg(test)]
@@ -9,3 +10,5 @@ mod fault_tests;
 mod file_tests;
 #[cfg(test)]
 mod files;
+#[cfg(test)]
+mod reading_tests;
