@@ -11,7 +11,8 @@ use Rattle.omi_top.specs.Audit.{IsAudited}
 use Rattle.omi_top.specs.Cores.{HasLayout, HasWrongTable, IsIncompatible, IsWrongTable, LacksTable, Spells, words_of_core}
 use Rattle.omi_top.specs.Questions.{IsLayoutRefusal, refusal_of_layout}
 use Rattle.omi_top.specs.Files.{HasFault}
-use Rattle.omi_top.proofs.Files.{fault_told, file_not_refused, file_unique, told_status}
+use Rattle.omi_top.proofs.Files.{fault_told, file_not_refused, told_status}
+use Rattle.omi_page.proofs.OpenedFiles.{file_unique}
 use Rattle.omi_top.proofs.ShowVerdicts.{either_table, lacking_status, one_refusal, wrong_status}
 use Rattle.omi_frame.specs.Refusal.{status_of}
 use Rattle.omi_frame.specs.declared.refusal.Input.TheVariants as input

@@ -26,7 +26,12 @@ use Rattle.omi_frame.specs.declared.refusal.Refusal.{Refusal}
 use Rattle.omi_frame.specs.declared.refusal.Refusal.TheVariants as refusal
 use Rattle.omi_frame.proofs.Elsewhere.{late}
 
--- ---- a file that can't be read
+-- ---- a file that isn't there, or can't be read
+
+pub unread : (content : Option (List ℕ)) (r : Refusal) → ((r ≡ refusal.NoFile input.Core) × (content ≡ None)) ⊎ IsUnread input.Core r
+    → IsCoreRefusal content r ⊎ IsUnread input.Core r
+unread content r (inl (missing, none)) = inl (subst (λ (c : Option (List ℕ)). IsCoreRefusal c r) (sym none) missing)
+unread content r (inr failed) = inr failed
 
 pub unread_kind : (r : Refusal) → (r ≡ refusal.NoFile input.Core) ⊎ IsUnread input.Core r → IsOfCoreFile r
 unread_kind r (inl missing) = subst IsOfCoreFile (sym missing) tt

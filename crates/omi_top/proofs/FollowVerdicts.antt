@@ -14,7 +14,8 @@ use Rattle.omi_top.specs.Follow.{AreUnlike, IsFollowed, IsLaterRefusal, IsUnfoll
 use Rattle.omi_commands.specs.Fates.{look_fates}
 use Rattle.omi_top.specs.Questions.{refusal_of_layout}
 use Rattle.omi_commands.specs.Inquiries.{refusal_of_look}
-use Rattle.omi_top.proofs.Files.{file_not_refused, file_unique, one_told}
+use Rattle.omi_top.proofs.Files.{file_not_refused, one_told}
+use Rattle.omi_page.proofs.OpenedFiles.{file_unique}
 use Rattle.omi_top.proofs.ShowVerdicts.{one_refusal, one_view, report_not_refused}
 use Rattle.omi_frame.specs.declared.refusal.Refusal.{Refusal}
 

@@ -32,7 +32,8 @@ use Rattle.omi_top.proofs.Opening.{cause_refusal, tells_core}
 use Rattle.omi_frame.specs.Left.{IsAnswered, IsEarly}
 use Rattle.omi_top.specs.Command.{Follow}
 use Rattle.omi_top.specs.Cores.{IsLooked, words_of_core}
-use Rattle.omi_top.specs.Files.{IsFileOf, IsFileRefusal}
+use Rattle.omi_top.specs.Files.{IsFileRefusal}
+use Rattle.omi_page.specs.CoreFiles.{IsFileOf}
 use Rattle.omi_top.specs.Follow.{AreFates, AreFatesOf, IsFollowed, IsKept, IsLaterRefusal, KeepsTasks, of_later, kept_in}
 use Rattle.omi_commands.specs.Fates.{AreLines, HoldsEach, look_fates}
 use Rattle.omi_top.specs.Questions.{IsAnswerOf, refusal_of_layout}

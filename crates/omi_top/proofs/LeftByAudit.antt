@@ -16,8 +16,9 @@ use Rattle.omi_top.specs.Audit.{IsAudited, ShowsWhereYes, audit_line}
 use Rattle.omi_top.specs.Command.{Audit}
 use Rattle.omi_top.specs.Cores.{HasLayout, HasWrongTable, IsIncompatible, ShowsReached, Spells, words_of_core}
 use Rattle.omi_top.proofs.AuditVerdicts.{Declining, all_declining, audited_layout, faulty, incompatible as incompatible_refused, layout_not_refused, missing, refused_by_show, says_wrong, wrong}
-use Rattle.omi_top.specs.Files.{HasFault, IsFileOf}
-use Rattle.omi_top.proofs.Files.{file_unique}
+use Rattle.omi_top.specs.Files.{HasFault}
+use Rattle.omi_page.specs.CoreFiles.{IsFileOf}
+use Rattle.omi_page.proofs.OpenedFiles.{file_unique}
 use Rattle.omi_top.proofs.ShowVerdicts.{says_core, says_incompatible, says_missing}
 use Rattle.omi_frame.proofs.Statuses.{DidMore, DoesMore, IsDoneStatus, one_content, comes_where, never_refused as nothing_refused, written_more}
 use Rattle.omi_frame.specs.Refusal.{status_of}

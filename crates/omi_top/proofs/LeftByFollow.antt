@@ -15,7 +15,7 @@ use Rattle.omi_top.specs.Between.{AreOfOneRun, AreStops, IsFollowedFrom, events_
 use Rattle.omi_top.specs.Command.{Follow}
 use Rattle.omi_top.specs.declared.plan.Plan.{Plan}
 use Rattle.omi_top.proofs.Between.{followed_stops}
-use Rattle.omi_top.specs.Files.{IsFileOf}
+use Rattle.omi_page.specs.CoreFiles.{IsFileOf}
 use Rattle.omi_top.proofs.Files.{core_is_file}
 use Rattle.omi_top.proofs.FollowVerdicts.{follow_not_refused, one_follow_answer, one_follow_refusal}
 use Rattle.omi_frame.proofs.Statuses.{DidMore, DoesMore, IsDoneStatus, one_content, comes_where, never_refused, written_more}

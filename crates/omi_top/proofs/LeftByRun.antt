@@ -21,7 +21,8 @@ use Rattle.omi_top.specs.declared.plan.Plan.{Plan}
 use Rattle.omi_frame.specs.declared.refusal.Refusal.{Refusal}
 use Rattle.omi_top.proofs.LeftByShow.{HasReport, looked_shown, not_refused, run_shown, shown_looked}
 use Rattle.omi_top.specs.Files.{HasFault}
-use Rattle.omi_top.proofs.Files.{core_is_file, file_unique}
+use Rattle.omi_top.proofs.Files.{core_is_file}
+use Rattle.omi_page.proofs.OpenedFiles.{file_unique}
 use Rattle.omi_top.proofs.ShowVerdicts.{Refusing, all_refusing, damaged as damaged_refused, faulty, incompatible as incompatible_refused, kinds, missing, report_not_refused, says_core, says_damaged, says_incompatible, says_missing}
 use Rattle.omi_frame.proofs.Statuses.{DidMore, DoesMore, SaysWith, comes_where, never_refused as nothing_refused, one_content}
 use Rattle.omi_top.specs.CommandVerbs.{AreTold, IsAnswer, verb_of}

@@ -25,11 +25,13 @@ use Rattle.omi_frame.specs.Refusal.{status_of}
 use Rattle.omi_commands.specs.Cores.{IsReachedCore, thread_ids}
 use Rattle.omi_calls.proofs.ImageWords.{image_words}
 use Rattle.omi_rep.proofs.shown.ShownViews.{shown_looked as shown_look}
-use Rattle.omi_top.specs.Files.{HasFault, IsFileOf}
+use Rattle.omi_top.specs.Files.{HasFault}
+use Rattle.omi_page.specs.CoreFiles.{IsFileOf}
 use Rattle.omi_top.specs.CommandVerbs.{AreTold, IsAnswer, verb_of}
 use Rattle.omi_top.specs.verbs.Show.{IsReportOf, IsShowAnswer, IsShowRefusal, IsReported, IsShown, ShowPromise}
 use Rattle.omi_top.specs.verbs.Stop.{IsStopped}
-use Rattle.omi_top.proofs.Files.{core_is_file, file_unique}
+use Rattle.omi_top.proofs.Files.{core_is_file}
+use Rattle.omi_page.proofs.OpenedFiles.{file_unique}
 use Rattle.omi_top.proofs.ShowVerdicts.{Refusing, all_refusing, damaged as damaged_refused, faulty, incompatible as incompatible_refused, missing, one_looked, one_view, report_not_refused, says_core, says_damaged, says_incompatible, says_missing}
 use Rattle.omi_top.proofs.Recoded.{one_report, recoded_alike, report_alike}
 use Rattle.omi_frame.proofs.Statuses.{DidMore, DoesMore, IsDoneStatus, one_content, comes_where, never_refused as nothing_refused, written_more}

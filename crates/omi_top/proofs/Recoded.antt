@@ -18,10 +18,11 @@ use Rattle.omi_frame.specs.Verb.{Answer, Gives}
 use Rattle.omi_top.specs.verbs.Show.{IsReportOf, IsShowAnswer, IsShowRefusal}
 use Rattle.omi_top.specs.Cores.{IsLooked, Spells, words_of_core, AreAlike}
 use Rattle.omi_top.specs.Elf.{IsElfCopy}
-use Rattle.omi_top.specs.Files.{IsFileOf}
+use Rattle.omi_page.specs.CoreFiles.{IsFileOf}
 use Rattle.omi_top.specs.Recode.{IsRecoded}
 use Rattle.omi_top.specs.Recoded.{HaveOneAnswer}
-use Rattle.omi_top.proofs.Files.{core_is_file, elf_is_file, file_not_refused, file_unique}
+use Rattle.omi_top.proofs.Files.{core_is_file, elf_is_file, file_not_refused}
+use Rattle.omi_page.proofs.OpenedFiles.{file_unique}
 use Rattle.omi_top.specs.Shown.{IsRefusedCore}
 use Rattle.omi_top.proofs.ShowVerdicts.{one_looked, one_refusal, one_view, report_not_refused}
 use Rattle.omi_frame.specs.declared.refusal.Refusal.{Refusal}

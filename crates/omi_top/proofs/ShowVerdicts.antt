@@ -13,7 +13,8 @@ use Rattle.omi_rep.specs.LookView.{look_view}
 use Rattle.omi_rep.specs.declared.fault.LookFault.{LookFault}
 use Rattle.omi_rep.specs.declared.fault.LookFault.TheVariants as look
 use Rattle.omi_top.specs.verbs.Show.{IsShowRefusal}
-use Rattle.omi_top.proofs.Files.{fault_told, file_not_refused, file_unique, one_told, says_fault, told_status}
+use Rattle.omi_top.proofs.Files.{fault_told, file_not_refused, one_told, says_fault, told_status}
+use Rattle.omi_page.proofs.OpenedFiles.{file_unique}
 use Rattle.omi_top.specs.Files.{HasFault}
 use Rattle.omi_top.specs.Cores.{IsDamaged, IsIncompatible, IsLooked, IsWrongTable, LacksTable, Spells, words_of_core}
 use Rattle.omi_top.specs.Questions.{refusal_of_layout}

@@ -20,7 +20,7 @@ use Rattle.omi_rep.specs.Shows.{Shows}
 use Rattle.omi_rep.specs.declared.fault.LookFault.{LookFault}
 use Rattle.omi_script.specs.declared.program.Program.{Program}
 use Rattle.omi_rep.specs.ShownLooks.{AreNames}
-use Rattle.omi_top.specs.Files.{IsFileOf}
+use Rattle.omi_page.specs.CoreFiles.{IsFileOf}
 
 -- the words of a core by their addresses: those of its segments, none at an unaligned address
 abbrev pub words_of_core : CoreImage → Words

@@ -9,7 +9,8 @@ use Rattle.omi_page.specs.declared.fault.PageError.{PageError}
 use Rattle.omi_page.specs.declared.fault.PageError.TheVariants as page
 use Rattle.omi_top.specs.Cores.{words_of_core}
 use Rattle.omi_elf.specs.Header.{begins_as_elf}
-use Rattle.omi_top.specs.Files.{IsCoreBy, IsFaultBy, IsRefusalBy}
+use Rattle.omi_top.specs.Files.{IsFaultBy, IsRefusalBy}
+use Rattle.omi_page.specs.CoreFiles.{IsCoreBy}
 use Rattle.omi_commands.specs.Inquiries.{ComesOfWords}
 use Rattle.omi_frame.specs.Refusal.{IsUnread}
 use Rattle.omi_frame.specs.declared.refusal.Input.TheVariants as input
@@ -21,6 +22,7 @@ use Rattle.omi_frame.specs.declared.refusal.Refusal.TheVariants as refusal
 -- the error of opening a core's file
 abbrev pub refusal_of_page : PageError → Refusal
 refusal_of_page (page.Fault at why) = refusal.Core at why
+refusal_of_page (page.Elf at why) = refusal.Elf at why
 refusal_of_page page.NoFile = refusal.NoFile input.Core
 refusal_of_page page.Failed = refusal.ReadFault input.Core
 refusal_of_page page.OutOfMemory = refusal.OutOfMemory

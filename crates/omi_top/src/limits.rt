@@ -1,7 +1,6 @@
 //! The limits of commands. Each stands here alone: definitions, code and proofs name it.
 
 use omi_corefile::MOST_BYTES;
-use omi_elf::MOST_ELF_BYTES;
 
 /// The most steps of a run.
 pub const MOST_STEPS: u64 = 1_000_000;
@@ -17,6 +16,3 @@ pub const MOST_NODES: u64 = 1_000;
 
 /// The most bytes that are read of a core that is read whole: one more than a core may have.
 pub const CORE_FRONT: u64 = MOST_BYTES + 1;
-
-/// The most bytes that are read of an ELF core file: one more than it may have.
-pub const ELF_FRONT: u64 = MOST_ELF_BYTES + 1;

@@ -1,6 +1,6 @@
-//! What a command asks of the words of a core: those of an ELF file are read whole, and those of another one page by page.
+//! What a command asks of the words of a core, which are read page by page.
 
-ghost use Rattle.std.specs.Prelude.{◌≡◌, ◌⊎◌, ◌≤◌, Err, IfErr, IfOk, IsErrAnd, List, None, Option, Result, Some, false, length, true, ℕ};
+ghost use Rattle.std.specs.Prelude.{◌≡◌, ◌≤◌, IfErr, IsErrAnd, List, Option, Result, Some, length, ℕ};
 ghost use Rattle.omi_calls.specs.Kept.{GivesNumbers, IsOrderOf, TakesAll};
 ghost use Rattle.omi_calls.specs.Memory.{told_by};
 ghost use Rattle.omi_corefile.specs.ByteOrder.{number_of};
@@ -8,17 +8,14 @@ ghost use Rattle.omi_corefile.specs.declared.core_image.CoreImage.{CoreImage};
 ghost use Rattle.omi_outside.specs.Outside.{HasCause};
 ghost use Rattle.omi_page.specs.Borrowed.{faults_counted, told_of};
 ghost use Rattle.omi_page.specs.Lending.{IsLent};
-ghost use Rattle.omi_top.specs.Files.{Holds, IsKind, IsRefusalBy};
-ghost use Rattle.omi_top.specs.Questions.{ComesOfFile, IsAnswerBy, IsAnswerOf, refusal_of_page};
+ghost use Rattle.omi_top.specs.Questions.{ComesOfFile, IsAnswerOf, refusal_of_page};
 ghost use Rattle.omi_commands.specs.Inquiries.{ComesOfWords};
-ghost use Rattle.omi_frame.specs.Refusal.{IsReadFault, IsUnread};
+ghost use Rattle.omi_frame.specs.Refusal.{IsReadFault};
 ghost use Rattle.omi_frame.specs.declared.refusal.Refusal.{Refusal as Why};
 
-use crate::limits::ELF_FRONT;
-use omi_calls::{Callbacks, CoreCalls, ToHost};
-use omi_corefile::{CoreImage, number_of};
-use omi_elf::{ELF_MAGIC, decode_elf};
-use omi_frame::{Input, Refusal, load};
+use omi_calls::{Callbacks, ToHost};
+use omi_corefile::number_of;
+use omi_frame::{Input, Refusal};
 use omi_outside::Files;
 use omi_page::{LentPages, Loan, PageError, Pages, open};
 use omi_word::Natives;
@@ -59,6 +56,7 @@ fn refusal_of_page(error: PageError) -> Refusal
 {
     match error {
         PageError::Fault { at, why } => Refusal::Core(at, why),
+        PageError::Elf { at, why } => Refusal::Elf(at, why),
         PageError::NoFile => Refusal::NoFile(Input::Core),
         PageError::Failed => Refusal::ReadFault(Input::Core),
         PageError::OutOfMemory => Refusal::OutOfMemory,
@@ -114,15 +112,15 @@ fn ask_pages<'a, F: Files, L: Loan, Q: Question>(
     (answer, lent.into_pages())
 }
 
-/// Asks it of the core in a file that is read page by page.
-fn ask_core<F: Files, Q: Question>(
+/// Asks it of the core in a file, a core file or an ELF core file, which is read page by page.
+pub fn ask_file<F: Files, Q: Question>(
     alloc: Global,
     question: Q,
     core: &str,
     files: &mut F,
 ) -> Result<Q::Answer, Refusal>
     ensures answered { (content : Option (List ℕ)) → F.told files.old core.now ≡ Some content
-        → IsAnswerBy false (Q.answers question) content result }
+        → IsAnswerOf (Q.answers question) content result }
     ensures comes { IfErr result ComesOfFile }
     ensures read { HasCause (F.reads files.old) (F.reads files.new)
         (IsErrAnd result IsReadFault) }
@@ -138,93 +136,4 @@ fn ask_core<F: Files, Q: Question>(
     let (answer, pages) = ask_pages::<F, Brand, Q>(alloc, question, pages, &contexts);
     let _ = pages.into_files();
     answer
-}
-
-/// The core in an ELF file, which is read whole.
-fn elf_in<F: Files>(alloc: Global, core: &str, files: &mut F) -> Result<CoreImage, Refusal>
-    ensures core { (content : Option (List ℕ)) → F.told files.old core.now ≡ Some content
-        → IfOk result (Holds true content) }
-    ensures refused { (content : Option (List ℕ)) → F.told files.old core.now ≡ Some content
-        → IfErr result (λ r. IsRefusalBy true content r ⊎ IsUnread Input.Core r) }
-    ensures comes { IfErr result ComesOfFile }
-    ensures read { HasCause (F.reads files.old) (F.reads files.new)
-        (IsErrAnd result IsReadFault) }
-    ensures files_told { F.told files.new ≡ F.told files.old }
-    ensures files_writes { F.writes files.new ≡ F.writes files.old }
-{
-    let bytes = load(alloc, Input::Core, core, ELF_FRONT, files)?;
-    let core = decode_elf(alloc, &bytes)?;
-    Ok(core)
-}
-
-/// Asks it of the words of a core in memory.
-fn ask_words<Q: Question>(alloc: Global, question: Q, core: CoreImage) -> Result<Q::Answer, Refusal>
-    ensures answered { Q.answers question core result ⊎ (result ≡ Err Refusal.OutOfMemory) }
-    ensures words { IfErr result ComesOfWords }
-    ensures read { IsErrAnd result IsReadFault → ⊥ }
-{
-    let order = core.order;
-    let contexts = core.contexts.same(alloc)?;
-    let calls = CoreCalls::over(alloc, core);
-    let (answer, _) = ask_calls(alloc, question, calls, &contexts, order);
-    answer
-}
-
-/// Asks it of the core in an ELF file.
-fn ask_elf<F: Files, Q: Question>(
-    alloc: Global,
-    question: Q,
-    core: &str,
-    files: &mut F,
-) -> Result<Q::Answer, Refusal>
-    ensures answered { (content : Option (List ℕ)) → F.told files.old core.now ≡ Some content
-        → IsAnswerBy true (Q.answers question) content result }
-    ensures comes { IfErr result ComesOfFile }
-    ensures read { HasCause (F.reads files.old) (F.reads files.new)
-        (IsErrAnd result IsReadFault) }
-    ensures files_told { F.told files.new ≡ F.told files.old }
-    ensures files_writes { F.writes files.new ≡ F.writes files.old }
-{
-    let image = elf_in(alloc, core, files)?;
-    ask_words(alloc, question, image)
-}
-
-/// Whether a file begins with the four bytes of every ELF file.
-fn begins_as_elf<F: Files>(alloc: Global, core: &str, files: &mut F) -> Result<bool, Refusal>
-    ensures begins { (content : Option (List ℕ)) → F.told files.old core.now ≡ Some content
-        → IfOk result (IsKind content) }
-    ensures refused { (content : Option (List ℕ)) → F.told files.old core.now ≡ Some content
-        → IfErr result
-        (λ r. (r ≡ Refusal.NoFile Input.Core × content ≡ None) ⊎ IsUnread Input.Core r) }
-    ensures comes { IfErr result ComesOfFile }
-    ensures read { HasCause (F.reads files.old) (F.reads files.new)
-        (IsErrAnd result IsReadFault) }
-    ensures files_told { F.told files.new ≡ F.told files.old }
-    ensures files_writes { F.writes files.new ≡ F.writes files.old }
-{
-    let front = load(alloc, Input::Core, core, ELF_MAGIC.len() as u64, files)?;
-    Ok(front.starts_with(&ELF_MAGIC))
-}
-
-/// Asks it of the core in a file: an ELF file is read whole, and another one page by page.
-pub fn ask_file<F: Files, Q: Question>(
-    alloc: Global,
-    question: Q,
-    core: &str,
-    files: &mut F,
-) -> Result<Q::Answer, Refusal>
-    ensures answered { (content : Option (List ℕ)) → F.told files.old core.now ≡ Some content
-        → IsAnswerOf (Q.answers question) content result }
-    ensures comes { IfErr result ComesOfFile }
-    ensures read { HasCause (F.reads files.old) (F.reads files.new)
-        (IsErrAnd result IsReadFault) }
-    ensures files_told { F.told files.new ≡ F.told files.old }
-    ensures files_writes { F.writes files.new ≡ F.writes files.old }
-{
-    let is_elf = begins_as_elf(alloc, core, files)?;
-    if is_elf {
-        ask_elf(alloc, question, core, files)
-    } else {
-        ask_core(alloc, question, core, files)
-    }
 }

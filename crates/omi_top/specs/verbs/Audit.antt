@@ -9,7 +9,8 @@ use Rattle.omi_audit.specs.declared.verdict.Verdict.TheVariants.{Yes}
 use Rattle.omi_frame.specs.Statuses.{ComesWhere, IsDoneOrFailed}
 use Rattle.omi_top.specs.Audit.{IsAudited, ShowsWhereYes, audit_line}
 use Rattle.omi_top.specs.Cores.{HasLayout, HasWrongTable, IsIncompatible, ShowsReached, Spells}
-use Rattle.omi_top.specs.Files.{HasFault, IsFileOf, IsFileRefusal}
+use Rattle.omi_top.specs.Files.{HasFault, IsFileRefusal}
+use Rattle.omi_page.specs.CoreFiles.{IsFileOf}
 use Rattle.omi_frame.specs.Verb.{Answer, Gives, Verb}
 use Rattle.omi_frame.specs.declared.refusal.Refusal.{Refusal}
 use Rattle.omi_top.specs.Kinds.{of_core}

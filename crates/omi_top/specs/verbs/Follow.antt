@@ -11,7 +11,7 @@ use Rattle.omi_frame.specs.Verb.{Gives, Answer, Verb}
 use Rattle.omi_frame.specs.declared.refusal.Refusal.{Refusal}
 use Rattle.omi_commands.specs.Cores.{thread_ids}
 use Rattle.omi_top.specs.Between.{AreOfOneRun, AreStops, IsFollowedFrom, events_between}
-use Rattle.omi_top.specs.Files.{IsFileOf}
+use Rattle.omi_page.specs.CoreFiles.{IsFileOf}
 use Rattle.omi_top.specs.declared.plan.Plan.{Plan}
 use Rattle.omi_model.specs.declared.view.View.{View}
 use Rattle.omi_frame.specs.declared.refusal.Input.{Input}

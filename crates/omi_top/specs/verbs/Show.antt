@@ -12,7 +12,8 @@ use Rattle.omi_text.specs.Report.{report}
 use Rattle.omi_frame.specs.Statuses.{ComesWhere, IsDoneOrFailed}
 use Rattle.omi_commands.specs.Cores.{IsReachedCore, thread_ids}
 use Rattle.omi_top.specs.Cores.{AreAlike, IsDamaged, IsIncompatible, IsLooked, ShowsState, Spells}
-use Rattle.omi_top.specs.Files.{HasFault, IsFileOf, IsFileRefusal}
+use Rattle.omi_top.specs.Files.{HasFault, IsFileRefusal}
+use Rattle.omi_page.specs.CoreFiles.{IsFileOf}
 use Rattle.omi_top.specs.Recode.{IsRecoded}
 use Rattle.omi_top.specs.declared.plan.Plan.{Plan}
 use Rattle.omi_frame.specs.Verb.{Answer, Gives, Verb}

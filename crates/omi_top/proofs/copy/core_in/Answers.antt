@@ -1,7 +1,6 @@
-use Rattle.std.proofs.Common.{false, ◌∙◌}
+use Rattle.std.proofs.Common.{◌∙◌}
 use Rattle.std.proofs.lemmas.Result.{err_from_is_err_and}
-use Rattle.omi_top.proofs.Copying.{core_held, core_refused, fault_kind, fault_not_read, unread_kind}
-use Rattle.omi_top.proofs.Files.{unread}
+use Rattle.omi_top.proofs.Copying.{core_held, core_refused, fault_kind, fault_not_read, unread, unread_kind}
 use Rattle.omi_top.proofs.copy.core_in.Goals as goal
 
 -- ---- the file can't be read
@@ -9,7 +8,7 @@ use Rattle.omi_top.proofs.copy.core_in.Goals as goal
 pub returns-in_err-bytes-clause-refused : goal.returns-in_err-bytes-clause-refused
 returns-in_err-bytes-clause-refused g c = λ content told.
     let p = err_from_is_err_and c.from_residual.result c.from_residual.ensures.1 in
-    rw (p.1, p.2) (unread false content c.in_err-bytes.field-0.0 (c.in_err-bytes.ensures.no_file content told))
+    rw (p.1, p.2) (unread content c.in_err-bytes.field-0.0 (c.in_err-bytes.ensures.no_file content told))
 
 pub returns-in_err-bytes-clause-kind : goal.returns-in_err-bytes-clause-kind
 returns-in_err-bytes-clause-kind g c =

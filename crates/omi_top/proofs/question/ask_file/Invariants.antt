@@ -1,4 +1,4 @@
-use Rattle.omi_top.proofs.question.ask_core.Given as goal
+use Rattle.omi_top.proofs.question.ask_file.Given as goal
 
 -- the files that are lent, as they are then
 abbrev pub ghosts-ask_pages : goal.ghosts-ask_pages
