@@ -1,15 +1,17 @@
 -- What a step along a chain of regions or tasks answers, by what the inquiry for the next object does.
-use Rattle.std.specs.Prelude.{◌≡◌, ◌==◌, ◌||◌, ◌⊎◌, ℕ, ◌+◌, ◌≤◌, Bool, true, false, Option, Some, None, Result, Ok, Err}
+use Rattle.std.specs.Prelude.{◌≡◌, ◌==◌, ◌||◌, ◌⊎◌, ℕ, ◌+◌, ◌≤◌, Bool, true, false, Option, Some, None, Result, Ok, Err, IsOk}
 use Rattle.std.specs.FinMap.{get}
 use Rattle.std.specs.Option.{option_map}
 use Rattle.std.specs.Ordering.{nat_cmp}
 use Rattle.std.specs.BTreeSet.{contains}
+use Rattle.omi_calls.specs.Asked.{Asked}
 use Rattle.omi_calls.specs.Told.{Told}
 use Rattle.omi_handle.specs.Ledger.{Ledger}
 use Rattle.omi_handle.specs.declared.handle.Held.{Held}
 use Rattle.omi_handle.specs.declared.handle.Kind.{Kind}
 use Rattle.omi_session.specs.Made.{AddsHandle}
-use Rattle.omi_session.specs.Reads.{Reads, answer_on}
+use Rattle.omi_session.specs.Opened.{Opened}
+use Rattle.omi_session.specs.Reads.{Reads, Ran, answer_on}
 use Rattle.omi_session.specs.Tells.{Tells}
 use Rattle.omi_session.specs.declared.rc.Rc.{Rc}
 use Rattle.omi_session.specs.declared.rc.Rc.TheVariants.{Unavailable, NoMem, CallbackError}
@@ -67,6 +69,33 @@ abbrev pub Steps : Told → (ℕ → Bool) → Ledger → Result (Option (ℕ ×
     → Type 0
 Steps told before new result reads = (memory : Words) → Tells told memory
     → IsStepTo before new result (answer_on memory reads)
+
+-- what a step comes to, by what the reads of its inquiry found. Where memory ran out for a handle, an object was found
+abbrev pub IsStepOf : (ℕ → Bool) → Ledger → Result (Option (ℕ × ℕ)) ChainError → Result Held Rc → Type 0
+IsStepOf before new (Ok (Some pair)) found =
+    record { object : Held; is : found ≡ Ok object; held : get new.held pair ≡ Some object; unmet : before object.addr ≡ false }
+IsStepOf before new (Ok None) found = found ≡ Err Unavailable
+IsStepOf before new (Err (Cycle addr)) found =
+    record { object : Held; is : found ≡ Ok object; at : object.addr ≡ addr; met : before addr ≡ true }
+IsStepOf before new (Err (Refused NoMem)) found = IsOk found
+IsStepOf before new (Err (Refused Unavailable)) found = ⊥
+IsStepOf before new (Err (Refused rc)) found = found ≡ Err rc
+
+-- these reads were made over a memory, and a step came to this by what they found
+pub record IsSteppedBy {C F : Type 0} (told : C → Told) (asked : C → Asked) (memory : Words) (before : ℕ → Bool)
+    (old new : Opened C F) (result : Result (Option (ℕ × ℕ)) ChainError) (reads : Reads Held) : Type 0 where
+  pub found : Result Held Rc
+  pub ran : Ran (told old.table.calls) memory CallbackError reads (asked old.table.calls)
+      (asked new.table.calls) found
+  pub step : IsStepOf before new.handles result found
+
+-- a step asks for the words of these reads on the words that are told, and for no other. Where memory ran out for the record by which the chain comes,
+-- it asks for none
+abbrev pub StepAsks : {C F : Type 0} → (C → Told) → (C → Asked) → (ℕ → Bool) → Opened C F → Opened C F
+    → Result (Option (ℕ × ℕ)) ChainError → Reads Held → Type 0
+StepAsks told asked before old new result reads = (memory : Words) → Tells (told old.table.calls) memory
+    → IsSteppedBy told asked memory before old new result reads
+    ⊎ ((result ≡ Err (Refused NoMem)) × (asked new.table.calls ≡ asked old.table.calls))
 
 -- a step makes a handle of this kind, or leaves those that are held
 abbrev pub MakesStep : Kind → Ledger → Ledger → Result (Option (ℕ × ℕ)) ChainError → Type 0

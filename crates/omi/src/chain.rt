@@ -10,11 +10,10 @@ ghost use Rattle.omi_handle.specs.declared.handle.Held.{Held};
 ghost use Rattle.omi_handle.specs.declared.handle.Kind.{Kind};
 ghost use Rattle.omi_handle.specs.declared.handle.Kind.TheVariants.{Region, Task};
 ghost use Rattle.omi_outside.specs.Outside.{HasCause};
-ghost use Rattle.omi_session.specs.Made.{IsMade, Makes, as_pair, region_pair, task_pair};
-ghost use Rattle.omi_session.specs.Reads.{ReadsAtMost};
+ghost use Rattle.omi_session.specs.Made.{IsMade, Makes, StandsFor, as_pair, region_pair, task_pair};
 ghost use Rattle.omi_session.specs.declared.rc.Rc.{Rc};
 ghost use Rattle.omi_session.specs.Opened.{Stays};
-ghost use Rattle.omi.specs.Chains.{ComesBy, IsCallbackError, IsStepTo, MakesStep, StaysBy, StepComesBy, Steps, as_step, came_by};
+ghost use Rattle.omi.specs.Chains.{ComesBy, IsCallbackError, IsStepOf, IsStepTo, MakesStep, StaysBy, StepAsks, StepComesBy, Steps, as_step, came_by};
 
 use omi_ask::get_enclosing_parallel_handle;
 use omi_asktask::{get_generating_task_handle, get_scheduling_task_handle};
@@ -116,6 +115,8 @@ impl Chain {
     ) -> Result<Option<(u64, u64)>, ChainError>
         ensures answer { (answer : prelude.Result Held Rc) → IsMade s.old.handles made answer
             → IsStepTo (came_by self.now) s.new.handles result answer }
+        ensures step { (found : prelude.Result Held Rc) → StandsFor s.old.handles made found
+            → IsStepOf (came_by self.now) s.new.handles result found }
         ensures handles { (kind : Kind) (before : Ledger) → Makes kind before s.old.handles made
             → MakesStep kind before s.new.handles result }
         ensures layout { s.new.layout ≡ s.old.layout }
@@ -146,7 +147,8 @@ impl Chain {
         ensures answer { Steps (C.told s.old.table.calls) (came_by self.new) s.new.handles
             (as_step region_pair result)
             (enclosing_region s.old.layout (get s.old.handles.held (region_pair r))) }
-        ensures reads { ReadsAtMost C.told C.asked s.old s.new
+        ensures reads { StepAsks C.told C.asked (came_by self.new) s.old s.new
+            (as_step region_pair result)
             (enclosing_region s.old.layout (get s.old.handles.held (region_pair r))) }
         ensures records { StepComesBy self.old self.new (get s.old.handles.held (region_pair r))
             result }
@@ -171,7 +173,8 @@ impl Chain {
         ensures answer { Steps (C.told s.old.table.calls) (came_by self.new) s.new.handles
             (as_step task_pair result)
             (scheduling_task s.old.layout (get s.old.handles.held (task_pair k))) }
-        ensures reads { ReadsAtMost C.told C.asked s.old s.new
+        ensures reads { StepAsks C.told C.asked (came_by self.new) s.old s.new
+            (as_step task_pair result)
             (scheduling_task s.old.layout (get s.old.handles.held (task_pair k))) }
         ensures records { StepComesBy self.old self.new (get s.old.handles.held (task_pair k))
             result }
@@ -196,7 +199,8 @@ impl Chain {
         ensures answer { Steps (C.told s.old.table.calls) (came_by self.new) s.new.handles
             (as_step task_pair result)
             (generating_task s.old.layout (get s.old.handles.held (task_pair k))) }
-        ensures reads { ReadsAtMost C.told C.asked s.old s.new
+        ensures reads { StepAsks C.told C.asked (came_by self.new) s.old s.new
+            (as_step task_pair result)
             (generating_task s.old.layout (get s.old.handles.held (task_pair k))) }
         ensures records { StepComesBy self.old self.new (get s.old.handles.held (task_pair k))
             result }

@@ -1,11 +1,13 @@
-use Rattle.std.proofs.Common.{sym, ap, subst}
+use Rattle.std.proofs.Common.{inl, inr, refl, sym, ap, subst, ◌∙◌}
+use Rattle.std.specs.Prelude.{Err}
 use Rattle.std.proofs.lemmas.Result.{err_from_is_err_and}
 use Rattle.omi_handle.specs.declared.handle.Kind.TheVariants.{Region}
 use Rattle.std.specs.FinMap.{get}
 use Rattle.omi_ask.specs.Regions.{enclosing_region}
-use Rattle.omi_session.specs.Made.{IsMade, Makes, region_pair}
+use Rattle.omi_session.specs.Made.{IsMade, Makes, StandsFor, region_pair}
 use Rattle.omi_session.specs.Reads.{answer_on}
-use Rattle.omi_session.proofs.Handed.{answered_is, answered_most}
+use Rattle.omi_session.proofs.Handed.{answered_is}
+use Rattle.omi.specs.Chains.{as_step}
 use Rattle.omi.proofs.chain.Chain.enclosing.Goals as goal
 
 pub returns-in_err-next-clause-handles : goal.returns-in_err-next-clause-handles
@@ -30,10 +32,28 @@ returns-clause-answer g c = λ memory tells.
     let made = subst (λ made. IsMade c.get_enclosing_parallel_handle.new.s.handles made (answer_on memory (enclosing_region c.args.s.now.layout (get c.args.s.now.handles.held (region_pair c.args.r))))) (sym c.of_region-made.ensures) (answered_is c.get_enclosing_parallel_handle.ensures.answer memory tells) in
     rw c.region_at.ensures (c.in_ok-next.ensures.answer (answer_on memory (enclosing_region c.args.s.now.layout (get c.args.s.now.handles.held (region_pair c.args.r)))) made)
 
+pub returns-in_err-add-clause-reads : goal.returns-in_err-add-clause-reads
+returns-in_err-add-clause-reads g c = λ memory tells.
+    let p = err_from_is_err_and c.from_residual.result c.from_residual.ensures.1 in
+    inr (ap (as_step region_pair) (p.1 ∙ ap Err (p.2 ∙ c.in_err-add.ensures.memory)), refl)
+
 pub returns-in_err-next-clause-reads : goal.returns-in_err-next-clause-reads
 returns-in_err-next-clause-reads g c = λ memory tells.
-    rw (ap (λ k. g.C.Callbacks.asked k.calls) c.judged.ensures.table) (answered_most c.get_enclosing_parallel_handle.ensures.answer memory tells)
+    let by = c.get_enclosing_parallel_handle.ensures.answer.ran memory tells in
+    let stands = subst (λ made. StandsFor c.get_enclosing_parallel_handle.new.s.handles made by.found) (sym c.of_region-made.ensures) by.stands in
+    let p = err_from_is_err_and c.from_residual-in_err-next.result c.from_residual-in_err-next.ensures.1 in
+    inl (record {
+      found = by.found;
+      ran = rw (ap (λ k. g.C.Callbacks.asked k.calls) c.judged.ensures.table) by.ran;
+      step = rw (p.1, p.2) (c.in_err-next.ensures.step by.found stands);
+    })
 
 pub returns-clause-reads : goal.returns-clause-reads
 returns-clause-reads g c = λ memory tells.
-    rw (ap (λ k. g.C.Callbacks.asked k.calls) c.judged.ensures.table) (answered_most c.get_enclosing_parallel_handle.ensures.answer memory tells)
+    let by = c.get_enclosing_parallel_handle.ensures.answer.ran memory tells in
+    let stands = subst (λ made. StandsFor c.get_enclosing_parallel_handle.new.s.handles made by.found) (sym c.of_region-made.ensures) by.stands in
+    inl (record {
+      found = by.found;
+      ran = rw (ap (λ k. g.C.Callbacks.asked k.calls) c.judged.ensures.table) by.ran;
+      step = rw c.region_at.ensures (c.in_ok-next.ensures.step by.found stands);
+    })
