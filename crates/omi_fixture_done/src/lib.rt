@@ -2,7 +2,7 @@
 #![tactic(auto)]
 
 mod done;
-mod words;
+mod line;
 
 pub use done::Done;
-pub use words::{split, words};
+pub use line::{split, words};
