@@ -1,4 +1,4 @@
-//! Tests of omi_corefile, omi_calls and omi_page: the bytes of cores, callbacks over a core, and a core read page by page.
+//! Tests of omi_corefile, omi_calls and omi_page: the bytes of cores, callbacks over a core, and cores read page by page.
 #![tactic(auto)]
 
 #[cfg(test)]
@@ -7,6 +7,8 @@ mod call_tests;
 mod corefile_tests;
 #[cfg(test)]
 mod cores;
+#[cfg(test)]
+mod elf_page_tests;
 #[cfg(test)]
 mod headers;
 #[cfg(test)]
