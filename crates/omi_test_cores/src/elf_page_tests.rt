@@ -94,6 +94,7 @@ fn faults_of_an_elf_file(rt: HostRuntime) -> Result<(), Fail> {
             let error = refusal(rt.alloc(), &bytes, &[])?;
             assert_eq!(rt; error, Some(PageError::Elf { at: *at, why: *why }));
         }
+        assert!(rt; whole.len() >= 1);
         let short = whole.len() as u64 - 1;
         let error = refusal(rt.alloc(), &whole[..whole.len() - 1], &[])?;
         let why = ElfFault::Short(short);
