@@ -123,19 +123,20 @@ fn failing_reads(
 fn each_read_of_a_core(rt: HostRuntime) -> Result<(), Fail> {
     let alloc = rt.alloc();
     let core = core_of(alloc, "0", AN_EMPTY_RUN)?;
-    assert_eq!(rt; failing_reads(&rt, alloc, &core, Call::Size)?, 2);
+    assert_eq!(rt; failing_reads(&rt, alloc, &core, Call::Size)?, 1);
     let reads = failing_reads(&rt, alloc, &core, Call::ReadAt)?;
     assert!(rt; 3 < reads && reads < MANY, "{reads}");
     Ok(())
 }
 
-/// An ELF file is read whole, behind its first four bytes: 68,220 bytes are seventeen pieces.
+/// Of an ELF file the first four bytes, the header, the program headers, the note and its ids are one read each, and then come the pages.
 #[test]
 fn each_read_of_an_elf_file(rt: HostRuntime) -> Result<(), Fail> {
     let alloc = rt.alloc();
     let core = core_of(alloc, "0", AN_EMPTY_RUN)?;
     let file = call(alloc, &["elf", "c", "d"], "", &core, NONE)?.left(alloc, "d")?;
-    assert_eq!(rt; failing_reads(&rt, alloc, &file, Call::Size)?, 2);
-    assert_eq!(rt; failing_reads(&rt, alloc, &file, Call::ReadAt)?, 18);
+    assert_eq!(rt; failing_reads(&rt, alloc, &file, Call::Size)?, 1);
+    let reads = failing_reads(&rt, alloc, &file, Call::ReadAt)?;
+    assert!(rt; 5 < reads && reads < MANY, "{reads}");
     Ok(())
 }

@@ -206,11 +206,11 @@ fn each_read_of_both_cores(rt: HostRuntime) -> Result<(), Fail> {
     let first = core_of(alloc, "48", TWO_TASKS)?;
     let later = core_of(alloc, "107", TWO_TASKS)?;
     let cores = Cores::of(&first, &later);
-    assert_eq!(rt; failing_reads(&rt, alloc, cores, Call::Size)?, (2, 2));
+    assert_eq!(rt; failing_reads(&rt, alloc, cores, Call::Size)?, (1, 1));
     let (of_first, of_later) = failing_reads(&rt, alloc, cores, Call::ReadAt)?;
     assert!(&rt; 3 < of_first && 3 < of_later && of_later < MANY);
     // Where a read of each fails, the first decides.
-    let reads = [(Call::ReadAt, of_first), (Call::Size, 3)];
+    let reads = [(Call::ReadAt, of_first), (Call::Size, 2)];
     let done = call(alloc, &["follow", "c", "d"], cores, &reads, &[])?;
     expect_done(&rt, &done, Status::ReadFault, "read fault c\n");
     Ok(())
