@@ -11,6 +11,10 @@ pub use compare::{
 };
 pub use ids::{region_id, thread_number};
 pub use regions::{
-    get_curr_parallel_handle, get_enclosing_parallel_handle, get_task_parallel_handle,
+    current_region_of, enclosing_region_of, get_curr_parallel_handle,
+    get_enclosing_parallel_handle, get_task_parallel_handle, region_of_task_of,
 };
-pub use threads::{get_thread_handle, get_thread_id, get_thread_in_parallel};
+pub use threads::{
+    get_thread_handle, get_thread_id, get_thread_in_parallel, native_id_of, thread_of_member_of,
+    thread_with,
+};

@@ -1,10 +1,10 @@
 //! The inquiries that find a region.
 
-ghost use Rattle.std.specs.Prelude.{◌≡◌, ◌≢◌, ◌+◌, ◌-◌, ◌^◌, ◌<◌, ◌≤◌, Err, IfOk};
+ghost use Rattle.std.specs.Prelude.{◌≡◌, ◌≢◌, ◌+◌, ◌-◌, ◌^◌, ◌<◌, ◌≤◌, Err, IfOk, IfSome};
 ghost use Rattle.std.specs.FinMap.{get};
 ghost use Rattle.omi_outside.specs.Outside.{HasCause};
 ghost use Rattle.omi_handle.specs.declared.handle.Kind.TheVariants.{Region};
-ghost use Rattle.omi_session.specs.Named.{IsOfKind};
+ghost use Rattle.omi_session.specs.Named.{IsNamed, IsOfKind};
 ghost use Rattle.omi_session.specs.Opened.{Stays, StaysWhole};
 ghost use Rattle.omi_session.specs.Reads.{Answers};
 ghost use Rattle.omi_session.specs.Made.{Makes, Answered, as_pair, region_pair, task_pair, thread_pair};
@@ -15,36 +15,59 @@ ghost use Rattle.omi_ask.specs.Regions as inquiry;
 use omi_calls::{Callbacks, ToHost};
 use omi_handle::{Held, Kind, RegionHandle, TaskHandle, ThreadHandle};
 use omi_layout::Field;
-use omi_session::{Rc, Session, current_task, follow, hand_region, object, related};
+use omi_session::{Rc, Session, current_task_of, follow, hand_region, object_of, related_of};
 
-/// The region of a thread's current task.
-fn current_region<C: Callbacks, F: ToHost>(
+/// The region of the current task of what is held as a thread. Unavailable where it has none.
+pub fn current_region_of<C: Callbacks, F: ToHost>(
     s: &mut Session<C, F>,
-    t: ThreadHandle,
+    found: Option<Held>,
 ) -> Result<Held, Rc>
+    requires { IfSome found (IsNamed s.old.layout) }
     ensures answer { Answers C.told C.asked s.old s.new result
-        (inquiry.current_region s.old.layout (get s.old.handles.held (t.key, t.serial))) }
+        (inquiry.current_region s.old.layout found) }
     ensures named { IfOk result (IsOfKind s.old.layout Region) }
     ensures memory { result ≢ Err Rc.NoMem }
     ensures same { StaysWhole C.told s.old s.new }
     ensures cause { HasCause (C.faults s.old.table.calls) (C.faults s.new.table.calls)
         (result ≡ Err Rc.CallbackError) }
 {
-    let task = current_task(s, t)?;
+    let task = current_task_of(s, found)?;
     follow(s, Kind::Region, task.addr, Field::TaskRegion, 0)
 }
 
-/// The region of a task.
-fn region_of_task<C: Callbacks, F: ToHost>(s: &mut Session<C, F>, k: TaskHandle) -> Result<Held, Rc>
+/// The region that encloses what is held as a region. Unavailable of the outermost one.
+#[tactic(auto, unfolding(crate::specs::Regions::enclosing_region))]
+pub fn enclosing_region_of<C: Callbacks, F: ToHost>(
+    s: &mut Session<C, F>,
+    found: Option<Held>,
+) -> Result<Held, Rc>
+    requires { IfSome found (IsNamed s.old.layout) }
     ensures answer { Answers C.told C.asked s.old s.new result
-        (inquiry.region_of_task s.old.layout (get s.old.handles.held (k.key, k.serial))) }
+        (inquiry.enclosing_region s.old.layout found) }
     ensures named { IfOk result (IsOfKind s.old.layout Region) }
     ensures memory { result ≢ Err Rc.NoMem }
     ensures same { StaysWhole C.told s.old s.new }
     ensures cause { HasCause (C.faults s.old.table.calls) (C.faults s.new.table.calls)
         (result ≡ Err Rc.CallbackError) }
 {
-    let task = object(s, Kind::Task, k.key, k.serial)?;
+    related_of(s, Kind::Region, found, Kind::Region, Field::RegionEnclosing)
+}
+
+/// The region of what is held as a task.
+pub fn region_of_task_of<C: Callbacks, F: ToHost>(
+    s: &mut Session<C, F>,
+    found: Option<Held>,
+) -> Result<Held, Rc>
+    requires { IfSome found (IsNamed s.old.layout) }
+    ensures answer { Answers C.told C.asked s.old s.new result
+        (inquiry.region_of_task s.old.layout found) }
+    ensures named { IfOk result (IsOfKind s.old.layout Region) }
+    ensures memory { result ≢ Err Rc.NoMem }
+    ensures same { StaysWhole C.told s.old s.new }
+    ensures cause { HasCause (C.faults s.old.table.calls) (C.faults s.new.table.calls)
+        (result ≡ Err Rc.CallbackError) }
+{
+    let task = object_of(s, Kind::Task, found)?;
     follow(s, Kind::Region, task.addr, Field::TaskRegion, 0)
 }
 
@@ -65,12 +88,12 @@ pub fn get_curr_parallel_handle<C: Callbacks, F: ToHost>(
     ensures cause { HasCause (C.faults s.old.table.calls) (C.faults s.new.table.calls)
         (result ≡ Err Rc.CallbackError) }
 {
-    let found = current_region(s, t);
+    let held = s.find(t.key, t.serial);
+    let found = current_region_of(s, held);
     hand_region(s, found)
 }
 
 /// The region that encloses a region. Unavailable of the outermost one.
-#[tactic(auto, unfolding(crate::specs::Regions::enclosing_region))]
 pub fn get_enclosing_parallel_handle<C: Callbacks, F: ToHost>(
     s: &mut Session<C, F>,
     r: RegionHandle,
@@ -87,8 +110,8 @@ pub fn get_enclosing_parallel_handle<C: Callbacks, F: ToHost>(
     ensures cause { HasCause (C.faults s.old.table.calls) (C.faults s.new.table.calls)
         (result ≡ Err Rc.CallbackError) }
 {
-    let pair = (r.key, r.serial);
-    let found = related(s, Kind::Region, pair, Kind::Region, Field::RegionEnclosing);
+    let held = s.find(r.key, r.serial);
+    let found = enclosing_region_of(s, held);
     hand_region(s, found)
 }
 
@@ -109,6 +132,7 @@ pub fn get_task_parallel_handle<C: Callbacks, F: ToHost>(
     ensures cause { HasCause (C.faults s.old.table.calls) (C.faults s.new.table.calls)
         (result ≡ Err Rc.CallbackError) }
 {
-    let found = region_of_task(s, k);
+    let held = s.find(k.key, k.serial);
+    let found = region_of_task_of(s, held);
     hand_region(s, found)
 }

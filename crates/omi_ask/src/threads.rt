@@ -1,12 +1,12 @@
 //! The inquiries that find a thread, and its native id.
 
-ghost use Rattle.std.specs.Prelude.{◌≡◌, ◌≢◌, ◌+◌, ◌-◌, ◌^◌, ◌<◌, ◌≤◌, Err, IfOk};
+ghost use Rattle.std.specs.Prelude.{◌≡◌, ◌≢◌, ◌+◌, ◌-◌, ◌^◌, ◌<◌, ◌≤◌, Err, IfOk, IfSome};
 ghost use Rattle.std.specs.FinMap.{get};
 ghost use Rattle.std.specs.List.{range_with_len};
 ghost use Rattle.omi_layout.specs.Table.{thread_count};
 ghost use Rattle.omi_outside.specs.Outside.{HasCause};
 ghost use Rattle.omi_handle.specs.declared.handle.Kind.TheVariants.{Thread};
-ghost use Rattle.omi_session.specs.Named.{IsOfKind};
+ghost use Rattle.omi_session.specs.Named.{IsNamed, IsOfKind};
 ghost use Rattle.omi_session.specs.Opened.{Stays, StaysWhole};
 ghost use Rattle.omi_session.specs.Reads.{Answers};
 ghost use Rattle.omi_session.specs.Made.{Makes, Answered, as_pair, region_pair, thread_pair};
@@ -17,7 +17,7 @@ ghost use Rattle.omi_ask.specs.Threads as inquiry;
 use omi_calls::{Callbacks, ToHost};
 use omi_handle::{Held, Kind, RegionHandle, ThreadHandle};
 use omi_layout::{Field, Layout};
-use omi_session::{Rc, Session, follow, hand_thread, live_handle, member, unchanged, word};
+use omi_session::{Rc, Session, follow, hand_thread, live_handle_of, member_of, unchanged, word};
 
 /// Whether the thread of a number has begun and has a native id.
 fn has_id<C: Callbacks, F: ToHost>(s: &mut Session<C, F>, native: u64, i: u8) -> Result<bool, Rc>
@@ -69,8 +69,9 @@ fn first_with<C: Callbacks, F: ToHost>(s: &mut Session<C, F>, native: u64) -> Re
     Err(Rc::Unavailable)
 }
 
-/// The thread with a native id of a kind.
-fn thread_with<C: Callbacks, F: ToHost>(
+/// The thread with a native id of a kind. Unsupported for another kind of ids than 0, and Unavailable where no thread that has begun has
+/// the id.
+pub fn thread_with<C: Callbacks, F: ToHost>(
     s: &mut Session<C, F>,
     kind: u32,
     native: u64,
@@ -90,22 +91,45 @@ fn thread_with<C: Callbacks, F: ToHost>(
     }
 }
 
-/// The thread of a member of a region.
-fn thread_of_member<C: Callbacks, F: ToHost>(
+/// The thread of a member of what is held as a region, by the member's number. BadInput where the region has no such member.
+pub fn thread_of_member_of<C: Callbacks, F: ToHost>(
     s: &mut Session<C, F>,
-    r: RegionHandle,
+    found: Option<Held>,
     num: u32,
 ) -> Result<Held, Rc>
+    requires { IfSome found (IsNamed s.old.layout) }
     ensures answer { Answers C.told C.asked s.old s.new result
-        (inquiry.thread_of_member s.old.layout (get s.old.handles.held (r.key, r.serial)) num) }
+        (inquiry.thread_of_member s.old.layout found num) }
     ensures named { IfOk result (IsOfKind s.old.layout Thread) }
     ensures memory { result ≢ Err Rc.NoMem }
     ensures same { StaysWhole C.told s.old s.new }
     ensures cause { HasCause (C.faults s.old.table.calls) (C.faults s.new.table.calls)
         (result ≡ Err Rc.CallbackError) }
 {
-    let task = member(s, r, num)?;
+    let task = member_of(s, found, num)?;
     follow(s, Kind::Thread, task.addr, Field::TaskThread, 0)
+}
+
+/// The native id of what is held as a thread. Unsupported for another kind of ids than 0.
+pub fn native_id_of<C: Callbacks, F: ToHost>(
+    s: &mut Session<C, F>,
+    kind: u32,
+    found: Option<Held>,
+) -> Result<u64, Rc>
+    requires { IfSome found (IsNamed s.old.layout) }
+    ensures answer { Answers C.told C.asked s.old s.new result
+        (inquiry.native_id s.old.layout kind found) }
+    ensures memory { result ≢ Err Rc.NoMem }
+    ensures same { StaysWhole C.told s.old s.new }
+    ensures cause { HasCause (C.faults s.old.table.calls) (C.faults s.new.table.calls)
+        (result ≡ Err Rc.CallbackError) }
+{
+    let thread = live_handle_of(s.layout(), Kind::Thread, found)?;
+    if kind != 0 {
+        return Err(Rc::Unsupported);
+    }
+    let thread = unchanged(s, thread)?;
+    word(s, thread.addr, Field::ThreadNative, 0)
 }
 
 /// The thread with a native id. Unsupported for another kind of ids than 0, and Unavailable where no thread that has begun has the id.
@@ -148,7 +172,8 @@ pub fn get_thread_in_parallel<C: Callbacks, F: ToHost>(
     ensures cause { HasCause (C.faults s.old.table.calls) (C.faults s.new.table.calls)
         (result ≡ Err Rc.CallbackError) }
 {
-    let found = thread_of_member(s, r, num);
+    let held = s.find(r.key, r.serial);
+    let found = thread_of_member_of(s, held, num);
     hand_thread(s, found)
 }
 
@@ -168,10 +193,6 @@ pub fn get_thread_id<C: Callbacks, F: ToHost>(
     ensures cause { HasCause (C.faults s.old.table.calls) (C.faults s.new.table.calls)
         (result ≡ Err Rc.CallbackError) }
 {
-    let thread = live_handle(s, Kind::Thread, t.key, t.serial)?;
-    if kind != 0 {
-        return Err(Rc::Unsupported);
-    }
-    let thread = unchanged(s, thread)?;
-    word(s, thread.addr, Field::ThreadNative, 0)
+    let found = s.find(t.key, t.serial);
+    native_id_of(s, kind, found)
 }

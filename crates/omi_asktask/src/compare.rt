@@ -1,11 +1,10 @@
 //! The order and the release of task handles. No word is read.
 
-ghost use Rattle.std.specs.Prelude.{◌≡◌, ◌≤◌, OnOk, OnErr};
-ghost use Rattle.std.specs.FinMap.{get, remove};
+ghost use Rattle.std.specs.Prelude.{◌≡◌};
+ghost use Rattle.std.specs.FinMap.{get};
 ghost use Rattle.omi_handle.specs.declared.handle.Kind.TheVariants.{Task};
-ghost use Rattle.omi_session.specs.Inquiry.{live_handle};
 ghost use Rattle.omi_session.specs.Made.{task_pair};
-ghost use Rattle.omi_session.specs.Handles.{handle_cmp, as_done};
+ghost use Rattle.omi_session.specs.Handles.{LetsGo, handle_cmp};
 
 use omi_calls::{Callbacks, ToHost};
 use omi_handle::{Kind, TaskHandle};
@@ -30,13 +29,7 @@ pub fn rel_task_handle<C: Callbacks, F: ToHost>(
     s: &mut Session<C, F>,
     h: TaskHandle,
 ) -> Result<(), Rc>
-    ensures answer { result ≡ as_done (live_handle Task (get s.old.handles.held (task_pair h))) }
-    ensures removed { OnOk result (s.new.handles.held ≡ remove s.old.handles.held (task_pair h)) }
-    ensures refused { OnErr result (s.new.handles ≡ s.old.handles) }
-    ensures made { s.new.handles.made ≡ s.old.handles.made }
-    ensures room { s.old.handles.room ≤ s.new.handles.room }
-    ensures layout { s.new.layout ≡ s.old.layout }
-    ensures table { s.new.table ≡ s.old.table }
+    ensures { LetsGo Task (task_pair h) s.old s.new result }
 {
     let_go(s, Kind::Task, h.key, h.serial)
 }

@@ -1,10 +1,12 @@
 //! The inquiries that find a task.
 
-ghost use Rattle.std.specs.Prelude.{◌≡◌, ◌≢◌, ◌+◌, ◌-◌, ◌^◌, ◌<◌, ◌≤◌, Err};
+ghost use Rattle.std.specs.Prelude.{◌≡◌, ◌≢◌, ◌+◌, ◌-◌, ◌^◌, ◌<◌, ◌≤◌, Err, IfOk, IfSome};
 ghost use Rattle.std.specs.FinMap.{get};
 ghost use Rattle.omi_outside.specs.Outside.{HasCause};
 ghost use Rattle.omi_handle.specs.declared.handle.Kind.TheVariants.{Task};
-ghost use Rattle.omi_session.specs.Opened.{Stays};
+ghost use Rattle.omi_session.specs.Named.{IsNamed, IsOfKind};
+ghost use Rattle.omi_session.specs.Opened.{Stays, StaysWhole};
+ghost use Rattle.omi_session.specs.Reads.{Answers};
 ghost use Rattle.omi_session.specs.Made.{Makes, Answered, as_pair, region_pair, task_pair, thread_pair};
 ghost use Rattle.omi_session.specs.Inquiry as part;
 ghost use Rattle.omi_session.specs.Answers as answer;
@@ -12,9 +14,45 @@ ghost use Rattle.omi_session.specs.Shown.{OfThread, OfRegion, OfTask, GivesTask}
 ghost use Rattle.omi_asktask.specs.Tasks as inquiry;
 
 use omi_calls::{Callbacks, ToHost};
-use omi_handle::{Kind, RegionHandle, TaskHandle, ThreadHandle};
+use omi_handle::{Held, Kind, RegionHandle, TaskHandle, ThreadHandle};
 use omi_layout::Field;
-use omi_session::{Rc, Session, current_task, hand_task, member, related};
+use omi_session::{Rc, Session, current_task_of, hand_task, member_of, related_of};
+
+/// The task that made what is held as a task. Unavailable of the initial one.
+#[tactic(auto, unfolding(crate::specs::Tasks::generating_task))]
+pub fn generating_task_of<C: Callbacks, F: ToHost>(
+    s: &mut Session<C, F>,
+    found: Option<Held>,
+) -> Result<Held, Rc>
+    requires { IfSome found (IsNamed s.old.layout) }
+    ensures answer { Answers C.told C.asked s.old s.new result
+        (inquiry.generating_task s.old.layout found) }
+    ensures named { IfOk result (IsOfKind s.old.layout Task) }
+    ensures memory { result ≢ Err Rc.NoMem }
+    ensures same { StaysWhole C.told s.old s.new }
+    ensures cause { HasCause (C.faults s.old.table.calls) (C.faults s.new.table.calls)
+        (result ≡ Err Rc.CallbackError) }
+{
+    related_of(s, Kind::Task, found, Kind::Task, Field::TaskGenerating)
+}
+
+/// The task that was left for what is held as a task on its thread. Unavailable where there is none.
+#[tactic(auto, unfolding(crate::specs::Tasks::scheduling_task))]
+pub fn scheduling_task_of<C: Callbacks, F: ToHost>(
+    s: &mut Session<C, F>,
+    found: Option<Held>,
+) -> Result<Held, Rc>
+    requires { IfSome found (IsNamed s.old.layout) }
+    ensures answer { Answers C.told C.asked s.old s.new result
+        (inquiry.scheduling_task s.old.layout found) }
+    ensures named { IfOk result (IsOfKind s.old.layout Task) }
+    ensures memory { result ≢ Err Rc.NoMem }
+    ensures same { StaysWhole C.told s.old s.new }
+    ensures cause { HasCause (C.faults s.old.table.calls) (C.faults s.new.table.calls)
+        (result ≡ Err Rc.CallbackError) }
+{
+    related_of(s, Kind::Task, found, Kind::Task, Field::TaskScheduling)
+}
 
 /// The current task of a thread. Unavailable where it has none.
 pub fn get_curr_task_handle<C: Callbacks, F: ToHost>(
@@ -33,12 +71,12 @@ pub fn get_curr_task_handle<C: Callbacks, F: ToHost>(
     ensures cause { HasCause (C.faults s.old.table.calls) (C.faults s.new.table.calls)
         (result ≡ Err Rc.CallbackError) }
 {
-    let found = current_task(s, t);
+    let held = s.find(t.key, t.serial);
+    let found = current_task_of(s, held);
     hand_task(s, found)
 }
 
 /// The task that made a task. Unavailable of the initial one.
-#[tactic(auto, unfolding(crate::specs::Tasks::generating_task))]
 pub fn get_generating_task_handle<C: Callbacks, F: ToHost>(
     s: &mut Session<C, F>,
     k: TaskHandle,
@@ -55,13 +93,12 @@ pub fn get_generating_task_handle<C: Callbacks, F: ToHost>(
     ensures cause { HasCause (C.faults s.old.table.calls) (C.faults s.new.table.calls)
         (result ≡ Err Rc.CallbackError) }
 {
-    let pair = (k.key, k.serial);
-    let found = related(s, Kind::Task, pair, Kind::Task, Field::TaskGenerating);
+    let held = s.find(k.key, k.serial);
+    let found = generating_task_of(s, held);
     hand_task(s, found)
 }
 
 /// The task that was left for a task on its thread. Unavailable where there is none.
-#[tactic(auto, unfolding(crate::specs::Tasks::scheduling_task))]
 pub fn get_scheduling_task_handle<C: Callbacks, F: ToHost>(
     s: &mut Session<C, F>,
     k: TaskHandle,
@@ -78,8 +115,8 @@ pub fn get_scheduling_task_handle<C: Callbacks, F: ToHost>(
     ensures cause { HasCause (C.faults s.old.table.calls) (C.faults s.new.table.calls)
         (result ≡ Err Rc.CallbackError) }
 {
-    let pair = (k.key, k.serial);
-    let found = related(s, Kind::Task, pair, Kind::Task, Field::TaskScheduling);
+    let held = s.find(k.key, k.serial);
+    let found = scheduling_task_of(s, held);
     hand_task(s, found)
 }
 
@@ -101,6 +138,7 @@ pub fn get_task_in_parallel<C: Callbacks, F: ToHost>(
     ensures cause { HasCause (C.faults s.old.table.calls) (C.faults s.new.table.calls)
         (result ≡ Err Rc.CallbackError) }
 {
-    let found = member(s, r, num);
+    let held = s.find(r.key, r.serial);
+    let found = member_of(s, held, num);
     hand_task(s, found)
 }

@@ -1,6 +1,6 @@
 -- What callbacks were asked for: words by their addresses and symbols by their names, in the order in which they were asked for.
-use Rattle.std.specs.Prelude.{◌≡◌, ℕ, Bool, false, List, [], ◌∷◌, ◌++◌, length, Option, Some, None, IsTrue}
-use Rattle.std.specs.Option.{option_map, option_map_or}
+use Rattle.std.specs.Prelude.{◌≡◌, ℕ, Bool, false, List, [], ◌∷◌, ◌++◌, Option, Some, None, IsTrue}
+use Rattle.std.specs.Option.{option_map}
 use Rattle.omi_calls.specs.Told.{Told}
 
 -- a word at an address, or the address of a symbol
@@ -32,10 +32,6 @@ missed_after addr before = record {
   listed = listed_after (Word addr) before.listed;
   missed = option_map (λ _. Some addr) before.missed;
 }
-
--- how many are listed
-abbrev pub how_many : Asked → ℕ
-how_many asked = option_map_or length asked.listed 0
 
 -- a read at this address may fail, and may come to an answer: each does where nothing is told of failures
 abbrev pub MayFail : Told → ℕ → Type 0

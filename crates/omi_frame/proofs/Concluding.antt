@@ -11,7 +11,7 @@ use Rattle.omi_frame.specs.Refusal.{refusal_line, status_of}
 use Rattle.omi_frame.specs.Said.{IsSaid}
 use Rattle.omi_frame.specs.Seen.{SeenFiles, SeenOutput}
 use Rattle.omi_frame.specs.Statuses.{IsPrinting}
-use Rattle.omi_frame.specs.Verb.{Gives, Verb, WritesOne}
+use Rattle.omi_frame.specs.Verb.{Gives, Verb}
 use Rattle.omi_frame.specs.declared.refusal.Refusal.{Refusal}
 use Rattle.omi_frame.specs.declared.refusal.Refusal.TheVariants as refusal
 use Rattle.omi_frame.proofs.Elsewhere.{never_printing, of_read, of_usage, of_write, printing_not_of_core, unsaid}
@@ -145,46 +145,9 @@ module _ (v : Verb) (proper : IsProper v) (files files_now dest dest_now : SeenF
       usage_line_of refusal.Usage counted old new is said = said
       usage_line_of x counted old new is said = absurd (cc)
 
--- the causes where a file is written in other cases, which hold where those do
-pub causes_as : {V W : Type 0} (s : Status) (files files_now dest dest_now : SeenFiles) (out out_now : SeenOutput) → (V → W)
-    → Causes V s files files_now dest dest_now out out_now → Causes W s files files_now dest dest_now out out_now
-causes_as s files files_now dest dest_now out out_now into causes = record {
-  usage_line = causes.usage_line;
-  read_fault = causes.read_fault;
-  write_fault = λ is. elim (causes.write_fault is) [ inl (v, rose) ↦ inl (into v, rose) | inr rose ↦ inr rose ];
-  out_of_memory = causes.out_of_memory;
-  reads = causes.reads;
-  writes = causes.writes;
-  faults = causes.faults;
-  wants = causes.wants;
-}
-
 -- ---- what a call left that did nothing but end
 
 module _ (files dest : SeenFiles) (out : SeenOutput) where
-  -- memory ran out before anything was read
-  pub memory_causes : (W : Type 0) → Causes W status.OutOfMemory files files dest dest out out
-  memory_causes W = record {
-    usage_line = λ is. absurd (cc);
-    read_fault = λ is. absurd (cc);
-    write_fault = λ is. absurd (cc);
-    out_of_memory = λ is. inl refl;
-    reads = omega arith;
-    writes = omega arith;
-    faults = omega arith;
-    wants = omega arith;
-  }
-
-  pub nothing_done : (v : Verb) → Concluded v status.OutOfMemory files files dest dest out out
-  nothing_done v = record {
-    of_core = λ is. absurd is;
-    usage = λ is. absurd (cc);
-    causes = memory_causes (WritesOne v);
-    left = λ told. inl (inl refl, refl);
-    unwritten = λ is. refl;
-    others = λ other not. refl;
-  }
-
   -- the words were refused
   pub words_causes : (W : Type 0) (out_now : SeenOutput)
       → IsSaid (Some (codes "usage" ++ 10 ∷ [])) (HasCounted out out_now) out.told out_now.told

@@ -40,13 +40,6 @@ onto_append (suc k) n acc = go (λ more. onto_append k (n / 16) more) (n / 16 ==
         ∙ sym (append_assoc (digits_onto k 16 false (n / 16) []) (glyph ∷ []) acc)
         ∙ sym (ap (λ (xs : List ℕ). xs ++ acc) (again (glyph ∷ [])))
 
--- a number of one digit
-pub one_digit : (k n : ℕ) → 0 < k → n < 16 → digits_onto k 16 false n [] ≡ digit_glyph false n ∷ []
-one_digit k n some small =
-    let none : n / 16 ≡ 0 = omega (arith, small) in
-    let same : n % 16 ≡ n = omega (arith, small) in
-    digits_onto_last k n [] some none ∙ ap (λ (d : ℕ). digit_glyph false d ∷ []) same
-
 -- and one of more: its last digit stands behind those of a sixteenth
 pub last_digit : (k n : ℕ) → 0 < k → 16 ≤ n
     → digits_onto k 16 false n [] ≡ digits_onto (k - 1) 16 false (n / 16) [] ++ digit_glyph false (n % 16) ∷ []

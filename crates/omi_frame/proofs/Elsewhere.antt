@@ -126,10 +126,6 @@ unsaid names r counted old new said is = absurd (cc)
 
 -- ---- a fault of writing, or want of memory
 
-pub late_not_usage : (r : Refusal) → IsLate r → status_of r ≡ status.Usage → ⊥
-late_not_usage refusal.Usage late is = late
-late_not_usage r late is = cc
-
 pub late_not_of_core : (r : Refusal) → IsLate r → IsOfCore (status_of r) → ⊥
 late_not_of_core refusal.WriteFault late is = is
 late_not_of_core refusal.OutOfMemory late is = is

@@ -12,7 +12,7 @@ use Rattle.omi_script.specs.declared.fault.ScriptError.TheVariants as error
 use Rattle.omi_script.specs.declared.fault.Why.TheVariants.{OverLimit}
 use Rattle.omi_script.specs.declared.program.Program.{Program}
 use Rattle.omi_frame.specs.declared.limits.TheConstants.{SCRIPT_FRONT}
-use Rattle.omi_frame.specs.Refusal.{refusal_of_script, IsReadFault, IsUnread}
+use Rattle.omi_frame.specs.Refusal.{refusal_of_script, IsUnread}
 use Rattle.omi_frame.specs.Scripts.{IsOfScript, IsProgramIn, IsScriptRefusal}
 use Rattle.omi_frame.specs.declared.refusal.Input.TheVariants as input
 use Rattle.omi_frame.specs.declared.refusal.Refusal.{Refusal}
@@ -90,13 +90,3 @@ module _ (content : Option (List ℕ)) (whole bytes : List ℕ) (holds : content
       → IfErr r (λ e. IsScriptRefusal content e ⊎ IsUnread input.Script e)
   all_refused (Ok p) nothing = tt
   all_refused (Err e) said = refuses e said
-
-pub refused_kind : (bytes : List ℕ) (r : Refusal) → IsScriptRefusal (Some bytes) r ⊎ (r ≡ refusal.OutOfMemory)
-    → IsOfScript r
-refused_kind bytes r (inl (fault, why, same)) = subst IsOfScript (sym same) tt
-refused_kind bytes r (inr memory) = subst IsOfScript (sym memory) tt
-
-pub never_read_fault : (bytes : List ℕ) (r : Refusal)
-    → IsScriptRefusal (Some bytes) r ⊎ (r ≡ refusal.OutOfMemory) → IsReadFault r → ⊥
-never_read_fault bytes r (inl (fault, why, same)) is = subst (λ (x : Refusal). IsReadFault x) same is
-never_read_fault bytes r (inr same) is = subst (λ (x : Refusal). IsReadFault x) same is

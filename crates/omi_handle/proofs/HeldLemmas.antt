@@ -4,13 +4,13 @@ use Rattle.std.proofs.lemmas.Grind.{common_steps}
 use Rattle.std.proofs.lemmas.Bool.Decides.{nat_tests}
 use Rattle.std.specs.Ordering.{eq_by_cmp, is_eq}
 use Rattle.std.specs.Cmp.{IsTotalOrder, nat_cmp_total, on_total, then_total, both_tied, unsigned_ties}
-use Rattle.std.specs.FinMap.{FinMap, find, get, get-from_entries, insert, remove, get-insert, get-remove, same_map, IsAntisymmetric}
+use Rattle.std.specs.FinMap.{FinMap, find, get, get-empty, get-from_entries, insert, remove, get-insert, get-remove, same_map, IsAntisymmetric}
 use Rattle.slab.specs.Slab.{Slab, entries_from, Updates}
 use Rattle.slab.specs.Slab as slab
 use Rattle.omi_handle.specs.declared.handle.Held.{Held}
 use Rattle.omi_handle.specs.declared.handles.Entry.{Entry}
 use Rattle.omi_handle.specs.Ledger.{pair_cmp}
-use Rattle.omi_handle.specs.Entries.{pair_of, held_by, SerialsBelow}
+use Rattle.omi_handle.specs.Entries.{pair_of, held_by, ledger_of, AreBelow, SerialsBelow}
 
 pub pair_cmp_total : IsTotalOrder pair_cmp
 pair_cmp_total =
@@ -149,7 +149,7 @@ absent_removed held pair absent = same_map pair_cmp_total pair_cmp_antisymmetric
     ])
 
 -- the serials that are held are those of the entries
-pub serial_below : (s : Slab Entry) (made key serial : ℕ) → SerialsBelow s made
+pub serial_below : (s : Slab Entry) (made key serial : ℕ) → AreBelow s made
     → get (held_by s) (key, serial) ≢ None → serial < made
 serial_below s made key serial below held =
     by_entry (slab.get s key) (λ e is. below key e is) (λ none. held (held_at s key serial ∙ none))
@@ -161,6 +161,12 @@ serial_below s made key serial below held =
       | inl is ↦ let same : serial ≡ e.serial = grind (arith, nat_tests) in let less : e.serial < made = below e refl in omega arith
       | inr is ↦ absurd (held (ap (λ b. cond b (Some e.held) None) is))
     ]
+
+-- where there are any
+pub any_below : (entries : Option (Slab Entry)) (made key serial : ℕ) → SerialsBelow entries made
+    → get (ledger_of entries made).held (key, serial) ≢ None → serial < made
+any_below (Some s) made key serial below held = serial_below s made key serial below held
+any_below None made key serial below held = absurd (held (get-empty pair_cmp (key, serial)))
 
 -- what is held under a pair stands in an entry with the pair's serial
 pub entry_of : (s : Slab Entry) (key serial : ℕ) (h : Held) → get (held_by s) (key, serial) ≡ Some h

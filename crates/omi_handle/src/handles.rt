@@ -4,11 +4,11 @@ ghost use Rattle.std.specs.Prelude.{◌≡◌, ◌≢◌, ℕ, ◌+◌, ◌-◌,
 ghost use Rattle.std.specs.Bool.{OnFalse};
 ghost use Rattle.std.specs.FinMap.{empty, get, insert, remove};
 ghost use Rattle.omi_handle.specs.declared.handle.Held.{Held};
-ghost use Rattle.omi_handle.specs.Entries.{held_by};
+ghost use Rattle.omi_handle.specs.Entries.{AreBelow, held_by, room_in};
 
 use crate::{Held, OutOfMemory};
 use slab::Slab;
-use std::alloc::Global;
+use std::alloc::{AllocError, Global};
 use std::marker::Model;
 
 /// What stands under a key of the slab.
@@ -25,7 +25,7 @@ struct Entry {
 /// A key is used again once its handle is released; a serial never is.
 #[derive(Drop)]
 pub struct Handles {
-    entries: Slab<Entry>,
+    entries: Option<Slab<Entry>>,
     made: u64,
 }
 
@@ -54,6 +54,23 @@ fn held_under(entries: &Slab<Entry>, key: u64, serial: u64) -> Option<Held>
     }
 }
 
+/// Lets go of what the entries hold under a pair.
+fn let_go(entries: &mut Slab<Entry>, key: u64, serial: u64) -> bool
+    ensures answer { result ≡ is_some (get (held_by entries.old) (key, serial)) }
+    ensures removed { held_by entries.new ≡ remove (held_by entries.old) (key, serial) }
+    ensures absent { OnFalse result (entries.new ≡ entries.old) }
+    ensures below { (made : ℕ) → AreBelow entries.old made → AreBelow entries.new made }
+    ensures room { room_in entries.old ≤ room_in entries.new }
+{
+    match held_under(entries, key, serial) {
+        Some(_) => {
+            entries.remove(key as usize);
+            true
+        }
+        None => false,
+    }
+}
+
 impl Handles {
     /// No handles, and none made yet.
     pub fn new(alloc: Global) -> Handles
@@ -61,7 +78,19 @@ impl Handles {
         ensures made { result.made ≡ 0 }
     {
         Handles {
-            entries: Slab::new(alloc),
+            entries: Some(Slab::new(alloc)),
+            made: 0,
+        }
+    }
+
+    /// No handles, and no memory for one: `make` and `reserve` are refused.
+    pub fn without_memory() -> Handles
+        ensures held { result.held ≡ empty }
+        ensures made { result.made ≡ 0 }
+        ensures room { result.room ≡ 0 }
+    {
+        Handles {
+            entries: None,
             made: 0,
         }
     }
@@ -82,8 +111,11 @@ impl Handles {
         ensures within_room { 0 < self.old.room → IsOk result }
         ensures room { self.old.room ≤ self.new.room + 1 }
     {
+        let Some(entries) = &mut self.entries else {
+            return Err(AllocError);
+        };
         let serial = self.made;
-        let key = self.entries.insert(Entry { serial, held: h })?;
+        let key = entries.insert(Entry { serial, held: h })?;
         self.made = serial + 1;
         Ok((key as u64, serial))
     }
@@ -92,7 +124,10 @@ impl Handles {
     pub fn find(&self, key: u64, serial: u64) -> Option<Held>
         ensures { result ≡ get self.now.held (key, serial) }
     {
-        held_under(&self.entries, key, serial)
+        match &self.entries {
+            Some(entries) => held_under(entries, key, serial),
+            None => None,
+        }
     }
 
     /// Lets go of the pair. False exactly where it was released or never made; then nothing
@@ -107,13 +142,10 @@ impl Handles {
         ensures made { self.new.made ≡ self.old.made }
         ensures room { self.old.room ≤ self.new.room }
     {
-        match held_under(&self.entries, key, serial) {
-            Some(_) => {
-                self.entries.remove(key as usize);
-                true
-            }
-            None => false,
-        }
+        let Some(entries) = &mut self.entries else {
+            return false;
+        };
+        let_go(entries, key, serial)
     }
 
     /// Makes room, so that the next `n` calls of `make` take no memory.
@@ -123,7 +155,10 @@ impl Handles {
         ensures held { self.new.held ≡ self.old.held }
         ensures made { self.new.made ≡ self.old.made }
     {
-        self.entries.reserve(n)
+        match &mut self.entries {
+            Some(entries) => entries.reserve(n),
+            None => Err(AllocError),
+        }
     }
 
     /// How many handles were made so far.

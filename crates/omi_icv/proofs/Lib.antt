@@ -5,3 +5,4 @@ pub mod ByNumber
 pub mod Shown
 pub mod ShownVariables
 pub mod ShownInquiries
+pub mod Scoping

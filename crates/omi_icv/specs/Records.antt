@@ -1,5 +1,5 @@
 -- The record of what is asked about: the runtime's for the address space, and else that of the live object of the handle.
-use Rattle.std.specs.Prelude.{ℕ, List, Option, Ok}
+use Rattle.std.specs.Prelude.{ℕ, List, Option, None, Ok}
 use Rattle.omi_handle.specs.declared.handle.Kind.{Kind}
 use Rattle.omi_handle.specs.declared.handle.Kind.TheVariants as kind
 use Rattle.omi_handle.specs.declared.handle.Held.{Held}
@@ -13,6 +13,13 @@ use Rattle.omi_icv.specs.declared.scoped.Scoped.TheVariants.{Space, Thread, Para
 -- the handles that are held, by key and serial
 abbrev pub Handles : Type 0
 Handles = ℕ × ℕ → Option Held
+
+-- what is held of what is asked about. Of the address space nothing is
+abbrev pub found_of : Handles → Scoped → Option Held
+found_of held Space = None
+found_of held (Thread t) = held (thread_pair t)
+found_of held (Parallel r) = held (region_pair r)
+found_of held (Task k) = held (task_pair k)
 
 module _ (w : List ℕ) where
   -- the address of the record of a handle's object, which has to be live

@@ -17,3 +17,10 @@ scope_of scoped.Space = scope.AddressSpace
 scope_of (scoped.Thread t) = scope.Thread
 scope_of (scoped.Parallel r) = scope.Parallel
 scope_of (scoped.Task k) = scope.Task
+
+-- what is asked about in a scope, by a handle that doesn't matter: the inquiry takes this for held under each
+abbrev pub any_of : Scope → Scoped
+any_of scope.AddressSpace = scoped.Space
+any_of scope.Thread = scoped.Thread (record { key = 0; serial = 0 })
+any_of scope.Parallel = scoped.Parallel (record { key = 0; serial = 0 })
+any_of scope.Task = scoped.Task (record { key = 0; serial = 0 })

@@ -1,10 +1,16 @@
 //! The control variables of the address space, as texts for display.
 
-ghost use Rattle.std.specs.Prelude.{◌≡◌, ◌≢◌, Ok, Err, IfOk, map, string_bytes};
+ghost use Rattle.std.specs.Prelude.{◌≡◌, ◌≢◌, ◌+◌, ◌<◌, ◌≤◌, Ok, Err, IfOk, length, map, slice_get, string_bytes};
 ghost use Rattle.omi_outside.specs.Outside.{HasCause};
 ghost use Rattle.omi_session.specs.Opened.{StaysWhole};
 ghost use Rattle.omi_session.specs.Reads.{Answers};
 ghost use Rattle.omi_session.specs.Shown.{OfState};
+ghost use Rattle.std.specs.Fmt.{decimal as spelled};
+ghost use Rattle.omi_numbers.specs.Variables.{name_of};
+ghost use Rattle.omi_numbers.specs.declared.variables.TheConstants.{DEBUG_VAR, NUM_PROCS_VAR, MAX_ACTIVE_LEVELS_VAR};
+ghost use Rattle.omi_text.specs.Head.{debug_text};
+ghost use Rattle.omi_text.specs.Lines.{named_value};
+ghost use Rattle.omi_text.specs.declared.short.TheConstants.{SHORT_TEXT};
 ghost use Rattle.omi_icv.specs.Display as inquiry;
 ghost use Rattle.omi_icv.specs.StateValues.{display_of};
 ghost use Rattle.omi_icv.specs.Written.{Written, IsWritten, as_bytes};
@@ -13,7 +19,7 @@ use crate::runtime::runtime_word;
 use omi_calls::{Callbacks, ToHost};
 use omi_layout::Field;
 use omi_session::{Rc, Session};
-use omi_text::{OutOfMemory, debug_word};
+use omi_text::{OutOfMemory, ShortText, debug_word};
 use std::alloc::Global;
 
 /// The words of the variables of the address space.
@@ -25,7 +31,7 @@ pub struct SpaceWords {
 }
 
 /// The words, in the order in which they are displayed.
-fn space_words<C: Callbacks, F: ToHost>(s: &mut Session<C, F>) -> Result<SpaceWords, Rc>
+pub fn space_words<C: Callbacks, F: ToHost>(s: &mut Session<C, F>) -> Result<SpaceWords, Rc>
     ensures answer { Answers C.told C.asked s.old s.new result
         (inquiry.space_words s.old.layout) }
     ensures memory { result ≢ Err Rc.NoMem }
@@ -43,15 +49,69 @@ fn space_words<C: Callbacks, F: ToHost>(s: &mut Session<C, F>) -> Result<SpaceWo
     })
 }
 
+/// A variable by name and value.
+fn named(name: &str, value: &str) -> ShortText
+    requires { length name.now + length value.now < SHORT_TEXT }
+    ensures { result ≡ named_value name.now value.now }
+{
+    let mut text = ShortText::new();
+    text.push_str(name);
+    text.push_str("=");
+    text.push_str(value);
+    text
+}
+
+/// The text of a number in decimal.
+fn decimal(number: u64) -> ShortText
+    ensures text { result ≡ spelled number }
+    ensures short { length result ≤ 20 }
+{
+    let mut text = ShortText::new();
+    text.push_decimal(number);
+    text
+}
+
+/// debug-var by name and value.
+fn debug_var(words: SpaceWords) -> ShortText
+    ensures { result ≡ named_value (name_of DEBUG_VAR) (debug_text words.debug) }
+{
+    named("debug-var", debug_word(words.debug))
+}
+
+/// num-procs-var by name and value.
+fn num_procs_var(words: SpaceWords) -> ShortText
+    ensures { result ≡ named_value (name_of NUM_PROCS_VAR) (spelled words.procs) }
+{
+    named("num-procs-var", decimal(words.procs).as_str())
+}
+
+/// max-active-levels-var by name and value.
+fn max_active_levels_var(words: SpaceWords) -> ShortText
+    ensures { result ≡ named_value (name_of MAX_ACTIVE_LEVELS_VAR) (spelled words.max_active) }
+{
+    named("max-active-levels-var", decimal(words.max_active).as_str())
+}
+
+/// A variable by name and value, by its place from 0 on, which takes no memory. None behind the last.
+pub fn display_text(words: SpaceWords, at: usize) -> Option<ShortText>
+    ensures { result ≡ slice_get (inquiry.display_texts words) at }
+{
+    match at {
+        0 => Some(debug_var(words)),
+        1 => Some(num_procs_var(words)),
+        2 => Some(max_active_levels_var(words)),
+        _ => None,
+    }
+}
+
 /// Each variable by name and value.
 fn display_texts(alloc: Global, words: SpaceWords) -> Result<Vec<String>, OutOfMemory>
     ensures { IfOk result (λ texts. map string_bytes texts.items ≡ inquiry.display_texts words) }
 {
-    let debug = debug_word(words.debug);
     let mut texts = Vec::new(alloc);
-    texts.push(format!(in alloc; "debug-var={debug}")?)?;
-    texts.push(format!(in alloc; "num-procs-var={}", words.procs)?)?;
-    texts.push(format!(in alloc; "max-active-levels-var={}", words.max_active)?)?;
+    texts.push(String::from_str(alloc, debug_var(words).as_str())?)?;
+    texts.push(String::from_str(alloc, num_procs_var(words).as_str())?)?;
+    texts.push(String::from_str(alloc, max_active_levels_var(words).as_str())?)?;
     Ok(texts)
 }
 

@@ -54,7 +54,8 @@ impl Numbers {
 
     /// All of them.
     pub fn as_slice(&self) -> &[u64]
-        ensures { result.now ≡ self.now }
+        ensures numbers { result.now ≡ self.now }
+        ensures few { length result.now ≤ MAX_SIZES }
     {
         &self.words[..self.count]
     }

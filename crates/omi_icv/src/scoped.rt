@@ -1,17 +1,18 @@
 //! What is asked about: the address space, or the object of a handle; and the scopes of control variables.
 
-ghost use Rattle.std.specs.Prelude.{◌≡◌, ◌≢◌, ◌≤◌, Err, IfOk};
+ghost use Rattle.std.specs.Prelude.{◌≡◌, ◌≢◌, ◌≤◌, Err, IfOk, IfSome};
 ghost use Rattle.std.specs.FinMap.{get};
 ghost use Rattle.omi_outside.specs.Outside.{HasCause};
 ghost use Rattle.omi_layout.specs.declared.limits.TheConstants.{LAST_END};
+ghost use Rattle.omi_session.specs.Named.{IsNamed};
 ghost use Rattle.omi_session.specs.Opened.{StaysWhole};
 ghost use Rattle.omi_session.specs.Reads.{Answers};
-ghost use Rattle.omi_icv.specs.Scopes.{scope_number, scope_of};
+ghost use Rattle.omi_icv.specs.Scopes.{scope_number, scope_of, any_of};
 ghost use Rattle.omi_icv.specs.Records as inquiry;
 
 use omi_calls::{Callbacks, ToHost};
-use omi_handle::{Kind, RegionHandle, TaskHandle, ThreadHandle};
-use omi_session::{Rc, Session, object};
+use omi_handle::{Held, Kind, RegionHandle, TaskHandle, ThreadHandle};
+use omi_session::{Rc, Session, object_of};
 
 /// What is asked about.
 #[derive(Clone, Copy, Debug, PartialEq, Eq)]
@@ -55,40 +56,58 @@ impl Scoped {
     }
 }
 
-/// The byte address of the record of a live object, by its handle.
-fn record_of_handle<C: Callbacks, F: ToHost>(
+/// What is held of what is asked about. None of the address space, and where the handle isn't held.
+pub fn found_of<C: Callbacks, F: ToHost>(s: &Session<C, F>, of: Scoped) -> Option<Held>
+    ensures value { result ≡ inquiry.found_of (get s.now.handles.held) of }
+    ensures named { IfSome result (IsNamed s.now.layout) }
+{
+    match of {
+        Scoped::Space => None,
+        Scoped::Thread(t) => s.find(t.key, t.serial),
+        Scoped::Parallel(r) => s.find(r.key, r.serial),
+        Scoped::Task(k) => s.find(k.key, k.serial),
+    }
+}
+
+/// The byte address of the record of a live object, by what is held.
+fn record_of_held<C: Callbacks, F: ToHost>(
     s: &mut Session<C, F>,
     kind: Kind,
-    key: u64,
-    serial: u64,
+    found: Option<Held>,
 ) -> Result<u64, Rc>
+    requires { IfSome found (IsNamed s.old.layout) }
     ensures answer { Answers C.told C.asked s.old s.new result
-        (inquiry.record_of_handle s.old.layout kind (get s.old.handles.held (key, serial))) }
+        (inquiry.record_of_handle s.old.layout kind found) }
     ensures low { IfOk result (λ address. address ≤ LAST_END) }
     ensures memory { result ≢ Err Rc.NoMem }
     ensures same { StaysWhole C.told s.old s.new }
     ensures cause { HasCause (C.faults s.old.table.calls) (C.faults s.new.table.calls)
         (result ≡ Err Rc.CallbackError) }
 {
-    let held = object(s, kind, key, serial)?;
+    let held = object_of(s, kind, found)?;
     Ok(held.addr)
 }
 
-/// The byte address of the record of what is asked about: the runtime's of the address space, for which no word is read, and else that of
-/// the live object of the handle.
-pub fn record_of<C: Callbacks, F: ToHost>(s: &mut Session<C, F>, of: Scoped) -> Result<u64, Rc>
+/// The byte address of the record of what is asked about, by its scope and by what is held: the runtime's of the address space, for which
+/// no word is read, and else that of the live object.
+pub fn record_of<C: Callbacks, F: ToHost>(
+    s: &mut Session<C, F>,
+    scope: Scope,
+    found: Option<Held>,
+) -> Result<u64, Rc>
+    requires { IfSome found (IsNamed s.old.layout) }
     ensures answer { Answers C.told C.asked s.old s.new result
-        (inquiry.record_of s.old.layout (get s.old.handles.held) of) }
+        (inquiry.record_of s.old.layout (λ _. found) (any_of scope)) }
     ensures low { IfOk result (λ address. address ≤ LAST_END) }
     ensures memory { result ≢ Err Rc.NoMem }
     ensures same { StaysWhole C.told s.old s.new }
     ensures cause { HasCause (C.faults s.old.table.calls) (C.faults s.new.table.calls)
         (result ≡ Err Rc.CallbackError) }
 {
-    match of {
-        Scoped::Space => Ok(s.layout().runtime_place()),
-        Scoped::Thread(t) => record_of_handle(s, Kind::Thread, t.key, t.serial),
-        Scoped::Parallel(r) => record_of_handle(s, Kind::Region, r.key, r.serial),
-        Scoped::Task(k) => record_of_handle(s, Kind::Task, k.key, k.serial),
+    match scope {
+        Scope::AddressSpace => Ok(s.layout().runtime_place()),
+        Scope::Thread => record_of_held(s, Kind::Thread, found),
+        Scope::Parallel => record_of_held(s, Kind::Region, found),
+        Scope::Task => record_of_held(s, Kind::Task, found),
     }
 }

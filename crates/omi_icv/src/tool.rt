@@ -1,19 +1,43 @@
 //! The tool word of a task.
 
-ghost use Rattle.std.specs.Prelude.{◌≡◌, ◌≢◌, Err};
+ghost use Rattle.std.specs.Prelude.{◌≡◌, ◌≢◌, Err, IfSome};
 ghost use Rattle.std.specs.FinMap.{get};
 ghost use Rattle.omi_outside.specs.Outside.{HasCause};
+ghost use Rattle.omi_session.specs.Named.{IsNamed};
 ghost use Rattle.omi_session.specs.Opened.{StaysWhole};
 ghost use Rattle.omi_session.specs.Reads.{Answers};
 ghost use Rattle.omi_session.specs.Shown.{IsGiven};
+ghost use Rattle.omi_icv.specs.Scopes.{any_of};
 ghost use Rattle.omi_icv.specs.StateWords as inquiry;
 ghost use Rattle.omi_icv.specs.StateValues.{tool_of};
 ghost use Rattle.omi_icv.specs.Subjects.{OfScoped};
 
-use crate::scoped::{Scoped, record_of};
+use crate::scoped::{Scope, Scoped, found_of, record_of};
 use omi_calls::{Callbacks, ToHost};
+use omi_handle::Held;
 use omi_layout::Field;
 use omi_session::{Rc, Session, word};
+
+/// The word that a tool left with what is held as a task. Unsupported in each other scope.
+pub fn tool_data_of<C: Callbacks, F: ToHost>(
+    s: &mut Session<C, F>,
+    scope: Scope,
+    found: Option<Held>,
+) -> Result<u64, Rc>
+    requires { IfSome found (IsNamed s.old.layout) }
+    ensures answer { Answers C.told C.asked s.old s.new result
+        (inquiry.tool_data s.old.layout (λ _. found) (any_of scope)) }
+    ensures memory { result ≢ Err Rc.NoMem }
+    ensures same { StaysWhole C.told s.old s.new }
+    ensures cause { HasCause (C.faults s.old.table.calls) (C.faults s.new.table.calls)
+        (result ≡ Err Rc.CallbackError) }
+{
+    let address = record_of(s, scope, found)?;
+    match scope {
+        Scope::Task => word(s, address, Field::TaskTool, 0),
+        _ => Err(Rc::Unsupported),
+    }
+}
 
 /// The word that a tool left with a task. Unsupported of all else.
 pub fn get_tool_data<C: Callbacks, F: ToHost>(s: &mut Session<C, F>, of: Scoped) -> Result<u64, Rc>
@@ -26,9 +50,6 @@ pub fn get_tool_data<C: Callbacks, F: ToHost>(s: &mut Session<C, F>, of: Scoped)
     ensures cause { HasCause (C.faults s.old.table.calls) (C.faults s.new.table.calls)
         (result ≡ Err Rc.CallbackError) }
 {
-    let address = record_of(s, of)?;
-    match of {
-        Scoped::Task(_) => word(s, address, Field::TaskTool, 0),
-        _ => Err(Rc::Unsupported),
-    }
+    let found = found_of(s, of);
+    tool_data_of(s, of.scope(), found)
 }

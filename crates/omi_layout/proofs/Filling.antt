@@ -29,10 +29,6 @@ filled_more : (r : Rec) (xs : List Entry) (e : Entry)
 filled_more r [] e = refl
 filled_more r (x ∷ xs) e = filled_more (with_word_in r (number x.0) x.1 x.2) xs e
 
--- nothing is stored yet
-pub filled_none : (w old : List ℕ) (c kind : ℕ) → IsFilled w old old c kind []
-filled_none w old c kind = record { here = refl; keeps = record { others = λ c' k s ne. refl; count = refl; front = λ i h. refl; gaps = λ i h. refl } }
-
 module _ (w : List ℕ) (v : IsValid w) where
   -- an entry lies near the beginning of its record
   pub entry_low : (kind : ℕ) (e : Entry) → IsEntryOf w kind e → offset w (number e.0) + e.1 < 4096

@@ -22,9 +22,6 @@ not_team f g h same is = let one : kind_of f ≡ 3 = ap kind_of is in grind (ari
 kind_last : (f : ℕ) → f ≡ slots → kind_of f ≡ 4
 kind_last f is = ap kind_of is
 
-first_of_last : (f : ℕ) → kind_of f ≡ 4 → 25 ≤ f
-first_of_last f is = grind (arith, nat_tests)
-
 -- a field's words end before those of a later field of its record
 pub in_order : (w : List ℕ) (f g : ℕ) → IsField f → IsField g → f < g → kind_of f ≡ kind_of g
     → words_before f + width w f ≤ words_before g

@@ -27,9 +27,6 @@ rule_for name = filled (option_rule (id_of name))
 abbrev pub words_built : Rule
 words_built = with_index 1 (filled words_rule)
 
-rules_are : line_rules ≡ rule_for Seed ∷ rule_for Break ∷ rule_for Count ∷ rule_for Layout ∷ words_built ∷ []
-rules_are = refl
-
 pub by_long : (text : Text) → arg_by_long line_rules text ≡ option_map rule_for (option_named text)
 by_long text =
     go (bytes_eq (codes "seed") text) (bytes_eq (codes "break") text) (bytes_eq (codes "count") text)
@@ -60,9 +57,6 @@ abbrev pub rows_after_value : OptionName → Text → List Row → List Row
 rows_after_value name given rows =
     with_values (id_of name) (reading_by (rule_for name)) CommandLine (given ∷ []) (without (id_of name) rows)
 
-abbrev pub rows_after_word : Text → List Row → List Row
-rows_after_word word rows = with_values words_id (reading_by words_built) CommandLine (word ∷ []) rows
-
 abbrev pub repeated : OptionName → List Row → Kinds
 repeated name rows = cond (has_row (id_of name) rows) (kind.ArgumentConflict ∷ []) []
 
@@ -77,16 +71,6 @@ value_fault-repeated name given rows = go (has_row (id_of name) rows)
         → or_else (cond (has && true) (kind.ArgumentConflict ∷ []) []) [] ≡ cond has (kind.ArgumentConflict ∷ []) []
     go true = refl
     go false = refl
-
-pub none_pending : (rows : List Row) → pending_fault rows None ≡ []
-none_pending rows = refl
-
-pub word_pending : (rows : List Row) (word : Text) → pending_fault rows (Some (words_id, word ∷ [])) ≡ []
-word_pending rows word = refl
-
-pub rows_with_word : (rows : List Row) (word : Text)
-    → rows_with rows (Some (words_id, word ∷ [])) ≡ rows_after_word word rows
-rows_with_word rows word = refl
 
 pub name_pending : (name : OptionName) (rows : List Row)
     → pending_fault rows (Some (id_of name, [])) ≡ kind.InvalidValue ∷ []

@@ -41,9 +41,3 @@ mapped_from f (x ∷ xs) (suc k) y got = mapped_from f xs k y got
 
 pub never_some : {X : Type 0} → (o : Option X) (x : X) → o ≡ None → o ≡ Some x → ⊥
 never_some {X} o x none some = cc (none, some)
-
-pub mapped_to : {X Y : Type 0} → (f : X → Y) (xs : List X) (k : ℕ) (x : X) → slice_get xs k ≡ Some x
-    → slice_get (map f xs) k ≡ Some (f x)
-mapped_to f [] k x got = absurd (grind (arith, got))
-mapped_to {X} {Y} f (y ∷ ys) zero x got = ap (λ z. Some (f z)) (ap (some_or y) got)
-mapped_to f (y ∷ ys) (suc k) x got = mapped_to f ys k x got

@@ -1,16 +1,15 @@
 -- What a call answers after one of its parts has answered.
-use Rattle.std.proofs.Common.{◌≡◌, ◌≢◌, inl, inr, ℕ, ◌+◌, ◌≤◌, arith, cond, Bool, true, false, List, [], ◌∷◌, ◌++◌, length, Option, Some, None, refl, sym, ap, subst, ◌∙◌}
+use Rattle.std.proofs.Common.{◌≡◌, ◌≢◌, inl, inr, ℕ, cond, Bool, true, false, List, Option, refl, sym, ap, subst, ◌∙◌}
 use Rattle.std.specs.Prelude.{Result, Ok, Err, IsErr, IsErrAnd, is_err}
-use Rattle.std.specs.Option.{option_map_or}
-use Rattle.std.proofs.lemmas.List.{length-append}
 use Rattle.std.proofs.lemmas.Result.{err_from_is_err_and}
 use Rattle.omi_word.specs.Words.{Words}
-use Rattle.omi_calls.specs.Asked.{Asked, Wanted, Word, AsksWord, asked_after, listed_after, how_many}
+use Rattle.omi_calls.specs.Asked.{Asked, Word, AsksWord, asked_after}
 use Rattle.omi_calls.specs.Told.{Told}
+use Rattle.omi_handle.specs.declared.handle.Held.{Held}
 use Rattle.omi_session.specs.declared.rc.Rc.{Rc}
 use Rattle.omi_session.specs.declared.rc.Rc.TheVariants.{CallbackError}
 use Rattle.omi_session.specs.Opened.{Opened}
-use Rattle.omi_session.specs.Reads.{ReadsOr, Reads, Answer, Read, answer_on, addresses_on, after, then_reads, Ran, IsAnswer, ReadsAtMost, Answers}
+use Rattle.omi_session.specs.Reads.{ReadsOr, Reads, Answer, Read, answer_on, after, then_reads, Ran, IsAnswer, Answers}
 use Rattle.omi_session.specs.Tells.{Tells}
 use Rattle.omi_session.proofs.Told.{still_tells}
 
@@ -20,21 +19,6 @@ pub answer_then : {E A B : Type 0} (memory : Words) (reads : ReadsOr E A) (more 
 unfolding then_reads
 answer_then memory (Answer result) more = refl
 answer_then memory (Read addr next) more = answer_then memory (next (memory addr)) more
-
--- and the words that they read: those of the first, and then those of the second
-pub addresses_then : {E A B : Type 0} (memory : Words) (reads : ReadsOr E A) (more : A → ReadsOr E B)
-    → addresses_on memory (then_reads reads more) ≡ addresses_on memory reads ++ addresses_on memory (after (answer_on memory reads) more)
-unfolding then_reads
-addresses_then memory (Answer result) more = refl
-addresses_then memory (Read addr next) more =
-    ap (λ addresses. addr ∷ addresses) (addresses_then memory (next (memory addr)) more)
-
--- ---- what is listed
-
-more_listed : (wanted : Wanted) (listed : Option (List Wanted))
-    → option_map_or length (listed_after wanted listed) 0 ≤ option_map_or length listed 0 + 1
-more_listed wanted None = omega arith
-more_listed wanted (Some before) = omega (arith, length-append before (wanted ∷ []))
 
 -- ---- reads over a memory
 
@@ -70,20 +54,6 @@ module _ {E : Type 0} (told : Told) (memory : Words) (failed : E) where
   ran_is (Read addr more) before now result (inr goes) ne =
       ran_is (more (memory addr)) (asked_after (Word addr) before) now result goes.1 ne
 
-  -- no more words were asked for than are read
-  pub ran_most : {A : Type 0} (reads : ReadsOr E A) (before now : Asked) (result : Result A E)
-      → Ran told memory failed reads before now result
-      → how_many now ≤ how_many before + length (addresses_on memory reads)
-  ran_most (Answer answer) before now result ran = omega (arith, ap how_many ran.0)
-  ran_most (Read addr more) before now result (inl fails) =
-      omega (arith, ap how_many fails.1, more_listed (Word addr) before.listed)
-  ran_most (Read addr more) before now result (inr goes) =
-      omega (
-        arith,
-        ran_most (more (memory addr)) (asked_after (Word addr) before) now result goes.1,
-        more_listed (Word addr) before.listed,
-      )
-
 -- ---- calls of a session
 
 module _ {C F : Type 0} {told : C → Told} {asked : C → Asked} {s t : Opened C F} where
@@ -92,11 +62,6 @@ module _ {C F : Type 0} {told : C → Told} {asked : C → Asked} {s t : Opened 
       → IsAnswer (told s.table.calls) result reads
   answers_is {reads = reads} {result = result} answers = λ memory tells ne.
       ran_is (told s.table.calls) memory CallbackError reads (asked s.table.calls) (asked t.table.calls) result (answers.ran memory tells) ne
-
-  pub answers_most : {A : Type 0} {reads : Reads A} {result : Result A Rc} → Answers told asked s t result reads
-      → ReadsAtMost told asked s t reads
-  answers_most {reads = reads} {result = result} answers = λ memory tells.
-      ran_most (told s.table.calls) memory CallbackError reads (asked s.table.calls) (asked t.table.calls) result (answers.ran memory tells)
 
   -- the first part was refused
   pub asked_refused : {A B : Type 0} {reads : Reads A} {rc : Rc} (more : A → Reads B)
@@ -112,6 +77,11 @@ module _ {C F : Type 0} {told : C → Told} {asked : C → Asked} {s t : Opened 
   refused_then {result = result} more first is =
       let p = err_from_is_err_and result is in
       rw (p.1, p.2) (asked_refused more first)
+
+  -- a call by what is found under a pair is one by what is held there
+  pub asked_found : {A : Type 0} {result : Result A Rc} {found held : Option Held} (reads : Option Held → Reads A)
+      → found ≡ held → Answers told asked s t result (reads found) → Answers told asked s t result (reads held)
+  asked_found {result = result} reads is h = subst (λ o. Answers told asked s t result (reads o)) is h
 
   -- one of two ways to go on was taken
   pub asked_true : {A : Type 0} {b : Bool} {taken : Reads A} {result : Result A Rc} (other : Reads A)

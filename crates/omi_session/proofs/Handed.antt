@@ -10,9 +10,9 @@ use Rattle.omi_session.specs.declared.rc.Rc.{Rc}
 use Rattle.omi_session.specs.declared.rc.Rc.TheVariants.{NoMem, CallbackError}
 use Rattle.omi_session.specs.Named.{IsOfKind}
 use Rattle.omi_session.specs.Opened.{Opened}
-use Rattle.omi_session.specs.Reads.{Reads, Ran, ReadsAtMost, answer_on, IsAnswer, Answers}
-use Rattle.omi_session.specs.Made.{IsHanded, Makes, IsMade, IsMadeOf, StandsFor, Answered, as_pair}
-use Rattle.omi_session.proofs.Asked.{ran_is, ran_most}
+use Rattle.omi_session.specs.Reads.{Reads, answer_on, IsAnswer}
+use Rattle.omi_session.specs.Made.{IsHanded, Makes, IsMade, IsMadeOf, StandsFor, Answered}
+use Rattle.omi_session.proofs.Asked.{ran_is}
 
 -- the handles are those of a call that makes one
 pub handed_makes : (w : List ℕ) (kind : Kind) (old new : Ledger) (found : Result Held Rc) (r : Result (ℕ × ℕ) Rc)
@@ -59,20 +59,6 @@ stands_for old new (Ok h) (Err rc) free h' = subst (λ c. StandsFor new (Err c) 
 stands_for old new (Err rc) (Ok pair) free h' = absurd h'
 stands_for old new (Err rc) (Err why) free h' = refused_so new rc why (λ e. free (ap Err e)) h'.is
 
--- and no word is read when it is made
-pub handed_answered : {C F : Type 0} (told : C → Told) (asked : C → Asked) (s t u : Opened C F) (found : Result Held Rc) (r : Result (ℕ × ℕ) Rc) (reads : Reads Held)
-    → found ≢ Err NoMem
-    → Answers told asked s t found reads → IsHanded t.handles u.handles found r → u.table ≡ t.table → Answered told asked s u r reads
-handed_answered told asked s t u found r reads free answers handed table = record {
-  ran = λ memory tells. record {
-    found = found;
-    ran =
-        subst (λ now. Ran (told s.table.calls) memory CallbackError reads (asked s.table.calls) now found)
-        (ap (λ k. asked k.calls) (sym table)) (answers.ran memory tells);
-    stands = stands_for t.handles u.handles found r free handed;
-  };
-}
-
 -- the handle stands for what the reads answer, unless a callback failed
 stands_made : (new : Ledger) (r : Result (ℕ × ℕ) Rc) (found answer : Result Held Rc) → StandsFor new r found
     → (found ≢ Err CallbackError → found ≡ answer) → IsMade new r answer
@@ -93,20 +79,3 @@ answered_is {told = told} {asked = asked} {s = s} {t = t} {r = r} {reads = reads
     let by = answered.ran memory tells in
     stands_made t.handles r by.found (answer_on memory reads) by.stands (λ ne.
     ran_is (told s.table.calls) memory CallbackError reads (asked s.table.calls) (asked t.table.calls) by.found by.ran ne)
-
-pub answered_most : {C F : Type 0} {told : C → Told} {asked : C → Asked} {s t : Opened C F} {r : Result (ℕ × ℕ) Rc} {reads : Reads Held}
-    → Answered told asked s t r reads → ReadsAtMost told asked s t reads
-answered_most {told = told} {asked = asked} {s = s} {t = t} {reads = reads} answered = λ memory tells.
-    let by = answered.ran memory tells in
-    ran_most (told s.table.calls) memory CallbackError reads (asked s.table.calls) (asked t.table.calls) by.found by.ran
-
--- a callback failed in the inquiry where one failed in the call
-pub handed_cause : {H : Type 0} (pair : H → ℕ × ℕ) (old new : Ledger) (found : Result Held Rc) (r : Result H Rc)
-    → IsHanded old new found (as_pair pair r)
-    → r ≡ Err CallbackError → found ≡ Err CallbackError
-handed_cause pair old new (Ok h) (Ok x) h' is = absurd (cc)
-handed_cause pair old new (Ok h) (Err rc) h' is =
-    let clash : NoMem ≡ CallbackError = sym h'.is ∙ (let same : rc ≡ CallbackError = cc in same) in absurd (cc)
-handed_cause pair old new (Err rc) (Ok x) h' is = absurd h'
-handed_cause pair old new (Err rc) (Err why) h' is =
-    ap Err (sym h'.is ∙ (let same : why ≡ CallbackError = cc in same))

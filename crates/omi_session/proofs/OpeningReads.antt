@@ -1,5 +1,5 @@
 -- The reads of a table, word by word.
-use Rattle.std.proofs.Common.{◌≡◌, inl, inr, ℕ, suc, ◌+◌, ◌&&◌, not, Bool, false, eqb, eqb-true, List, [], ◌∷◌, ◌++◌, length, Option, Some, None, refl, sym, subst}
+use Rattle.std.proofs.Common.{◌≡◌, inl, inr, ℕ, suc, ◌&&◌, not, false, eqb, eqb-true, List, [], ◌∷◌, ◌++◌, length, Some, None, refl, subst}
 use Rattle.std.proofs.lemmas.Bool.{not-false}
 use Rattle.omi_script.proofs.Conjunctions.{and_left, and_right}
 use Rattle.std.specs.Prelude.{Result, Ok, Err}

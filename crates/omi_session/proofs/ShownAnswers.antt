@@ -3,6 +3,7 @@ use Rattle.std.proofs.Common.{◌≡◌, ◌≢◌, ℕ, zero, suc, ◌+◌, ◌
 use Rattle.std.specs.Prelude.{Result, Ok, Err, nat_le, slice_get, All}
 use Rattle.std.specs.Option.{option_map, ok_or}
 use Rattle.std.proofs.lemmas.Bool.Decides.{nat_tests}
+use Rattle.omi_calls.specs.Asked.{Asked}
 use Rattle.omi_calls.specs.Told.{Told}
 use Rattle.omi_handle.specs.declared.handle.Kind.TheVariants as kind
 use Rattle.omi_handle.specs.declared.handle.Held.{Held}
@@ -22,10 +23,12 @@ use Rattle.omi_rep.specs.Records.{record_at, region_word, task_word, thread_addr
 use Rattle.omi_session.specs.declared.rc.Rc.{Rc}
 use Rattle.omi_session.specs.declared.rc.Rc.TheVariants.{Unavailable, BadInput, Error, NoMem}
 use Rattle.omi_session.specs.Inquiry.{word_of, object_of, follow, follow_some, current_task, team_size, member}
-use Rattle.omi_session.specs.Reads.{Reads, Answer, answer_on, IsAnswer}
+use Rattle.omi_session.specs.Opened.{Opened}
+use Rattle.omi_session.specs.Reads.{Reads, Answer, Answers, answer_on, IsAnswer}
 use Rattle.omi_session.specs.Made.{IsMade, IsHanded}
 use Rattle.omi_session.specs.Answers.{task_of_thread, task_of_member}
 use Rattle.omi_session.specs.Shown.{ShowsTold, HoldsThread, HoldsRegion, HoldsTask, IsGiven, held_thread, held_region, held_task, as_held}
+use Rattle.omi_session.proofs.Asked.{answers_is}
 use Rattle.omi_session.proofs.Handed.{handed_is}
 use Rattle.omi_rep.proofs.Codes.{member_code}
 use Rattle.omi_rep.proofs.LiveObjects.{thread_lives, region_lives, task_lives}
@@ -49,15 +52,17 @@ element_of_all P (y ∷ ys) zero x all is = let same : y ≡ x = cc in subst P s
 element_of_all P (y ∷ ys) (suc i) x all is =
     element_of_all P ys i x (λ j z within. all (suc j) z (omega (arith, within))) is
 
-module _ (told : Told) (w : List ℕ) (s : State) (shown : ShowsTold told w s) where
-  -- a call that hands out what its reads find gives the object that the state names
-  pub given_handle : (old new : Ledger) (found : Result Held Rc) (result : Result (ℕ × ℕ) Rc) (reads : Reads Held) (answer : Result Held Rc)
-      → found ≢ Err NoMem → IsAnswer told found reads → IsHanded old new found result → answer_on shown.memory reads ≡ answer → IsMade new result answer
-  given_handle old new found result reads answer free answers handed is =
-      subst (IsMade new result) is
-      (handed_is told old new found result reads free answers handed shown.memory shown.tells)
+-- a call that finds an object by these reads and hands it out gives the object that the state names
+pub given_handle : {C F : Type 0} {told : C → Told} {asked : C → Asked} {old new : Opened C F} {w : List ℕ} {s : State}
+    {found : Result Held Rc} {reads : Reads Held} {answer : Result Held Rc} (before after : Ledger) (result : Result (ℕ × ℕ) Rc)
+    → found ≢ Err NoMem → Answers told asked old new found reads → IsHanded before after found result
+    → (shown : ShowsTold (told old.table.calls) w s) → answer_on shown.memory reads ≡ answer → IsMade after result answer
+given_handle {told = told} {old = old} {found = found} {reads = reads} before after result free answers handed shown is =
+    subst (IsMade after result) is
+    (handed_is (told old.table.calls) before after found result reads free (answers_is answers) handed shown.memory shown.tells)
 
-  -- and a value is the state's
+module _ (told : Told) (w : List ℕ) (s : State) (shown : ShowsTold told w s) where
+  -- a value is the state's
   pub given_value : {A : Type 0} (result : Result A Rc) (reads : Reads A) (answer : Result A Rc)
       → IsAnswer told result reads → answer_on shown.memory reads ≡ answer → IsGiven result answer
   given_value result reads answer answers is = λ ne. answers shown.memory shown.tells ne ∙ is

@@ -10,7 +10,7 @@ use Rattle.omi_handle.specs.declared.handle.Kind.{Kind}
 use Rattle.omi_handle.specs.declared.handle.Kind.TheVariants.{Thread, Region, Task}
 use Rattle.omi_handle.specs.declared.handle.Held.{Held}
 use Rattle.omi_handle.specs.Ledger.{Ledger}
-use Rattle.omi_session.specs.Named.{record_kind, AreNamed}
+use Rattle.omi_session.specs.Named.{record_kind, IsNamed, AreNamed}
 
 -- a kind of object has a kind of record
 pub kind_is : (kind : Kind) → IsKind (record_kind kind)
@@ -18,10 +18,14 @@ kind_is Thread = record { from = omega arith; to = omega arith }
 kind_is Region = record { from = omega arith; to = omega arith }
 kind_is Task = record { from = omega arith; to = omega arith }
 
--- what is held has a low address
+-- what may be held has a low address
+pub named_low : (w : List ℕ) (h : Held) → IsValid w → IsNamed w h → h.addr ≤ LAST_END
+named_low w h v named = place_low w (record_kind h.kind) h.addr v (kind_is h.kind) named.place
+
+-- and so does what is found under a pair
 pub found_low : (w : List ℕ) (handles : Ledger) (pair : ℕ × ℕ) (found : Option Held) → IsValid w
     → AreNamed w handles → found ≡ get handles.held pair
     → IfSome found (λ h. h.addr ≤ LAST_END)
 found_low w handles pair None v named is = tt
 found_low w handles pair (Some h) v named is =
-    place_low w (record_kind h.kind) h.addr v (kind_is h.kind) (named.each pair h (sym is)).place
+    named_low w h v (named.each pair h (sym is))

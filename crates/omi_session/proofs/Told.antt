@@ -1,6 +1,5 @@
 -- What is told stays told, and a failure in any part of a call is one of the call.
-use Rattle.std.proofs.Common.{◌≡◌, ℕ, ◌≤◌, Some, sym, ap, subst, ◌∙◌, arith}
-use Rattle.omi_outside.specs.Outside.{HasCause}
+use Rattle.std.proofs.Common.{◌≡◌, ℕ, Some, sym, ap, subst, ◌∙◌}
 use Rattle.omi_word.specs.Words.{Words}
 use Rattle.omi_calls.specs.Told.{Told, aligned_word_at}
 use Rattle.omi_calls.specs.Kept.{Kept}
@@ -39,12 +38,4 @@ stays_then told a b c first second = record {
   table = keeps_then told a.table b.table c.table first.table second.table;
   layout = second.layout ∙ first.layout;
   handles = second.handles ∙ first.handles;
-}
-
--- a count that rose from a later stand on rose from an earlier one
-pub cause_after : (before then now : ℕ) (failure part : Type 0) → before ≤ then → (failure → part)
-    → HasCause then now part → HasCause before now failure
-cause_after before then now failure part later is cause = record {
-  later = omega (arith, later, cause.later);
-  failed = λ f. (let rose = cause.failed (is f) in omega (arith, rose, later));
 }

@@ -1,8 +1,8 @@
 -- An inquiry by the words that it reads: each read names an address, and what follows depends on the word found there, or on that none
 -- is mapped there. So one definition says what is answered, which words are read, and which refusal decides.
-use Rattle.std.specs.Prelude.{◌≡◌, ◌≢◌, ◌⊎◌, ℕ, ◌+◌, ◌≤◌, List, [], ◌∷◌, length, Option, Result, Ok, Err}
+use Rattle.std.specs.Prelude.{◌≡◌, ◌≢◌, ◌⊎◌, ℕ, List, [], ◌∷◌, Option, Result, Ok, Err}
 use Rattle.omi_word.specs.Words.{Words}
-use Rattle.omi_calls.specs.Asked.{Asked, Word, MayFail, MayAnswer, asked_after, missed_after, how_many}
+use Rattle.omi_calls.specs.Asked.{Asked, Word, MayFail, MayAnswer, asked_after, missed_after}
 use Rattle.omi_calls.specs.Told.{Told}
 use Rattle.omi_session.specs.declared.rc.Rc.{Rc}
 use Rattle.omi_session.specs.declared.rc.Rc.TheVariants.{CallbackError}
@@ -67,10 +67,3 @@ pub record Answers {A C F : Type 0} (told : C → Told) (asked : C → Asked) (o
   pub ran : (memory : Words) → Tells (told old.table.calls) memory
       → Ran (told old.table.calls) memory CallbackError reads (asked old.table.calls)
       (asked new.table.calls) result
-
--- a call asked for no more words than these reads do on the words that are told
-abbrev pub ReadsAtMost : {E A C F : Type 0} → (C → Told) → (C → Asked) → Opened C F → Opened C F
-    → ReadsOr E A → Type 0
-ReadsAtMost told asked old new reads = (memory : Words) → Tells (told old.table.calls) memory
-    → how_many (asked new.table.calls)
-    ≤ how_many (asked old.table.calls) + length (addresses_on memory reads)

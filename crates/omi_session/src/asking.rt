@@ -1,8 +1,7 @@
-//! The parts of inquiries, over the public calls of a session: the word of a field, the object of a handle, and the live object to which
-//! a word points. Each answers what the definition of its reads does.
+//! The parts of inquiries, over the public calls of a session: the word of a field, and the live object to which a word points. Each
+//! answers what the definition of its reads does.
 
 ghost use Rattle.std.specs.Prelude.{◌≡◌, ◌≢◌, ◌≤◌, true, Err, IfOk, IfSome, is_some};
-ghost use Rattle.std.specs.FinMap.{get};
 ghost use Rattle.omi_outside.specs.Outside.{HasCause};
 ghost use Rattle.omi_layout.specs.declared.limits.TheConstants.{LAST_END};
 ghost use Rattle.omi_rep.specs.Look.{slot_at, life_of};
@@ -92,26 +91,6 @@ pub fn word<C: Callbacks, F: ToHost>(
     })
 }
 
-/// The object of the handle under a pair of key and serial: the handle is held, for this kind, and its record still has the life word
-/// that the handle keeps.
-pub fn object<C: Callbacks, F: ToHost>(
-    s: &mut Session<C, F>,
-    kind: Kind,
-    key: u64,
-    serial: u64,
-) -> Result<Held, Rc>
-    ensures answer { Answers C.told C.asked s.old s.new result
-        (inquiry.object_of s.old.layout kind (get s.old.handles.held (key, serial))) }
-    ensures named { IfOk result (IsOfKind s.old.layout kind) }
-    ensures memory { result ≢ Err Rc.NoMem }
-    ensures same { StaysWhole C.told s.old s.new }
-    ensures cause { HasCause (C.faults s.old.table.calls) (C.faults s.new.table.calls)
-        (result ≡ Err Rc.CallbackError) }
-{
-    let held = live_handle(s, kind, key, serial)?;
-    unchanged(s, held)
-}
-
 /// What a handle stands for, where its record still has the life word that the handle keeps. A StaleHandle where it has another.
 pub fn unchanged<C: Callbacks, F: ToHost>(s: &mut Session<C, F>, held: Held) -> Result<Held, Rc>
     requires { held.addr ≤ LAST_END }
@@ -128,24 +107,6 @@ pub fn unchanged<C: Callbacks, F: ToHost>(s: &mut Session<C, F>, held: Held) -> 
         Ok(held)
     } else {
         Err(Rc::StaleHandle)
-    }
-}
-
-/// What is held under a pair of key and serial for this kind.
-pub fn live_handle<C: Callbacks, F: ToHost>(
-    s: &Session<C, F>,
-    kind: Kind,
-    key: u64,
-    serial: u64,
-) -> Result<Held, Rc>
-    ensures value { result
-        ≡ inquiry.live_handle kind (get s.now.handles.held (key, serial)) }
-    ensures named { IfOk result (IsOfKind s.now.layout kind) }
-    ensures memory { result ≢ Err Rc.NoMem }
-{
-    match s.find(key, serial) {
-        Some(held) if held.kind == kind => Ok(held),
-        _ => Err(Rc::BadInput),
     }
 }
 
@@ -228,25 +189,4 @@ pub fn follow_some<C: Callbacks, F: ToHost>(
         return Err(Rc::Unavailable);
     }
     lead(s, kind, field, pointer)
-}
-
-/// The live object of a kind to which a field of the object of a handle points, under its pair of key and serial. Where the field
-/// holds 0, Unavailable.
-pub fn related<C: Callbacks, F: ToHost>(
-    s: &mut Session<C, F>,
-    kind: Kind,
-    pair: (u64, u64),
-    other: Kind,
-    field: Field,
-) -> Result<Held, Rc>
-    ensures answer { Answers C.told C.asked s.old s.new result (inquiry.related
-        s.old.layout kind (get s.old.handles.held pair) other field) }
-    ensures named { IfOk result (IsOfKind s.old.layout other) }
-    ensures memory { result ≢ Err Rc.NoMem }
-    ensures same { StaysWhole C.told s.old s.new }
-    ensures cause { HasCause (C.faults s.old.table.calls) (C.faults s.new.table.calls)
-        (result ≡ Err Rc.CallbackError) }
-{
-    let from = object(s, kind, pair.0, pair.1)?;
-    follow_some(s, other, from.addr, field)
 }

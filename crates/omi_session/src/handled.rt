@@ -1,13 +1,13 @@
 //! What is asked of handles alone: their order, their release, and the names of their objects.
 
-ghost use Rattle.std.specs.Prelude.{◌≡◌, ◌≤◌, OnOk, OnErr};
-ghost use Rattle.std.specs.FinMap.{get, remove};
+ghost use Rattle.std.specs.Prelude.{◌≡◌};
+ghost use Rattle.std.specs.FinMap.{get};
 ghost use Rattle.omi_rep.specs.Look.{slot_at};
 ghost use Rattle.omi_session.specs.Named.{record_kind};
 ghost use Rattle.omi_session.specs.Inquiry as inquiry;
-ghost use Rattle.omi_session.specs.Handles.{handle_cmp, as_done, IsNameOf};
+ghost use Rattle.omi_session.specs.Handles.{LetsGo, handle_cmp, IsNameOf};
 
-use crate::asking::live_handle;
+use crate::objects::live_handle;
 use crate::rc::Rc;
 use crate::session::Session;
 use omi_calls::{Callbacks, ToHost};
@@ -39,15 +39,7 @@ pub fn let_go<C: Callbacks, F: ToHost>(
     key: u64,
     serial: u64,
 ) -> Result<(), Rc>
-    ensures answer { result
-        ≡ as_done (inquiry.live_handle kind (get s.old.handles.held (key, serial))) }
-    ensures removed { OnOk result
-        (s.new.handles.held ≡ remove s.old.handles.held (key, serial)) }
-    ensures refused { OnErr result (s.new.handles ≡ s.old.handles) }
-    ensures made { s.new.handles.made ≡ s.old.handles.made }
-    ensures room { s.old.handles.room ≤ s.new.handles.room }
-    ensures layout { s.new.layout ≡ s.old.layout }
-    ensures table { s.new.table ≡ s.old.table }
+    ensures { LetsGo kind (key, serial) s.old s.new result }
 {
     live_handle(s, kind, key, serial)?;
     s.release(key, serial);

@@ -86,6 +86,16 @@ impl<C: Callbacks, F: ToHost> Session<C, F> {
         Session::over(table, layout, Handles::new(alloc))
     }
 
+    /// The same without memory for handles: a call that makes one answers NoMem.
+    pub fn without_handles(table: Table<C, F>, layout: Layout) -> Session<C, F>
+        ensures table { result.table ≡ table }
+        ensures layout { result.layout ≡ layout.table }
+        ensures fresh { IsFresh result.handles }
+        ensures room { result.handles.room ≡ 0 }
+    {
+        Session::over(table, layout, Handles::without_memory())
+    }
+
     /// The layout that the target's words published when the session was opened.
     pub fn layout(&self) -> &Layout
         ensures { result.now.table ≡ self.now.layout }

@@ -1,6 +1,6 @@
 //! The lines of tasks and their data environments.
 
-ghost use Rattle.std.specs.Prelude.{◌≡◌, ◌++◌, IfOk, OnErr, OnOk, string_bytes};
+ghost use Rattle.std.specs.Prelude.{◌≡◌, ◌≤◌, ◌++◌, OnErr, OnOk, length, string_bytes};
 ghost use Rattle.std.specs.List.{flat_map};
 ghost use Rattle.omi_text.specs.Lines.{line};
 ghost use Rattle.omi_text.specs.Parts.{spaced, task_name, task_region, task_ancestors, task_frames, dynamic_variable, list_variables, task_variables};
@@ -8,11 +8,11 @@ ghost use Rattle.omi_text.specs.Tasks.{task_kind, task_line, schedule_text, envi
 
 use crate::OutOfMemory;
 use crate::ids::{push_region, push_task, push_task_or_none};
-use crate::names::push_kind;
+use crate::names::kind_text;
 use crate::numbers::{push_hexadecimal, push_list};
+use crate::short::ShortText;
 use omi_model::{TaskRow, TaskRows};
 use omi_numbers::CHUNK_PLACE;
-use std::alloc::Global;
 use std::fmt::Write;
 
 /// The word for the kind of a task.
@@ -87,15 +87,16 @@ fn push_task_line(text: &mut String, row: &TaskRow) -> Result<(), OutOfMemory>
     push_frames(text, row)
 }
 
-/// The schedule of a word.
+/// The schedule of a word: its kind and its chunk.
 #[tactic(auto, unfolding(crate::specs::Tasks::schedule_text))]
-fn schedule_text(alloc: Global, word: u64) -> Result<String, OutOfMemory>
-    ensures { IfOk result (λ text. string_bytes text ≡ schedule_text word) }
+pub fn schedule_text(word: u64) -> ShortText
+    ensures text { result ≡ schedule_text word }
+    ensures short { length result ≤ 41 }
 {
-    let mut text = String::new(alloc);
-    push_kind(&mut text, word % CHUNK_PLACE)?;
-    write!(&mut text, ",{}", word / CHUNK_PLACE)?;
-    Ok(text)
+    let mut text = kind_text(word % CHUNK_PLACE);
+    text.push_str(",");
+    text.push_decimal(word / CHUNK_PLACE);
+    text
 }
 
 /// Adds the schedule of a word. Where memory runs out, nothing is added.
@@ -104,8 +105,8 @@ pub fn push_schedule(text: &mut String, word: u64) -> Result<(), OutOfMemory>
         (string_bytes text.new ≡ string_bytes text.old ++ schedule_text word) }
     ensures kept { OnErr result (string_bytes text.new ≡ string_bytes text.old) }
 {
-    let schedule = schedule_text(*text.allocator(), word)?;
-    text.push_str(&schedule)
+    let schedule = schedule_text(word);
+    text.push_str(schedule.as_str())
 }
 
 /// Adds the front of the line of a data environment: dyn-var.

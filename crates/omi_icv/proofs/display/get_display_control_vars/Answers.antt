@@ -4,7 +4,7 @@ use Rattle.std.proofs.lemmas.Result.{err_from_is_err_and}
 use Rattle.omi_session.specs.declared.rc.Rc.TheVariants.{NoMem}
 use Rattle.omi_session.specs.Reads.{Answer}
 use Rattle.omi_session.proofs.Asked.{asked_then, asked_refused, asked_answer}
-use Rattle.omi_icv.specs.Display.{space_words, display, display_texts}
+use Rattle.omi_icv.specs.Display.{display, display_texts}
 use Rattle.omi_icv.proofs.Written.{written_refused, written_text, written_full}
 use Rattle.omi_icv.proofs.ShownInquiries.{display_given}
 use Rattle.omi_icv.proofs.Written.{written_is}

@@ -1,43 +1,10 @@
-use Rattle.std.proofs.Common.{◌∙◌, refl, subst, ap}
-use Rattle.std.specs.Prelude.{Ok, Err}
-use Rattle.omi_session.specs.Reads.{Answers}
-use Rattle.omi_session.proofs.Asked.{asked_then, asked_answer, refused_then}
+use Rattle.std.specs.FinMap.{get}
 use Rattle.omi_icv.specs.Icvs.{icv_value}
-use Rattle.omi_icv.specs.Table.{variable_in}
-use Rattle.omi_icv.specs.Values.{numbers_in}
+use Rattle.omi_icv.proofs.Scoping.{by_handle, value_scoped}
 use Rattle.omi_icv.proofs.icv_text.icv_value.Goals as goal
 
-pub returns-in_err-address-clause-answer : goal.returns-in_err-address-clause-answer
-unfolding icv_value
-returns-in_err-address-clause-answer g c =
-    refused_then _ c.in_err-address.ensures.answer c.from_residual.ensures.1
-
-pub returns-in_err-variable-clause-answer : goal.returns-in_err-variable-clause-answer
-unfolding icv_value
-returns-in_err-variable-clause-answer g c =
-    let unknown = c.in_err-variable.ensures ∙ ap (λ o. variable_in o c.args.icv) c.scope.ensures in
-    asked_then c.record_of.new.s _ c.in_ok-address.address c.record_of.ensures.same.table.same c.in_ok-address.ensures.answer
-    (refused_then _ (asked_answer unknown) c.from_residual-in_err-variable.ensures.1)
-
-pub returns-in_err-numbers-clause-answer : goal.returns-in_err-numbers-clause-answer
-unfolding icv_value
-returns-in_err-numbers-clause-answer g c =
-    let known = c.in_ok-variable.ensures ∙ ap (λ o. variable_in o c.args.icv) c.scope.ensures in
-    let numbers =
-    subst
-    (λ w. Answers g.C.Callbacks.told g.C.Callbacks.asked c.record_of.new.s c.numbers.new.s (Err c.in_err-numbers.field-0.0) (numbers_in w c.in_ok-variable.variable.source c.in_ok-address.address)) c.record_of.ensures.same.layout c.in_err-numbers.ensures.answer in
-    asked_then c.record_of.new.s _ c.in_ok-address.address c.record_of.ensures.same.table.same c.in_ok-address.ensures.answer
-    (asked_then c.record_of.new.s _ c.in_ok-variable.variable refl (asked_answer known)
-    (refused_then _ numbers c.from_residual-in_err-numbers.ensures.1))
-
 pub returns-clause-answer : goal.returns-clause-answer
-unfolding icv_value
 returns-clause-answer g c =
-    let known = c.in_ok-variable.ensures ∙ ap (λ o. variable_in o c.args.icv) c.scope.ensures in
-    let numbers =
-    subst
-    (λ w. Answers g.C.Callbacks.told g.C.Callbacks.asked c.record_of.new.s c.numbers.new.s (Ok c.in_ok-numbers.numbers) (numbers_in w c.in_ok-variable.variable.source c.in_ok-address.address)) c.record_of.ensures.same.layout c.in_ok-numbers.ensures.answer in
-    asked_then c.record_of.new.s _ c.in_ok-address.address c.record_of.ensures.same.table.same c.in_ok-address.ensures.answer
-    (asked_then c.record_of.new.s _ c.in_ok-variable.variable refl (asked_answer known)
-    (asked_then c.numbers.new.s _ c.in_ok-numbers.numbers c.numbers.ensures.same.table.same numbers
-    (asked_answer refl)))
+    by_handle (λ held of. icv_value c.args.s.now.layout held of c.args.icv)
+    (value_scoped c.args.s.now.layout c.args.icv) (get c.args.s.now.handles.held) c.args.of
+    c.found_of-found.ensures.value c.scope.ensures c.icv_value_of.ensures.answer

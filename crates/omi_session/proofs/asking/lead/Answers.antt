@@ -1,4 +1,4 @@
-use Rattle.std.proofs.Common.{◌≡◌, ℕ, ◌+◌, ◌*◌, Bool, false, true, cond, List, Option, Some, None, refl, sym, ap, ◌∙◌, arith}
+use Rattle.std.proofs.Common.{◌≡◌, ℕ, ◌+◌, ◌*◌, Bool, false, true, cond, List, Option, Some, None, sym, ap, ◌∙◌, arith}
 use Rattle.std.specs.Prelude.{Result, Err, is_err, is_some}
 use Rattle.std.specs.Option.{option_and_then, ok_or}
 use Rattle.omi_word.specs.Words.{Words}
@@ -20,6 +20,19 @@ use Rattle.omi_session.specs.Tells.{Tells}
 use Rattle.omi_session.proofs.Asked.{asked_answer, asked_failed, asked_false, asked_once, asked_true, worked}
 use Rattle.omi_session.proofs.asking.lead.Goals as goal
 
+-- whether a record begins where the pointer leads, in the layout of a session
+begins : {b : Bool} (t w : List ℕ) (kind : Kind) (pointer : ℕ) (place : Bool) → t ≡ w
+    → place ≡ is_some (slot_at t (record_kind kind) pointer) → place ≡ b
+    → is_some (slot_at w (record_kind kind) pointer) ≡ b
+begins t w kind pointer place same value is =
+    ap (λ l. is_some (slot_at l (record_kind kind) pointer)) (sym same) ∙ sym value ∙ is
+
+-- how far its life word is from where it begins
+life_offset : (t w : List ℕ) (kind : Kind) (f : Field) (n at front : ℕ) → front ≡ at → at ≡ offset t n → t ≡ w
+    → n ≡ number f → f ≡ life_of (record_kind kind) → front ≡ offset w (number (life_of (record_kind kind)))
+life_offset t w kind f n at front is there same numbered of_kind =
+    is ∙ there ∙ (λ i. offset (same i) ((numbered ∙ ap number of_kind) i))
+
 -- a record begins where the pointer leads, and its life word was read
 lead_read : {C F Failed : Type 0} {told : C → Told} {asked : C → Asked} {s t : Opened C F} (w : List ℕ) (kind : Kind) (f : Field) (pointer front : ℕ)
     (found : Option ℕ) (result : Result Held Rc) → is_some (slot_at w (record_kind kind) pointer) ≡ true
@@ -39,20 +52,16 @@ unfolding lead
 returns-then-not-is_place-clause-answer g c =
     let no : c.is_place.result ≡ false = grind arith in
     asked_false _
-    (ap (λ w. is_some (slot_at w (record_kind c.args.kind) c.args.pointer)) (sym c.layout.ensures) ∙ sym c.is_place.ensures.value ∙ no)
+    (begins _ _ c.args.kind c.args.pointer _ c.layout.ensures c.is_place.ensures.value no)
     (asked_answer (ap (λ n. Err (Error c.args.pointer n)) c.number.ensures.value))
 
 pub returns-in-Some-clause-answer : goal.returns-in-Some-clause-answer
 returns-in-Some-clause-answer g c =
     let some : c.is_place.result ≡ true = grind arith in
-    let front : c.from-front.result ≡ offset c.args.s.now.layout (number (life_of (record_kind c.args.kind))) =
-    c.from-front.ensures
-    ∙ c.offset.ensures
-    ∙
-    (λ i. offset (c.layout-2.ensures i) ((c.number-2.ensures.value ∙ ap number c.life_field.ensures) i)) in
     lead_read c.args.s.now.layout c.args.kind c.args.field c.args.pointer c.from-front.result c.in-Ok.found _
-    (ap (λ w. is_some (slot_at w (record_kind c.args.kind) c.args.pointer)) (sym c.layout.ensures) ∙ sym c.is_place.ensures.value ∙ some)
-    front c.peek.ensures.asked (worked c.in-Ok.is) c.in-Ok.ensures.word
+    (begins _ _ c.args.kind c.args.pointer _ c.layout.ensures c.is_place.ensures.value some)
+    (life_offset _ _ c.args.kind _ _ _ _ c.from-front.ensures c.offset.ensures c.layout-2.ensures c.number-2.ensures.value c.life_field.ensures)
+    c.peek.ensures.asked (worked c.in-Ok.is) c.in-Ok.ensures.word
     (ap
     (λ (b : Bool). ok_or (cond b (Some (record { kind = c.args.kind; addr = c.args.pointer; life = c.in-Some.life })) None) (Error c.args.pointer (number c.args.field)))
     (sym c.if-is_live.true ∙ c.is_live.ensures)
@@ -63,14 +72,10 @@ returns-in-Some-clause-answer g c =
 pub returns-in_default-found-clause-answer : goal.returns-in_default-found-clause-answer
 returns-in_default-found-clause-answer g c =
     let some : c.is_place.result ≡ true = grind arith in
-    let front : c.from-front.result ≡ offset c.args.s.now.layout (number (life_of (record_kind c.args.kind))) =
-    c.from-front.ensures
-    ∙ c.offset.ensures
-    ∙
-    (λ i. offset (c.layout-2.ensures i) ((c.number-2.ensures.value ∙ ap number c.life_field.ensures) i)) in
     lead_read c.args.s.now.layout c.args.kind c.args.field c.args.pointer c.from-front.result c.in-Ok.found _
-    (ap (λ w. is_some (slot_at w (record_kind c.args.kind) c.args.pointer)) (sym c.layout.ensures) ∙ sym c.is_place.ensures.value ∙ some)
-    front c.peek.ensures.asked (worked c.in-Ok.is) c.in-Ok.ensures.word
+    (begins _ _ c.args.kind c.args.pointer _ c.layout.ensures c.is_place.ensures.value some)
+    (life_offset _ _ c.args.kind _ _ _ _ c.from-front.ensures c.offset.ensures c.layout-2.ensures c.number-2.ensures.value c.life_field.ensures)
+    c.peek.ensures.asked (worked c.in-Ok.is) c.in-Ok.ensures.word
     (ap (λ n. Err (Error c.args.pointer n)) c.number.ensures.value
     ∙ ap
     (λ (b : Bool). ok_or (cond b (Some (record { kind = c.args.kind; addr = c.args.pointer; life = c.in-Some.life })) None) (Error c.args.pointer (number c.args.field)))
@@ -82,14 +87,10 @@ returns-in_default-found-clause-answer g c =
 pub returns-in_default-found-2-clause-answer : goal.returns-in_default-found-2-clause-answer
 returns-in_default-found-2-clause-answer g c =
     let some : c.is_place.result ≡ true = grind arith in
-    let front : c.from-front.result ≡ offset c.args.s.now.layout (number (life_of (record_kind c.args.kind))) =
-    c.from-front.ensures
-    ∙ c.offset.ensures
-    ∙
-    (λ i. offset (c.layout-2.ensures i) ((c.number-2.ensures.value ∙ ap number c.life_field.ensures) i)) in
     lead_read c.args.s.now.layout c.args.kind c.args.field c.args.pointer c.from-front.result c.in-Ok.found _
-    (ap (λ w. is_some (slot_at w (record_kind c.args.kind) c.args.pointer)) (sym c.layout.ensures) ∙ sym c.is_place.ensures.value ∙ some)
-    front c.peek.ensures.asked (worked c.in-Ok.is) c.in-Ok.ensures.word
+    (begins _ _ c.args.kind c.args.pointer _ c.layout.ensures c.is_place.ensures.value some)
+    (life_offset _ _ c.args.kind _ _ _ _ c.from-front.ensures c.offset.ensures c.layout-2.ensures c.number-2.ensures.value c.life_field.ensures)
+    c.peek.ensures.asked (worked c.in-Ok.is) c.in-Ok.ensures.word
     (ap (λ n. Err (Error c.args.pointer n)) c.number.ensures.value
     ∙ ap
     (λ o. ok_or (option_and_then (object c.args.kind c.args.pointer) o) (Error c.args.pointer (number c.args.field)))
@@ -100,12 +101,9 @@ unfolding lead
 returns-in_default-clause-answer g c =
     let some : c.is_place.result ≡ true = grind arith in
     let front : c.from-front.result ≡ offset c.args.s.now.layout (number (life_of (record_kind c.args.kind))) =
-    c.from-front.ensures
-    ∙ c.offset.ensures
-    ∙
-    (λ i. offset (c.layout-2.ensures i) ((c.number-2.ensures.value ∙ ap number c.life_field.ensures) i)) in
+    life_offset _ _ c.args.kind _ _ _ _ c.from-front.ensures c.offset.ensures c.layout-2.ensures c.number-2.ensures.value c.life_field.ensures in
     let place : c.args.pointer + 8 * c.from-front.result ≡ place_of c.args.s.now.layout c.args.pointer (life_of (record_kind c.args.kind)) 0 =
     omega (arith, front) in
     asked_true _
-    (ap (λ w. is_some (slot_at w (record_kind c.args.kind) c.args.pointer)) (sym c.layout.ensures) ∙ sym c.is_place.ensures.value ∙ some)
+    (begins _ _ c.args.kind c.args.pointer _ c.layout.ensures c.is_place.ensures.value some)
     (asked_failed (c.args.pointer + 8 * c.from-front.result) place c.peek.ensures.asked (ap is_err c.in_default.is))

@@ -1,32 +1,51 @@
-use Rattle.std.proofs.Common.{ap, ◌∙◌, sym}
-use Rattle.std.specs.FinMap.{get, remove}
-use Rattle.omi_handle.proofs.HeldLemmas.{key_of, held_released, gone_removed, others_removed, absent_removed}
+use Rattle.std.proofs.Common.{ap, subst, ◌∙◌, sym, is_some}
+use Rattle.std.specs.FinMap.{get, get-empty, remove}
+use Rattle.omi_handle.specs.Entries.{ledger_of, SerialsBelow}
+use Rattle.omi_handle.specs.Ledger.{pair_cmp}
+use Rattle.omi_handle.proofs.HeldLemmas.{gone_removed, others_removed, absent_removed}
 use Rattle.omi_handle.proofs.handles.Handles.release.Goals as goal
 
-pub remove-requires : goal.remove-requires
-remove-requires c =
-    key_of c.self.inside.entries c.args.key c.args.serial c.in-Some.field-0
-    (sym c.held_under.ensures ∙ c.in-Some.is)
+pub returns-in_default-clause-answer : goal.returns-in_default-clause-answer
+returns-in_default-clause-answer c =
+    sym (ap (λ l. is_some (get l.held (c.args.key, c.args.serial))) (sym c.self.view_is)
+    ∙ ap (λ entries. is_some (get (ledger_of entries c.self.inside.made).held (c.args.key, c.args.serial))) c.in_default.is
+    ∙ ap is_some (get-empty pair_cmp (c.args.key, c.args.serial)))
 
-pub returns-in-Some-clause-removed : goal.returns-in-Some-clause-removed
-returns-in-Some-clause-removed c =
-    held_released c.self.inside.entries _ _ _ _
-    (sym c.held_under.ensures ∙ c.in-Some.is) c.remove.ensures.updates
-    ∙ ap (λ l. remove l.held (c.args.key, c.args.serial)) c.self.view_is
+pub returns-in_default-clause-removed : goal.returns-in_default-clause-removed
+returns-in_default-clause-removed c =
+    ap (λ l. l.held) c.self.view_is
+    ∙ sym (absent_removed _ _ (ap (λ l. get l.held (c.args.key, c.args.serial)) (sym c.self.view_is)
+    ∙ ap (λ entries. get (ledger_of entries c.self.inside.made).held (c.args.key, c.args.serial)) c.in_default.is
+    ∙ get-empty pair_cmp (c.args.key, c.args.serial)))
 
-pub returns-in-Some-clause-gone : goal.returns-in-Some-clause-gone
-returns-in-Some-clause-gone c =
-    ap (λ m. get m (c.args.key, c.args.serial))
-    (held_released c.self.inside.entries _ _ _ _ (sym c.held_under.ensures ∙ c.in-Some.is) c.remove.ensures.updates)
-    ∙ gone_removed _ _
+pub returns-in_default-clause-gone : goal.returns-in_default-clause-gone
+returns-in_default-clause-gone c =
+    ap (λ entries. get (ledger_of entries c.self.inside.made).held (c.args.key, c.args.serial)) c.in_default.is
+    ∙ get-empty pair_cmp (c.args.key, c.args.serial)
 
-pub returns-in-Some-clause-others : goal.returns-in-Some-clause-others
-returns-in-Some-clause-others c = λ pair apart.
-    ap (λ m. get m pair)
-    (held_released c.self.inside.entries _ _ _ _ (sym c.held_under.ensures ∙ c.in-Some.is) c.remove.ensures.updates)
-    ∙ others_removed _ _ pair apart ∙ ap (λ l. get l.held pair) c.self.view_is
+pub invariant_of-self-2 : goal.invariant_of-self-2
+invariant_of-self-2 c =
+    c.let_go.ensures.below c.self.inside.made
+    (subst (λ entries. SerialsBelow entries c.self.inside.made) c.in-Some.is c.self.invariant)
 
-pub returns-in-None-clause-removed : goal.returns-in-None-clause-removed
-returns-in-None-clause-removed c =
-    sym
-    (absent_removed _ _ (ap (λ l. get l.held (c.args.key, c.args.serial)) (sym c.self.view_is) ∙ sym c.held_under.ensures ∙ c.in-None.is))
+pub returns-clause-answer : goal.returns-clause-answer
+returns-clause-answer c =
+    c.let_go.ensures.answer
+    ∙ ap (λ l. is_some (get l.held (c.args.key, c.args.serial)))
+    (ap (λ entries. ledger_of entries c.self.inside.made) (sym c.in-Some.is) ∙ c.self.view_is)
+
+pub returns-clause-removed : goal.returns-clause-removed
+returns-clause-removed c =
+    c.let_go.ensures.removed
+    ∙ ap (λ l. remove l.held (c.args.key, c.args.serial))
+    (ap (λ entries. ledger_of entries c.self.inside.made) (sym c.in-Some.is) ∙ c.self.view_is)
+
+pub returns-clause-gone : goal.returns-clause-gone
+returns-clause-gone c =
+    ap (λ m. get m (c.args.key, c.args.serial)) c.let_go.ensures.removed ∙ gone_removed _ _
+
+pub returns-clause-others : goal.returns-clause-others
+returns-clause-others c = λ pair apart.
+    ap (λ m. get m pair) c.let_go.ensures.removed ∙ others_removed _ _ pair apart
+    ∙ ap (λ l. get l.held pair)
+    (ap (λ entries. ledger_of entries c.self.inside.made) (sym c.in-Some.is) ∙ c.self.view_is)

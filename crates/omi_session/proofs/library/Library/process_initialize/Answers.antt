@@ -1,4 +1,4 @@
-use Rattle.std.proofs.Common.{◌≡◌, Ok, Err, sym, ap, subst}
+use Rattle.std.proofs.Common.{◌≡◌, Err, sym, ap, subst}
 use Rattle.omi_session.specs.declared.rc.Rc.TheVariants.{CallbackError}
 use Rattle.omi_session.specs.Opening.{Opens}
 use Rattle.omi_session.proofs.OpeningReads.{opens_as}

@@ -1,7 +1,7 @@
 use Rattle.std.proofs.Common.{refl}
 use Rattle.omi_session.specs.Inquiry.{object_of}
 use Rattle.omi_session.proofs.Asked.{asked_then, refused_then, asked_answer}
-use Rattle.omi_session.proofs.asking.object.Goals as goal
+use Rattle.omi_session.proofs.objects.object_of.Goals as goal
 
 pub returns-in_err-held-clause-answer : goal.returns-in_err-held-clause-answer
 unfolding object_of

@@ -1,17 +1,17 @@
-use Rattle.omi_handle.specs.declared.handle.Kind.TheVariants.{Thread}
-use Rattle.omi_layout.specs.declared.field.Field.TheVariants.{TaskThread}
+use Rattle.omi_handle.specs.declared.handle.Kind.TheVariants.{Region}
+use Rattle.omi_layout.specs.declared.field.Field.TheVariants.{TaskRegion}
 use Rattle.omi_session.specs.Inquiry.{follow}
 use Rattle.omi_session.proofs.Asked.{asked_on, refused_then}
-use Rattle.omi_ask.specs.Threads.{thread_of_member}
-use Rattle.omi_ask.proofs.threads.thread_of_member.Goals as goal
+use Rattle.omi_ask.specs.Regions.{region_of_task}
+use Rattle.omi_ask.proofs.regions.region_of_task_of.Goals as goal
 
 pub returns-in_err-task-clause-answer : goal.returns-in_err-task-clause-answer
-unfolding thread_of_member
+unfolding region_of_task
 returns-in_err-task-clause-answer g c = refused_then _ c.in_err-task.ensures.answer c.from_residual.ensures.1
 
 pub returns-clause-answer : goal.returns-clause-answer
-unfolding thread_of_member
+unfolding region_of_task
 returns-clause-answer g c =
     asked_on _
-    (λ w task. follow w Thread task.addr TaskThread 0) c.in_ok-task.task c.member.ensures.same.table.same c.member.ensures.same.layout
+    (λ w task. follow w Region task.addr TaskRegion 0) c.in_ok-task.task c.object_of.ensures.same.table.same c.object_of.ensures.same.layout
     c.in_ok-task.ensures.answer c.follow.ensures.answer
