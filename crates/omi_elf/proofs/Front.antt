@@ -3,7 +3,7 @@ use Rattle.std.proofs.Common.{◌≡◌, ℕ, ◌+◌, ◌≤◌, List, length, 
 use Rattle.std.specs.Int.{Width, w16, w64, byte_len}
 use Rattle.std.proofs.lemmas.List.{take-take, take_min, get_or-take}
 use Rattle.omi_elf.specs.Header.{field, begins_as_elf, ei_class, ei_data, order_of, e_type, e_phoff, e_phentsize, e_phnum}
-use Rattle.omi_elf.specs.Table.{class_row, data_row, type_row, entry_size_row, header_rows}
+use Rattle.omi_elf.specs.Table.{class_row, data_row, type_row, entry_size_row, front_rows, header_rows}
 use Rattle.omi_elf.specs.Found.{IsHeaderOf}
 use Rattle.omi_elf.specs.declared.header.Header.{Header}
 use Rattle.omi_elf.proofs.Within.{bytes_within}
@@ -60,9 +60,9 @@ module _ (bytes : List ℕ) where
   unfolding entry_size_row
   entry_size_row_same len = rw phentsize_same refl
 
-  rows_same : (len : ℕ) → header_rows front len ≡ header_rows bytes len
-  unfolding header_rows
-  rows_same len =
+  rows_same : (most len : ℕ) → header_rows most front len ≡ header_rows most bytes len
+  unfolding header_rows front_rows
+  rows_same most len =
       let a = class_row_same len in let b = data_row_same len in let c = type_row_same len in let d = entry_size_row_same len in
       rw (begins_same, a, b, c, d) refl
 
@@ -74,10 +74,10 @@ front_of n bytes piece count counted is = is ∙ ap (λ (k : ℕ). take k bytes)
 pub begins_of_front : (bytes piece : List ℕ) → piece ≡ take 4 bytes → begins_as_elf piece ≡ begins_as_elf bytes
 begins_of_front bytes piece is = let same = take-take 4 4 bytes (omega arith) in ap begins_as_elf is ∙ rw same refl
 
-pub rows_of_front : (bytes piece : List ℕ) (len : ℕ) → len ≡ length bytes → piece ≡ take 64 bytes
-    → header_rows piece len ≡ header_rows bytes (length bytes)
-rows_of_front bytes piece len is e =
-    ap (λ (p : List ℕ). header_rows p len) e ∙ rows_same bytes len ∙ ap (header_rows bytes) is
+pub rows_of_front : (bytes piece : List ℕ) (most len : ℕ) → len ≡ length bytes → piece ≡ take 64 bytes
+    → header_rows most piece len ≡ header_rows most bytes (length bytes)
+rows_of_front bytes piece most len is e =
+    ap (λ (p : List ℕ). header_rows most p len) e ∙ rows_same bytes most len ∙ ap (header_rows most bytes) is
 
 pub header_of_front : (bytes piece : List ℕ) (header : Header) → piece ≡ take 64 bytes
     → header.order ≡ order_of piece → header.phoff ≡ e_phoff piece → header.phnum ≡ e_phnum piece → IsHeaderOf bytes header

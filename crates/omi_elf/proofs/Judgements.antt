@@ -3,7 +3,7 @@ use Rattle.std.proofs.Common.{◌≡◌, ℕ, ◌+◌, ◌*◌, ◌<◌, ◌≤�
 use Rattle.std.specs.Prelude.{nat_lt, ◌&&◌}
 use Rattle.std.proofs.lemmas.Bool.{lt-ltb, le-ltb}
 use Rattle.omi_elf.specs.declared.fault.ElfFault.TheVariants.{Short}
-use Rattle.omi_elf.specs.declared.limits.TheConstants.{PROGRAM_HEADER_BYTES}
+use Rattle.omi_elf.specs.declared.limits.TheConstants.{MOST_ELF_BYTES, PROGRAM_HEADER_BYTES}
 use Rattle.omi_elf.specs.Header.{e_phoff, e_phnum}
 use Rattle.omi_elf.specs.declared.fault.ElfReadError.{ElfReadError}
 use Rattle.omi_elf.specs.Table.{short_if, header_rows, program_headers_row, segment_rows, judgement}
@@ -11,21 +11,21 @@ use Rattle.omi_elf.specs.Outcomes.{ReadFails}
 use Rattle.omi_elf.proofs.SegmentRows.{first_fails, next_fails}
 
 module _ (bytes : List ℕ) where
-  pub header_fails : (e : ElfReadError) → ReadFails e (header_rows bytes (length bytes)) → ReadFails e (judgement bytes)
+  pub header_fails : (e : ElfReadError) → ReadFails e (header_rows MOST_ELF_BYTES bytes (length bytes)) → ReadFails e (judgement bytes)
   unfolding judgement
-  header_fails e f = first_fails e (header_rows bytes (length bytes)) _ f
+  header_fails e f = first_fails e (header_rows MOST_ELF_BYTES bytes (length bytes)) _ f
 
-  pub headers_fail : (e : ElfReadError) → header_rows bytes (length bytes) ≡ Ok tt → ReadFails e (program_headers_row bytes)
+  pub headers_fail : (e : ElfReadError) → header_rows MOST_ELF_BYTES bytes (length bytes) ≡ Ok tt → ReadFails e (program_headers_row bytes)
       → ReadFails e (judgement bytes)
   unfolding judgement
-  headers_fail e a f = next_fails e (header_rows bytes (length bytes)) _ a (first_fails e (program_headers_row bytes) _ f)
+  headers_fail e a f = next_fails e (header_rows MOST_ELF_BYTES bytes (length bytes)) _ a (first_fails e (program_headers_row bytes) _ f)
 
-  pub rest_fails : (e : ElfReadError) → header_rows bytes (length bytes) ≡ Ok tt → program_headers_row bytes ≡ Ok tt
+  pub rest_fails : (e : ElfReadError) → header_rows MOST_ELF_BYTES bytes (length bytes) ≡ Ok tt → program_headers_row bytes ≡ Ok tt
       → ReadFails e (segment_rows bytes) → ReadFails e (judgement bytes)
   unfolding judgement
-  rest_fails e a b f = next_fails e (header_rows bytes (length bytes)) _ a (next_fails e (program_headers_row bytes) _ b f)
+  rest_fails e a b f = next_fails e (header_rows MOST_ELF_BYTES bytes (length bytes)) _ a (next_fails e (program_headers_row bytes) _ b f)
 
-  pub none_fails : header_rows bytes (length bytes) ≡ Ok tt → program_headers_row bytes ≡ Ok tt → segment_rows bytes ≡ Ok tt
+  pub none_fails : header_rows MOST_ELF_BYTES bytes (length bytes) ≡ Ok tt → program_headers_row bytes ≡ Ok tt → segment_rows bytes ≡ Ok tt
       → judgement bytes ≡ Ok tt
   unfolding judgement
   none_fails a b d = rw (a, b) d

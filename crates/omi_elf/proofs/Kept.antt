@@ -4,12 +4,11 @@ use Rattle.std.specs.Prelude.{All, filter, find, ◌%◌, ◌&&◌, ◌==◌, na
 use Rattle.std.specs.List.{list_all}
 use Rattle.std.proofs.lemmas.Bool.{and_parts, eqb-true, leb-true, ltb-true, not-false}
 use Rattle.std.proofs.lemmas.List.Elements.{All-nil, All-cons, All-weaker, All-same, filter_passes}
-use Rattle.std.proofs.lemmas.List.Sums.{sum_by-cons}
 use Rattle.omi_word.specs.declared.limits.TheConstants.{FIRST_ADDRESS, MEMORY_END}
 use Rattle.omi_elf.specs.declared.limits.TheConstants.{LOAD_SEGMENT, MOST_ELF_BYTES}
 use Rattle.omi_elf.specs.declared.program_header.ProgramHeader.{ProgramHeader}
 use Rattle.omi_elf.specs.Header.{is_kept, rounded_size, word_count}
-use Rattle.omi_elf.specs.Table.{lies_within, is_unaligned, words_of_all}
+use Rattle.omi_elf.specs.Table.{lies_within, is_unaligned}
 use Rattle.omi_elf.specs.Found.{IsReadable, IsBounded}
 use Rattle.omi_elf.proofs.Passed.{none_found}
 
@@ -53,9 +52,3 @@ bounded_from len hs ks short e q = λ k d lt.
 
 pub aligned_from : (hs : List ProgramHeader) → find is_unaligned hs ≡ None → All (λ h. h.p_vaddr % 8 ≡ 0) hs
 aligned_from hs none = λ k d lt. eqb-true _ 0 (not-false _ (none_found is_unaligned hs none k d lt))
-
-pub few_from : (hs : List ProgramHeader) (most : ℕ) → words_of_all hs ≤ most → All (λ h. word_count h ≤ most) hs
-few_from [] most le = All-nil (λ h. word_count h ≤ most)
-few_from (h ∷ hs) most le =
-    let all = sum_by-cons word_count h hs in
-    All-cons (λ g. word_count g ≤ most) h hs (omega (arith, all, le)) (few_from hs most (omega (arith, all, le)))

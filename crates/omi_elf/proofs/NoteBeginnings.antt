@@ -4,7 +4,7 @@ use Rattle.std.specs.Int.{w32}
 use Rattle.std.proofs.lemmas.List.{take_min, length-drop}
 use Rattle.omi_elf.specs.declared.limits.TheConstants.{NOTE_FRONT_BYTES}
 use Rattle.omi_elf.specs.Header.{field}
-use Rattle.omi_elf.specs.Notes.{padded, n_namesz, n_descsz, n_type, to_description, is_ours}
+use Rattle.omi_elf.specs.Notes.{padded, n_namesz, n_descsz, n_type, to_description, is_ours, is_status}
 use Rattle.omi_elf.specs.Found.{IsPieceOf}
 use Rattle.omi_elf.proofs.Within.{bytes_within, field_within}
 
@@ -45,5 +45,11 @@ name_is bytes piece at b =
 pub ours_is : (order : ℕ) (bytes piece : List ℕ) (at : ℕ) → Begins bytes at piece → is_ours order piece 0 ≡ is_ours order bytes at
 unfolding is_ours
 ours_is order bytes piece at b =
+    let a = name_size_is order bytes piece at b in let t = type_is order bytes piece at b in let n = name_is bytes piece at b in
+    rw (a, t, n) refl
+
+pub status_is : (order : ℕ) (bytes piece : List ℕ) (at : ℕ) → Begins bytes at piece → is_status order piece 0 ≡ is_status order bytes at
+unfolding is_status
+status_is order bytes piece at b =
     let a = name_size_is order bytes piece at b in let t = type_is order bytes piece at b in let n = name_is bytes piece at b in
     rw (a, t, n) refl

@@ -14,6 +14,7 @@ use Rattle.omi_elf.specs.declared.program_header.ProgramHeader.{ProgramHeader}
 use Rattle.omi_elf.specs.Header.{is_note_segment}
 use Rattle.omi_elf.specs.Notes.{NotePlace, notes_in, is_last_read}
 use Rattle.omi_elf.specs.Found.{IsFound, IsPlace, IsReadPlace, last_from, last_in}
+use Rattle.omi_elf.proofs.NoteSteps.{cut_there}
 
 -- what stands in for a program header that isn't there
 abbrev pub no_header : ProgramHeader
@@ -98,6 +99,7 @@ read_place order bytes at left OutOfMemory is = tt
 -- the search in one segment ends where the place ends it
 pub found_cut : (order : ℕ) (bytes : List ℕ) (at left most : ℕ) (e : ElfReadError) (f : Option NotePlace) → last_from order bytes (suc most) at left ≡ f
     → IsReadPlace order bytes at left (Err e) → IsFound bytes (Err e) f
-found_cut order bytes at left most (read.Fault place why) f is cut = (sym is ∙ cut.1 most, cut.0)
+found_cut order bytes at left most (read.Fault place why) f is cut =
+    (sym is ∙ cut_there order bytes at left most (cut.1 most), cut.0)
 found_cut order bytes at left most read.Failed f is cut = tt
 found_cut order bytes at left most read.OutOfMemory f is cut = tt

@@ -7,13 +7,13 @@ use Rattle.omi_corefile.specs.Limits.{rises_from}
 use Rattle.omi_corefile.specs.declared.limits.TheConstants.{MOST_SEGMENTS, MOST_SEGMENT_WORDS}
 use Rattle.omi_elf.specs.declared.fault.ElfFault.{ElfFault}
 use Rattle.omi_elf.specs.declared.fault.ElfFault.TheVariants.{Unaligned, Overlap}
-use Rattle.omi_elf.specs.declared.limits.TheConstants.{MOST_ID_BYTES}
+use Rattle.omi_elf.specs.declared.limits.TheConstants.{MOST_ELF_BYTES, MOST_ID_BYTES}
 use Rattle.omi_elf.specs.declared.program_header.ProgramHeader.{ProgramHeader}
 use Rattle.omi_elf.specs.Header.{ei_data, order_of, kept_segments}
 use Rattle.omi_elf.specs.Notes.{NotePlace, note_found, n_descsz, ids_of}
 use Rattle.omi_elf.specs.Segments.{by_start, first_overlap, count_apart}
 use Rattle.omi_elf.specs.Table.{Judged, ◌>>=◌, fault_if, short_if, fault_of, length_row, magic_row, class_row, data_row, program_headers_row, segments_row, notes_row, unaligned_row}
-use Rattle.omi_elf.specs.Table.{words_row, overlap_row, count_row, contexts_row, header_rows, segment_rows, judgement, is_unaligned, words_of_all, is_cut, judged_note, lists_ids}
+use Rattle.omi_elf.specs.Table.{words_row, overlap_row, count_row, contexts_row, front_rows, header_rows, segment_rows, judgement, is_unaligned, words_of_all, is_cut, judged_note, lists_ids}
 
 -- a row that tells no fault lets the next be judged
 pub both : (a : Judged) (f : Unit {0} → Judged) → (a >>= f) ≡ Ok tt → (a ≡ Ok tt) × (f tt ≡ Ok tt)
@@ -80,10 +80,10 @@ note_passed bytes (Some (Some at)) e cut row =
       rise = a.1;
     }
 
-data_passed : (bytes : List ℕ) → header_rows bytes (length bytes) ≡ Ok tt → data_row bytes (length bytes) ≡ Ok tt
-unfolding header_rows
+data_passed : (bytes : List ℕ) → header_rows MOST_ELF_BYTES bytes (length bytes) ≡ Ok tt → data_row bytes (length bytes) ≡ Ok tt
+unfolding header_rows front_rows
 data_passed bytes e =
-    let a = both (length_row bytes (length bytes)) _ e in
+    let a = both (length_row MOST_ELF_BYTES bytes (length bytes)) _ e in
     let b = both (magic_row bytes) _ a.1 in
     let c = both (class_row bytes (length bytes)) _ b.1 in
     (both (data_row bytes (length bytes)) _ c.1).0
@@ -107,10 +107,10 @@ segment_rows_passed bytes e =
     let g = both (count_row bytes) _ f.1 in
     record { notes = b.0; aligned = c.0; words = d.0; apart = f.0; few = g.0; contexts = g.1 }
 
-rows_passed : (bytes : List ℕ) → judgement bytes ≡ Ok tt → (header_rows bytes (length bytes) ≡ Ok tt) × (segment_rows bytes ≡ Ok tt)
+rows_passed : (bytes : List ℕ) → judgement bytes ≡ Ok tt → (header_rows MOST_ELF_BYTES bytes (length bytes) ≡ Ok tt) × (segment_rows bytes ≡ Ok tt)
 unfolding judgement
 rows_passed bytes e =
-    let a = both (header_rows bytes (length bytes)) _ e in
+    let a = both (header_rows MOST_ELF_BYTES bytes (length bytes)) _ e in
     let b = both (program_headers_row bytes) _ a.1 in
     (a.0, b.1)
 

@@ -1,5 +1,5 @@
 -- One more entry of what stands one behind another in the file.
-use Rattle.std.proofs.Common.{◌≡◌, ℕ, zero, suc, ◌+◌, ◌*◌, ◌<◌, List, [], ◌∷◌, ◌++◌, length, refl, ap, sym, ◌∙◌, arith}
+use Rattle.std.proofs.Common.{◌≡◌, ℕ, ◌+◌, ◌*◌, List, [], ◌∷◌, ◌++◌, length, refl, arith}
 use Rattle.std.specs.Int.{w64}
 use Rattle.std.proofs.lemmas.List.FromFn.{map-range_with_len_more, length-map-range_with_len}
 use Rattle.omi_elf.specs.declared.limits.TheConstants.{PROGRAM_HEADER_BYTES}
@@ -25,17 +25,6 @@ pub numbers_from-more : (order : ℕ) (bytes : List ℕ) (at i : ℕ)
 unfolding numbers_from
 numbers_from-more order bytes at i =
     map-range_with_len_more (λ (k : ℕ). field w64 order bytes (at + 8 * k)) 0 i i (omega arith)
-
-pub length-headers_from : (order : ℕ) (bytes : List ℕ) (at n : ℕ) → length (headers_from order bytes at n) ≡ n
-unfolding headers_from
-length-headers_from order bytes at n =
-    length-map-range_with_len (λ (k : ℕ). program_header order bytes (at + PROGRAM_HEADER_BYTES * k)) 0 n
-
--- where there are none, their place doesn't matter
-pub headers_from-same : (order : ℕ) (bytes : List ℕ) (at other n : ℕ) → (0 < n → at ≡ other)
-    → headers_from order bytes at n ≡ headers_from order bytes other n
-headers_from-same order bytes at other zero h = headers_from-none order bytes at ∙ sym (headers_from-none order bytes other)
-headers_from-same order bytes at other (suc n) h = ap (λ (a : ℕ). headers_from order bytes a (suc n)) (h (omega arith))
 
 pub length-numbers_from : (order : ℕ) (bytes : List ℕ) (at n : ℕ) → length (numbers_from order bytes at n) ≡ n
 unfolding numbers_from

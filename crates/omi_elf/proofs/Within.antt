@@ -48,11 +48,6 @@ pub front_piece : (bytes buffer : List ℕ) (at count : ℕ) → count ≤ lengt
 front_piece bytes buffer at count le is =
     is ∙ ap (λ (n : ℕ). take n (drop at bytes)) (sym (length-take-le count buffer le))
 
--- all that was read
-pub whole_piece : (bytes buffer : List ℕ) (at count : ℕ) → count ≡ length buffer → buffer ≡ take count (drop at bytes)
-    → IsPieceOf bytes at buffer
-whole_piece bytes buffer at count counted is = is ∙ ap (λ (n : ℕ). take n (drop at bytes)) counted
-
 -- the numbers of a piece
 pub numbers_within : (order : ℕ) (bytes piece : List ℕ) (at n : ℕ) → IsPieceOf bytes at piece → 8 * n ≤ length piece
     → numbers_from order piece 0 n ≡ numbers_from order bytes at n

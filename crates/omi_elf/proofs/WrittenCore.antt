@@ -1,5 +1,5 @@
 -- The file that is written of a core stands for it.
-use Rattle.std.proofs.Common.{◌≡◌, ℕ, suc, ◌+◌, ◌*◌, ◌≤◌, List, ◌∷◌, ◌++◌, length, map, Some, Ok, refl, sym, ap, subst, ◌∙◌, arith, length-append}
+use Rattle.std.proofs.Common.{◌≡◌, ℕ, suc, ◌+◌, ◌*◌, ◌≤◌, true, false, List, ◌∷◌, ◌++◌, length, map, Some, Ok, refl, sym, ap, subst, ◌∙◌, arith, length-append}
 use Rattle.std.specs.Prelude.{filter, not, nat_lt}
 use Rattle.std.specs.List.{list_all, range_with_len}
 use Rattle.std.proofs.lemmas.Bool.{le-ltb}
@@ -141,7 +141,7 @@ is_read c bytes w =
 
 -- the note, by its place
 abbrev written_note : CoreImage → Note
-written_note c = record { at = note_at c; description = note_at c + 20; size = 8 * length c.contexts }
+written_note c = record { at = note_at c; ours = true; status = false; description = note_at c + 20; size = 8 * length c.contexts }
 
 rows_pass : (c : CoreImage) (bytes : List ℕ) → IsWritten c bytes → IsRead c bytes → segment_rows bytes ≡ Ok tt
 rows_pass c bytes w r =
@@ -166,7 +166,7 @@ faultless_is : (c : CoreImage) (bytes : List ℕ) → IsWritten c bytes → IsRe
 unfolding judgement
 faultless_is c bytes w r =
     let room : HEADER_BYTES + PROGRAM_HEADER_BYTES * (length c.segments + 1) ≤ length bytes = omega (arith, r.note.room) in
-    passes (header_rows bytes (length bytes)) _ (header_passes c.order (length c.segments + 1) bytes (order_known c) w.few r.says)
+    passes (header_rows MOST_ELF_BYTES bytes (length bytes)) _ (header_passes c.order (length c.segments + 1) bytes (order_known c) w.few r.says)
     (passes (program_headers_row bytes) _ (headers_pass c.order (length c.segments + 1) bytes room r.says) (rows_pass c bytes w r))
 
 -- ---- the core

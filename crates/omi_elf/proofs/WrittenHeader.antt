@@ -8,7 +8,7 @@ use Rattle.omi_elf.specs.declared.fault.ElfFault.TheVariants.{Class, NotCore, He
 use Rattle.omi_elf.specs.declared.limits.TheConstants.{CORE_TYPE, HEADER_BYTES, MOST_ELF_BYTES, PROGRAM_HEADER_BYTES}
 use Rattle.omi_elf.specs.Header.{field, begins_as_elf, ei_class, ei_data, order_of, e_type, e_phoff, e_phentsize, e_phnum}
 use Rattle.omi_elf.specs.Spelling.{bytes_of, e_ident, header_front, header_rest, elf_header}
-use Rattle.omi_elf.specs.Table.{Judged, ◌>>=◌, fault_if, field_row, length_row, magic_row, class_row, data_row, type_row, entry_size_row, program_headers_row, header_rows}
+use Rattle.omi_elf.specs.Table.{Judged, ◌>>=◌, fault_if, field_row, length_row, magic_row, class_row, data_row, type_row, entry_size_row, program_headers_row, front_rows, header_rows}
 use Rattle.omi_elf.proofs.Placed.{Has, has_first, has_next, has_same, has_room, has_dropped, from_first_6, from_first_8, told16, told32, told64, length-bytes_of, field_read}
 
 -- ---- the fields of its two parts, seen from the first one on
@@ -205,11 +205,11 @@ size_passes order count bytes says =
     good_field bytes 56 (e_phentsize bytes == PROGRAM_HEADER_BYTES) 54 (HeaderSize (e_phentsize bytes)) (omega (arith, says.room)) (eq-eqb (e_phentsize bytes) PROGRAM_HEADER_BYTES says.size)
 
 pub header_passes : (order count : ℕ) (bytes : List ℕ) → order ≤ 1 → length bytes ≤ MOST_ELF_BYTES → SaysHeader order count bytes
-    → header_rows bytes (length bytes) ≡ Ok tt
-unfolding header_rows
+    → header_rows MOST_ELF_BYTES bytes (length bytes) ≡ Ok tt
+unfolding header_rows front_rows
 header_passes order count bytes known few says =
     let begins = says.begins in
-    passes (length_row bytes (length bytes)) _
+    passes (length_row MOST_ELF_BYTES bytes (length bytes)) _
     (not_told (begins_as_elf bytes && nat_lt MOST_ELF_BYTES (length bytes)) 0 (TooLarge (length bytes))
     (and_right (begins_as_elf bytes) (nat_lt MOST_ELF_BYTES (length bytes)) (le-ltb MOST_ELF_BYTES (length bytes) few)))
     (passes (magic_row bytes) _ (not_told (not (begins_as_elf bytes)) 0 NotElf (ap not begins))

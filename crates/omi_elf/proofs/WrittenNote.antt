@@ -14,7 +14,7 @@ use Rattle.omi_elf.specs.Table.{judged_note}
 use Rattle.omi_elf.specs.Found.{last_from, last_in}
 use Rattle.omi_elf.proofs.Ids.{ids_row}
 use Rattle.omi_elf.proofs.NoteSegments.{ends_here}
-use Rattle.omi_elf.proofs.NoteSteps.{ours_there}
+use Rattle.omi_elf.proofs.NoteSteps.{whole_there, ours_there}
 use Rattle.omi_elf.proofs.Placed.{Has, has_first, has_next, has_same, has_room, has_dropped, from_first_6, told32, length-bytes_of, field_read, numbers_read}
 use Rattle.omi_elf.proofs.WrittenHeaders.{header_of}
 
@@ -98,8 +98,10 @@ found_within : (order : ℕ) (bytes : List ℕ) (place : ℕ) (ids : List ℕ) (
 found_within order bytes place ids zero says some = absurd (omega (arith, some))
 found_within order bytes place ids (suc most) says some =
     let there = description_there order bytes place ids says in
-    ours_there order bytes place (note_size (length ids)) most (omega arith) (omega (arith, says.room)) (omega (arith, there, says.size))
-    (omega (arith, there, says.size, says.room)) (ours order bytes place ids says)
+    ours_there order bytes place (note_size (length ids)) most _
+    (whole_there order bytes place (note_size (length ids)) most (omega arith) (omega (arith, says.room)) (omega (arith, there, says.size))
+    (omega (arith, there, says.size, says.room)))
+    (ours order bytes place ids says)
 
 pub found_first : (order : ℕ) (bytes : List ℕ) (header_place place : ℕ) (ids : List ℕ) (hs : List ProgramHeader) → SaysNote order bytes place ids
     → last_in order bytes (header_of header_place NOTE_SEGMENT place 0 (note_size (length ids)) ∷ hs) ≡ Some (Some place)

@@ -1,5 +1,5 @@
--- What the search for our note answers, as the code goes from note to note.
-use Rattle.std.specs.Prelude.{◌≡◌, ℕ, suc, ◌+◌, ◌-◌, ◌^◌, ◌%◌, ◌<◌, ◌≤◌, List, length, take, drop, find, filter, Option, Some, None, Result, Ok, Err}
+-- What reading answers, as the code goes from note to note.
+use Rattle.std.specs.Prelude.{◌≡◌, ℕ, suc, ◌+◌, ◌-◌, ◌^◌, ◌%◌, ◌<◌, ◌≤◌, List, [], ◌∷◌, length, take, drop, find, filter, Option, Some, None, Result, Ok, Err}
 use Rattle.omi_elf.specs.declared.fault.ElfFault.{ElfFault}
 use Rattle.omi_elf.specs.declared.fault.ElfFault.TheVariants.{Short}
 use Rattle.omi_elf.specs.declared.fault.ElfError.{ElfError}
@@ -8,7 +8,7 @@ use Rattle.omi_elf.specs.declared.fault.ElfReadError.{ElfReadError}
 use Rattle.omi_elf.specs.declared.fault.ElfReadError.TheVariants as read
 use Rattle.omi_elf.specs.declared.notes.Note.{Note}
 use Rattle.omi_elf.specs.declared.notes.Place.{Place}
-use Rattle.omi_elf.specs.declared.notes.Place.TheVariants.{End, Ours, Other}
+use Rattle.omi_elf.specs.declared.notes.Place.TheVariants.{End, There}
 use Rattle.std.specs.List.{flat_map}
 use Rattle.std.specs.Option.{option_map}
 use Rattle.omi_elf.specs.declared.program_header.ProgramHeader.{ProgramHeader}
@@ -17,7 +17,7 @@ use Rattle.omi_corefile.specs.declared.limits.TheConstants.{MOST_SEGMENT_WORDS}
 use Rattle.omi_elf.specs.declared.limits.TheConstants.{MOST_ELF_BYTES}
 use Rattle.omi_elf.specs.declared.header.Header.{Header}
 use Rattle.omi_elf.specs.Header.{order_of, e_phoff, e_phnum, is_note_segment, rounded_size, word_count}
-use Rattle.omi_elf.specs.Notes.{NotePlace, notes_from, notes_in, is_last_read, n_descsz, description_place}
+use Rattle.omi_elf.specs.Notes.{NotePlace, notes_from, notes_in, is_last_read, is_ours, is_status, n_descsz, description_place}
 
 -- what stands from a place of the file on
 abbrev pub IsPieceOf : List ℕ → ℕ → List ℕ → Type 0
@@ -50,18 +50,25 @@ IsFound bytes (Err read.OutOfMemory) found = Unit {0}
 abbrev pub last_from : ℕ → List ℕ → ℕ → ℕ → ℕ → Option NotePlace
 last_from order bytes most at left = find (is_last_read order bytes) (notes_from order bytes most at left)
 
--- what stands at a place: the search ends there, or goes on so many bytes further
+-- the note at a place, whose name and type say which it is, and whose description stands where it says, and has as many bytes
+pub record IsNoteAt (order : ℕ) (bytes : List ℕ) (at : ℕ) (note : Note) : Type 0 where
+  pub at_is : note.at ≡ at
+  pub ours : note.ours ≡ is_ours order bytes at
+  pub status : note.status ≡ is_status order bytes at
+  pub description : note.description ≡ description_place order bytes at
+  pub size : note.size ≡ n_descsz order bytes at
+
+-- what stands at a place: no further note, or a note behind which the next one stands so many bytes further
 abbrev pub GoesBy : ℕ → List ℕ → ℕ → ℕ → Place → Type 0
-GoesBy order bytes at left End = (most : ℕ) → last_from order bytes (suc most) at left ≡ None
-GoesBy order bytes at left (Ours note) = (note.at ≡ at) × ((most : ℕ)
-    → last_from order bytes (suc most) at left ≡ Some (Some at))
-GoesBy order bytes at left (Other step) = (most : ℕ)
-    → last_from order bytes (suc most) at left ≡ last_from order bytes most (at + step) (left - step)
+GoesBy order bytes at left End = (most : ℕ) → notes_from order bytes (suc most) at left ≡ []
+GoesBy order bytes at left (There note step) = IsNoteAt order bytes at note × ((most : ℕ)
+    → notes_from order bytes (suc most) at left
+    ≡ Some at ∷ notes_from order bytes most (at + step) (left - step))
 
 -- the file ends inside the note there
 abbrev pub IsCut : ℕ → List ℕ → ℕ → ℕ → ℕ → ElfFault → Type 0
 IsCut order bytes at left place why = IsShort bytes place why × ((most : ℕ)
-    → last_from order bytes (suc most) at left ≡ Some None)
+    → notes_from order bytes (suc most) at left ≡ None ∷ [])
 
 abbrev pub IsPlace : ℕ → List ℕ → ℕ → ℕ → Result Place ElfError → Type 0
 IsPlace order bytes at left (Ok place) = GoesBy order bytes at left place
@@ -85,11 +92,6 @@ pub record IsDescribed (order : ℕ) (bytes : List ℕ) (note : Note) : Type 0 w
   pub place : note.description ≡ description_place order bytes note.at
   pub size : note.size ≡ n_descsz order bytes note.at
 
-abbrev pub IsDescribedIfOurs : ℕ → List ℕ → Place → Type 0
-IsDescribedIfOurs order bytes End = Unit {0}
-IsDescribedIfOurs order bytes (Ours note) = IsDescribed order bytes note
-IsDescribedIfOurs order bytes (Other step) = Unit {0}
-
 abbrev pub IsDescribedIfAny : ℕ → List ℕ → Option Note → Type 0
 IsDescribedIfAny order bytes None = Unit {0}
 IsDescribedIfAny order bytes (Some note) = IsDescribed order bytes note
@@ -98,11 +100,10 @@ IsDescribedIfAny order bytes (Some note) = IsDescribed order bytes note
 abbrev pub EndsWithin : ℕ → Note → Type 0
 EndsWithin len note = note.description + note.size ≤ len
 
--- so it has one of ours, and the place behind another note at this place is no number above 2^64
+-- so it has a note at this place, and the place behind that one is no number above 2^64
 abbrev pub StaysWithin : ℕ → ℕ → Place → Type 0
 StaysWithin len at End = Unit {0}
-StaysWithin len at (Ours note) = EndsWithin len note
-StaysWithin len at (Other step) = at + step < 2 ^ 64
+StaysWithin len at (There note step) = EndsWithin len note × (at + step < 2 ^ 64)
 
 abbrev pub EndsWithinIfAny : ℕ → Option Note → Type 0
 EndsWithinIfAny len None = Unit {0}

@@ -2,7 +2,7 @@
 use Rattle.std.specs.Prelude.{ℕ, zero, suc, ◌+◌, ◌-◌, ◌*◌, ◌/◌, Bool, true, ◌&&◌, ◌==◌, nat_eq, nat_lt, List, [], ◌∷◌, length, drop, filter, find, Option, Some, None, if◌then◌else◌}
 use Rattle.std.specs.List.{starts_with, flat_map}
 use Rattle.std.specs.Int.{w32}
-use Rattle.omi_elf.specs.declared.limits.TheConstants.{NOTE_FRONT_BYTES, NOTE_NAME, NOTE_TYPE}
+use Rattle.omi_elf.specs.declared.limits.TheConstants.{NOTE_FRONT_BYTES, NOTE_NAME, NOTE_TYPE, STATUS_NAME, STATUS_TYPE}
 use Rattle.omi_elf.specs.declared.program_header.ProgramHeader.{ProgramHeader}
 use Rattle.omi_elf.specs.Header.{field, numbers_from, order_of, program_headers, is_note_segment}
 
@@ -54,11 +54,19 @@ abbrev pub notes : List ℕ → List NotePlace
 notes bytes = flat_map (notes_in (order_of bytes) bytes)
     (filter is_note_segment (program_headers bytes))
 
--- the note has the name and the type of the one that holds native ids
+-- the note has this name, the zero byte that ends it with it, and this type
+abbrev pub is_named : List ℕ → ℕ → ℕ → List ℕ → ℕ → Bool
+is_named name kind order bytes at = n_namesz order bytes at == length name
+    && n_type order bytes at == kind
+    && starts_with nat_eq (drop (at + NOTE_FRONT_BYTES) bytes) name
+
+-- it has those of the note that holds native ids
 unfoldable pub is_ours : ℕ → List ℕ → ℕ → Bool
-is_ours order bytes at = n_namesz order bytes at == length NOTE_NAME
-    && n_type order bytes at == NOTE_TYPE
-    && starts_with nat_eq (drop (at + NOTE_FRONT_BYTES) bytes) NOTE_NAME
+is_ours order bytes at = is_named NOTE_NAME NOTE_TYPE order bytes at
+
+-- or those of one that holds the status of a thread
+unfoldable pub is_status : ℕ → List ℕ → ℕ → Bool
+is_status order bytes at = is_named STATUS_NAME STATUS_TYPE order bytes at
 
 -- no note is read behind the first one of ours, nor behind one inside which the file ends
 abbrev pub is_last_read : ℕ → List ℕ → NotePlace → Bool

@@ -34,9 +34,9 @@ short_if len wrong = fault_if wrong len (Short len)
 
 -- The rows of the header are said of the front of a file of `len` bytes.
 
--- 28: an ELF file that is too long
-abbrev pub length_row : List ℕ → ℕ → Judged
-length_row bytes len = fault_if (begins_as_elf bytes && nat_lt MOST_ELF_BYTES len) 0 (TooLarge len)
+-- 28: an ELF file that is too long, of more than so many bytes
+abbrev pub length_row : ℕ → List ℕ → ℕ → Judged
+length_row most bytes len = fault_if (begins_as_elf bytes && nat_lt most len) 0 (TooLarge len)
 
 -- 21: another file
 abbrev pub magic_row : List ℕ → Judged
@@ -140,16 +140,21 @@ judged_note bytes (Some (Some at)) =
 unfoldable pub contexts_row : List ℕ → Judged
 contexts_row bytes = judged_note bytes (note_found bytes)
 
--- the rows of the header
-unfoldable pub header_rows : List ℕ → ℕ → Judged
-header_rows bytes len = do
-  length ← length_row bytes len
+-- the rows of the header of a file of any length
+unfoldable pub front_rows : List ℕ → ℕ → Judged
+front_rows bytes len = do
   magic ← magic_row bytes
   class ← class_row bytes len
   order ← data_row bytes len
   core ← type_row bytes len
   size ← entry_size_row bytes len
   header_row len
+
+-- and of one of at most so many bytes
+unfoldable pub header_rows : ℕ → List ℕ → ℕ → Judged
+header_rows most bytes len = do
+  length ← length_row most bytes len
+  front_rows bytes len
 
 -- the rows of what the program headers say
 unfoldable pub segment_rows : List ℕ → Judged
@@ -165,7 +170,7 @@ segment_rows bytes = do
 -- the whole table: the first row that tells a fault
 unfoldable pub judgement : List ℕ → Judged
 judgement bytes = do
-  header ← header_rows bytes (length bytes)
+  header ← header_rows MOST_ELF_BYTES bytes (length bytes)
   headers ← program_headers_row bytes
   segment_rows bytes
 

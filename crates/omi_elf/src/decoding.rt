@@ -1,13 +1,13 @@
 //! Reading an ELF core file: what stands in it beside its words, and the core that it stands for.
 
-ghost use Rattle.std.specs.Prelude.{◌≡◌, ◌≤◌, ◌<◌, ◌^◌, List, ℕ, length, All, IfOk, IfErr, IsErrOf, OnOk, Ok, Err};
+ghost use Rattle.std.specs.Prelude.{◌≡◌, ◌≤◌, ◌<◌, ◌^◌, List, ℕ, length, All, IfOk, IfErr, IsErrOf, OnOk, Ok, Err, None};
 ghost use Rattle.omi_outside.specs.Outside.{HasCause};
 ghost use Rattle.omi_read.specs.Holding.{Holds, IsLength};
 ghost use Rattle.omi_corefile.specs.declared.core_image.CoreImage.{CoreImage};
 ghost use Rattle.omi_corefile.specs.declared.limits.TheConstants.{MOST_CONTEXTS};
 ghost use Rattle.omi_elf.specs.declared.fault.ElfFault.{ElfFault};
 ghost use Rattle.omi_elf.specs.Header.{order_of, program_headers as headers_of, kept_segments};
-ghost use Rattle.omi_elf.specs.Segments.{by_start};
+ghost use Rattle.omi_elf.specs.Segments.{by_start, first_overlap};
 ghost use Rattle.omi_elf.specs.Notes.{contexts_of};
 ghost use Rattle.omi_elf.specs.Found.{FitsIn};
 ghost use Rattle.omi_elf.specs.Table.{segment_rows, judgement, ElfRefused};
@@ -52,6 +52,8 @@ fn contents<F: Files>(
     ensures segments { (bytes : List ℕ) → Holds (F.told files.old name.now) bytes
         → IfOk result (λ x. x.1.items ≡ by_start (kept_segments bytes)) }
     ensures fit { IfOk result (λ x. All (FitsIn len) x.1.items) }
+    ensures apart { IfOk result (λ x. first_overlap x.1.items ≡ None) }
+    ensures bounded { IfOk result (λ x. length x.1.items < 65536) }
 
     // No bytes change. A fault is counted as one of reading.
     ensures same { F.told files.new ≡ F.told files.old }
@@ -102,6 +104,8 @@ pub fn read_elf<F: Files>(
     ensures segments { (bytes : List ℕ) → Holds (F.told files.old name.now) bytes
         → IfOk result (λ x. x.segments.items ≡ by_start (kept_segments bytes)) }
     ensures fit { IfOk result (λ x. All (FitsIn len) x.segments.items) }
+    ensures apart { IfOk result (λ x. first_overlap x.segments.items ≡ None) }
+    ensures bounded { IfOk result (λ x. length x.segments.items < 65536) }
 
     // No bytes change. A fault is counted as one of reading.
     ensures same { F.told files.new ≡ F.told files.old }
@@ -109,7 +113,7 @@ pub fn read_elf<F: Files>(
         (IsErrOf result ElfReadError.Failed) }
     ensures writes { F.writes files.new ≡ F.writes files.old }
 {
-    let header = read_header(files, name, len)?;
+    let header = read_header(files, name, len, MOST_ELF_BYTES)?;
     let order = header.order;
     let headers = read_headers(alloc, files, name, len, header)?;
     let (contexts, segments) = contents(alloc, files, name, len, order, &headers)?;

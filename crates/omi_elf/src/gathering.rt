@@ -69,7 +69,7 @@ fn ids_in(alloc: Global, order: u8, listed: &[u8]) -> Result<Natives, OutOfMemor
 }
 
 /// The native ids that the description of a note lists.
-fn ids_of<F: Files>(
+pub fn ids_of<F: Files>(
     alloc: Global,
     files: &mut F,
     name: &str,

@@ -3,12 +3,12 @@
 
 ghost use Rattle.std.specs.Prelude.{◌≡◌, ◌≤◌, true, length, min, IfOk, OnOk, Err};
 ghost use Rattle.omi_elf.specs.Header.{begins_as_elf as begins, order_of, e_phoff, e_phnum};
-ghost use Rattle.omi_elf.specs.Table.{length_row, magic_row, class_row, data_row, type_row, entry_size_row, header_row, header_rows};
+ghost use Rattle.omi_elf.specs.Table.{length_row, magic_row, class_row, data_row, type_row, entry_size_row, header_row, front_rows, header_rows};
 ghost use Rattle.omi_elf.specs.Outcomes.{Judges};
 
 use crate::fault::{ElfError, ElfFault};
 use crate::numbers::{number16, number64};
-use crate::{CORE_TYPE, ELF_MAGIC, HEADER_BYTES, MOST_ELF_BYTES, PROGRAM_HEADER_BYTES};
+use crate::{CORE_TYPE, ELF_MAGIC, HEADER_BYTES, PROGRAM_HEADER_BYTES};
 
 /// What a header says: the order of the file's numbers, and where how many program headers stand.
 #[derive(Clone, Copy)]
@@ -33,12 +33,12 @@ pub fn begins_as_elf(front: &[u8]) -> bool
     front.starts_with(&ELF_MAGIC)
 }
 
-/// An ELF file has at most `MOST_ELF_BYTES`.
-fn judge_length(front: &[u8], len: u64) -> Result<(), ElfError>
-    ensures row { Judges result (length_row front.now len) }
-    ensures small { OnOk result (begins front.now ≡ true → len ≤ MOST_ELF_BYTES) }
+/// An ELF file has at most so many bytes.
+fn judge_length(front: &[u8], len: u64, most: u64) -> Result<(), ElfError>
+    ensures row { Judges result (length_row most front.now len) }
+    ensures small { OnOk result (begins front.now ≡ true → len ≤ most) }
 {
-    if begins_as_elf(front) && MOST_ELF_BYTES < len {
+    if begins_as_elf(front) && most < len {
         let why = ElfFault::TooLarge(len);
         return Err(ElfError::Fault { at: 0, why });
     }
@@ -139,18 +139,18 @@ fn judge_rest(len: u64) -> Result<(), ElfError>
     Ok(())
 }
 
-/// What the header says of a file of `len` bytes that begins with `front`.
-#[tactic(auto, unfolding(crate::specs::Table::header_rows))]
-pub fn header_of(front: &[u8], len: u64) -> Result<Header, ElfError>
+/// What the header says of a file of `len` bytes, at most `most`, that begins with `front`.
+#[tactic(auto, unfolding(crate::specs::Table::header_rows, crate::specs::Table::front_rows))]
+pub fn header_of(front: &[u8], len: u64, most: u64) -> Result<Header, ElfError>
     requires { length front.now ≡ min HEADER_BYTES len }
-    ensures rows { Judges result (header_rows front.now len) }
+    ensures rows { Judges result (header_rows most front.now len) }
     ensures order { IfOk result (λ h. h.order ≡ order_of front.now) }
     ensures known { IfOk result (λ h. h.order ≤ 1) }
     ensures phoff { IfOk result (λ h. h.phoff ≡ e_phoff front.now) }
     ensures phnum { IfOk result (λ h. h.phnum ≡ e_phnum front.now) }
-    ensures small { OnOk result (len ≤ MOST_ELF_BYTES) }
+    ensures small { OnOk result (len ≤ most) }
 {
-    judge_length(front, len)?;
+    judge_length(front, len, most)?;
     judge_magic(front)?;
     judge_class(front, len)?;
     let order = judge_data(front, len)?;

@@ -30,7 +30,13 @@ pub const NOTE_TYPE: u32 = 1;
 /// The name of that note, with the zero byte that ends it.
 pub const NOTE_NAME: [u8; 5] = [0x4f, 0x4d, 0x50, 0x44, 0];
 
-/// The bytes with which the note that holds native ids begins: what stands in front of its name, and the name.
+/// `NT_PRSTATUS`, the type of the note that holds the status of a thread.
+pub const STATUS_TYPE: u32 = 1;
+
+/// The name of that note, with the zero byte that ends it: `CORE`.
+pub const STATUS_NAME: [u8; 5] = [0x43, 0x4f, 0x52, 0x45, 0];
+
+/// The bytes with which a note of either name begins: what stands in front of its name, and the name.
 pub const NOTE_BEGINNING: usize = 17;
 
 /// The most bytes of the ids that it lists: those of the most contexts that a core has.

@@ -1,17 +1,17 @@
-//! The search for the note that holds the native ids of threads.
+//! The notes of a file, and the search for the one that holds the native ids of threads.
 
 ghost use Rattle.std.specs.Prelude.{◌≡◌, ◌≤◌, ◌+◌, ◌-◌, ◌^◌, ◌<◌, List, ℕ, length, min, IfOk, IsErrOf};
 ghost use Rattle.omi_outside.specs.Outside.{HasCause};
 ghost use Rattle.omi_read.specs.Holding.{Holds, IsLength};
 ghost use Rattle.omi_elf.specs.declared.limits.TheConstants.{NOTE_BEGINNING};
-ghost use Rattle.omi_elf.specs.Notes.{padded, n_descsz, to_description, is_ours as ours};
-ghost use Rattle.omi_elf.specs.Found.{IsPieceOf, IsFound, IsPlace, IsReadPlace, IsDescribedIfOurs, IsDescribedIfAny, StaysWithin, EndsWithinIfAny, last_from, last_in};
+ghost use Rattle.omi_elf.specs.Notes.{padded, n_descsz, to_description, is_named as named};
+ghost use Rattle.omi_elf.specs.Found.{IsPieceOf, IsFound, IsPlace, IsReadPlace, IsDescribedIfAny, StaysWithin, EndsWithinIfAny, last_from, last_in};
 
 use crate::fault::{ElfError, ElfReadError};
 use crate::header::short;
 use crate::limits::NOTE_BEGINNING;
 use crate::numbers::number32;
-use crate::{NOTE_FRONT_BYTES, NOTE_NAME, NOTE_TYPE, ProgramHeader};
+use crate::{NOTE_FRONT_BYTES, NOTE_NAME, NOTE_TYPE, ProgramHeader, STATUS_NAME, STATUS_TYPE};
 use omi_outside::Files;
 use omi_read::front;
 
@@ -39,34 +39,35 @@ fn description_size(order: u8, beginning: &[u8]) -> u32
     number32(order, beginning, 4)
 }
 
-/// A note that begins so holds native ids.
-#[tactic(auto, unfolding(crate::specs::Notes::is_ours))]
-fn is_ours(order: u8, beginning: &[u8]) -> bool
+/// A note that begins so has this name and this type.
+fn is_named(order: u8, beginning: &[u8], name: &[u8], kind: u32) -> bool
     requires { NOTE_FRONT_BYTES ≤ length beginning.now }
-    ensures { result ≡ ours order beginning.now 0 }
+    ensures { result ≡ named name.now kind order beginning.now 0 }
 {
-    let name = &beginning[NOTE_FRONT_BYTES as usize..];
-    number32(order, beginning, 0) as usize == NOTE_NAME.len()
-        && number32(order, beginning, 8) == NOTE_TYPE
-        && name.starts_with(&NOTE_NAME)
+    let rest = &beginning[NOTE_FRONT_BYTES as usize..];
+    number32(order, beginning, 0) as usize == name.len()
+        && number32(order, beginning, 8) == kind
+        && rest.starts_with(name)
 }
 
-/// A note that holds native ids: where it stands, and where how many bytes of its description do.
+/// A note: where it stands, which it is, and where how many bytes of its description do.
 #[derive(Clone, Copy)]
 pub struct Note {
     pub at: u64,
+    /// It holds native ids.
+    pub ours: bool,
+    /// It holds the status of a thread.
+    pub status: bool,
     pub description: u64,
     pub size: u32,
 }
 
 /// What stands at a place of a segment of notes.
-enum Place {
+pub enum Place {
     /// No further note: the segment has no room for one.
     End,
-    /// A note that holds native ids.
-    Ours(Note),
-    /// Another note. The next one stands so many bytes further.
-    Other(u64),
+    /// A note. The next one stands so many bytes further.
+    There { note: Note, step: u64 },
 }
 
 /// What stands at a place of a file of `len` bytes, where so many bytes of a segment are left. `beginning` is what stands there first.
@@ -77,8 +78,6 @@ fn note_of(len: u64, order: u8, at: u64, left: u64, beginning: &[u8]) -> Result<
     requires beginning { length beginning.now ≡ min NOTE_BEGINNING (len - at) }
     ensures place { (bytes : List ℕ) → length bytes ≡ len → IsPieceOf bytes at beginning.now
         → IsPlace order bytes at left result }
-    ensures described { (bytes : List ℕ) → length bytes ≡ len → IsPieceOf bytes at beginning.now
-        → IfOk result (IsDescribedIfOurs order bytes) }
     ensures within { IfOk result (StaysWithin len at) }
 {
     let front = to_description(order, beginning);
@@ -90,20 +89,23 @@ fn note_of(len: u64, order: u8, at: u64, left: u64, beginning: &[u8]) -> Result<
     if len - at < end {
         return Err(short(len));
     }
-    if is_ours(order, beginning) {
-        let description = at + front;
-        return Ok(Place::Ours(Note {
-            at,
-            description,
-            size,
-        }));
-    }
-    Ok(Place::Other(front + padded(size)))
+    let ours = is_named(order, beginning, &NOTE_NAME, NOTE_TYPE);
+    let status = is_named(order, beginning, &STATUS_NAME, STATUS_TYPE);
+    let description = at + front;
+    let note = Note {
+        at,
+        ours,
+        status,
+        description,
+        size,
+    };
+    let step = front + padded(size);
+    Ok(Place::There { note, step })
 }
 
-/// What stands at a place where so many bytes of a segment are left. No more of a note is read than its sizes, its type and the name of
-/// one that holds native ids.
-fn note_at<F: Files>(
+/// What stands at a place where so many bytes of a segment are left. No more of a note is read than its sizes, its type and the first
+/// bytes of its name.
+pub fn note_at<F: Files>(
     files: &mut F,
     name: &str,
     len: u64,
@@ -115,8 +117,6 @@ fn note_at<F: Files>(
     requires low { len < 2 ^ 63 }
     ensures place { (bytes : List ℕ) → Holds (F.told files.old name.now) bytes
         → IsReadPlace order bytes at left result }
-    ensures described { (bytes : List ℕ) → Holds (F.told files.old name.now) bytes
-        → IfOk result (IsDescribedIfOurs order bytes) }
     ensures within { IfOk result (StaysWithin len at) }
 
     // No bytes change. A fault is counted as one of reading.
@@ -166,8 +166,10 @@ fn first_in<F: Files>(
     for _ in 0..len {
         match note_at(files, name, len, order, place, room)? {
             Place::End => return Ok(None),
-            Place::Ours(note) => return Ok(Some(note)),
-            Place::Other(step) => {
+            Place::There { note, step } => {
+                if note.ours {
+                    return Ok(Some(note));
+                }
                 place += step;
                 room = room.saturating_sub(step);
             }

@@ -3,7 +3,6 @@
 ghost use Rattle.std.specs.Prelude.{◌≡◌, ◌≤◌, ◌+◌, ◌*◌, ◌<◌, ◌^◌, List, ℕ, length, IfOk, OnOk, IsErrOf};
 ghost use Rattle.omi_outside.specs.Outside.{HasCause};
 ghost use Rattle.omi_read.specs.Holding.{Holds, IsLength};
-ghost use Rattle.omi_elf.specs.declared.limits.TheConstants.{MOST_ELF_BYTES};
 ghost use Rattle.omi_elf.specs.Header.{program_header as header_at, headers_from, program_headers};
 ghost use Rattle.omi_elf.specs.Found.{IsHeaderOf, IsPieceOf};
 ghost use Rattle.omi_elf.specs.Table.{program_headers_row, header_rows};
@@ -17,15 +16,20 @@ use omi_outside::Files;
 use omi_read::{fill, front};
 use std::alloc::{AllocError, Global};
 
-/// What the header of a file of `len` bytes says.
-pub fn read_header<F: Files>(files: &mut F, name: &str, len: u64) -> Result<Header, ElfReadError>
+/// What the header of a file of `len` bytes, at most `most`, says.
+pub fn read_header<F: Files>(
+    files: &mut F,
+    name: &str,
+    len: u64,
+    most: u64,
+) -> Result<Header, ElfReadError>
     requires len { IsLength (F.told files.old name.now) len }
     ensures rows { (bytes : List ℕ) → Holds (F.told files.old name.now) bytes
-        → ReadJudges result (header_rows bytes (length bytes)) }
+        → ReadJudges result (header_rows most bytes (length bytes)) }
     ensures says { (bytes : List ℕ) → Holds (F.told files.old name.now) bytes
         → IfOk result (IsHeaderOf bytes) }
     ensures known { IfOk result (λ h. h.order ≤ 1) }
-    ensures small { OnOk result (len ≤ MOST_ELF_BYTES) }
+    ensures small { OnOk result (len ≤ most) }
 
     // No bytes change. A fault is counted as one of reading.
     ensures same { F.told files.new ≡ F.told files.old }
@@ -35,7 +39,7 @@ pub fn read_header<F: Files>(files: &mut F, name: &str, len: u64) -> Result<Head
 {
     let mut piece = [0u8; HEADER_BYTES as usize];
     let count = front(files, name, len, 0, HEADER_BYTES as usize, &mut piece)?;
-    let header = header_of(&piece[..count], len)?;
+    let header = header_of(&piece[..count], len, most)?;
     Ok(header)
 }
 

@@ -2,9 +2,9 @@
 
 use crate::fault_tests::is_refused;
 use crate::file_tests::is_core;
-use crate::files::{file, odd, patched, put_note, put_words, small};
 use omi_corefile::{CoreImage, core_of};
 use omi_elf::{ElfFault, decode_elf, encode_elf};
+use omi_fixture_elf::{file, odd, patched, put_note, put_words, small};
 use omi_word::{Image, Natives, Op};
 use std::alloc::{AllocError, Global};
 use std::test::Fail;

@@ -1,8 +1,8 @@
 //! Each fault of an ELF core file at each of its turns, and which of two is told.
 
 use crate::file_tests::is_core;
-use crate::files::{Header, file, patched, put_note, put_words, small};
 use omi_elf::{ElfError, ElfFault, decode_elf, encode_elf};
+use omi_fixture_elf::{Header, file, patched, put_note, put_words, small};
 use std::alloc::{AllocError, Global};
 use std::test::Fail;
 

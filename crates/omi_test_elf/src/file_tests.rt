@@ -1,8 +1,8 @@
 //! Files written by hand that stand for a core.
 
-use crate::files::{Header, file, odd, put_note, put_words, small};
 use omi_corefile::CoreImage;
 use omi_elf::decode_elf;
+use omi_fixture_elf::{Header, file, odd, put_note, put_words, small};
 use std::test::Fail;
 
 /// Whether a core has this order, these contexts, and these segments.

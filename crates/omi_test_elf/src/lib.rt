@@ -9,6 +9,4 @@ mod fault_tests;
 #[cfg(test)]
 mod file_tests;
 #[cfg(test)]
-mod files;
-#[cfg(test)]
 mod reading_tests;

@@ -1,7 +1,7 @@
 //! Files of which pieces are read: what stands in them beside their words, how many reads that takes, and reads that fail.
 
-use crate::files::{odd, small};
 use omi_elf::{ElfReadError, read_elf};
+use omi_fixture_elf::{odd, small};
 use omi_outside::{Call, Files, MemFiles, Refused};
 use omi_read::{ReadOnly, front};
 use std::alloc::Global;

@@ -2,15 +2,17 @@ use Rattle.std.proofs.Common.{◌≡◌, ◌%◌, ◌≤◌, length, sym, ap, �
 use Rattle.std.specs.Prelude.{filter}
 use Rattle.std.proofs.lemmas.Result.{err_from_is_err_and}
 use Rattle.std.proofs.lemmas.List.Elements.{All-same}
-use Rattle.std.proofs.lemmas.List.Sorted.{All-permutation}
+use Rattle.std.proofs.lemmas.List.Sorted.{All-permutation, length_permutation}
 use Rattle.omi_elf.specs.Header.{is_kept, kept_segments, word_count}
 use Rattle.omi_elf.specs.declared.program_header.ProgramHeader.{ProgramHeader}
 use Rattle.omi_corefile.specs.declared.limits.TheConstants.{MOST_SEGMENT_WORDS}
-use Rattle.omi_elf.specs.Segments.{by_start}
+use Rattle.omi_elf.specs.Segments.{by_start, first_overlap}
+use Rattle.omi_elf.specs.declared.fault.ElfFault.TheVariants.{Overlap}
 use Rattle.omi_elf.specs.Notes.{ids_found}
 use Rattle.omi_elf.specs.Found.{IsReadable, IsBounded, FitsIn}
 use Rattle.omi_elf.proofs.SegmentRows.{filter_shorter, segments_is, unaligned_is, words_is, overlap_is, count_is, note_is, notes_passed, notes_failed}
 use Rattle.omi_elf.proofs.SegmentRows.{contexts_is, read_along, fails_along, fails_1, fails_2, fails_3, fails_4, fails_5, fails_6, fails_7, all_pass}
+use Rattle.omi_elf.proofs.Passed.{none_of}
 use Rattle.omi_elf.proofs.decoding.contents.Goals as goal
 
 pub returns-in_err-judge_segments-clause-rows : goal.returns-in_err-judge_segments-clause-rows
@@ -165,3 +167,11 @@ returns-clause-fit g c =
       low = (bounded k d lt).low;
       few = few k d lt;
     })
+
+pub returns-clause-apart : goal.returns-clause-apart
+returns-clause-apart g c =
+    ap first_overlap (sym c.deref-4.ensures.value) ∙ none_of Overlap (first_overlap c.deref-4.result.now) c.in_ok-judge_overlap.ensures
+
+pub returns-clause-bounded : goal.returns-clause-bounded
+returns-clause-bounded g c =
+    omega (arith, length_permutation _ _ c.in_ok-sort_by_start.ensures.same, ap length c.in_ok-kept.ensures, filter_shorter is_kept c.args.headers.now, c.requires.few)

@@ -2,6 +2,7 @@ use Rattle.std.proofs.Common.{◌≡◌, suc, ◌+◌, ◌-◌, ℕ, length, Som
 use Rattle.std.proofs.lemmas.Result.{err_from_is_err_and}
 use Rattle.omi_elf.specs.Found.{last_from}
 use Rattle.omi_elf.proofs.NoteSegments.{found_cut}
+use Rattle.omi_elf.proofs.NoteSteps.{none_there, ours_there, other_there}
 use Rattle.omi_elf.proofs.notes.first_in.Goals as goal
 
 pub loop-preserved : goal.loop-preserved
@@ -11,9 +12,10 @@ loop-preserved g c = record {
       let left : ℕ = length bytes - (c.loop.counter + 1) in
       let more : length bytes - c.loop.counter ≡ suc left = omega arith in
       let now = ap (λ t. t c.args.name.now) c.loop.invariant.same ∙ told in
-      let there = rw c.in-Other.is at c.in_ok-note_at.ensures.place bytes now in
+      let there = rw c.in-There.is at c.in_ok-note_at.ensures.place bytes now in
       rw c.saturating_sub-room.ensures
-      (sym (there left) ∙ ap (λ (m : ℕ). last_from c.args.order bytes m c.loop.place c.loop.room) (sym more) ∙ c.loop.invariant.sought bytes told);
+      (sym (other_there c.args.order bytes c.loop.place c.loop.room left c.in-There.step (there.1 left) (sym there.0.ours ∙ c.if-note.false))
+      ∙ ap (λ (m : ℕ). last_from c.args.order bytes m c.loop.place c.loop.room) (sym more) ∙ c.loop.invariant.sought bytes told);
   same = c.note_at.ensures.same ∙ c.loop.invariant.same;
   later = omega (arith, c.note_at.ensures.cause.later, c.loop.invariant.later);
   writes = c.note_at.ensures.writes ∙ c.loop.invariant.writes;
@@ -37,17 +39,19 @@ returns-in-End-clause-found g c = λ bytes told.
     let now = ap (λ t. t c.args.name.now) c.loop.invariant.same ∙ told in
     let sought = ap (λ (m : ℕ). last_from c.args.order bytes m c.loop.place c.loop.room) (sym more) ∙ c.loop.invariant.sought bytes told in
     let there = rw c.in-End.is at c.in_ok-note_at.ensures.place bytes now in
-    sym sought ∙ there left
+    sym sought ∙ none_there c.args.order bytes c.loop.place c.loop.room left (there left)
 
-pub returns-in-Ours-clause-found : goal.returns-in-Ours-clause-found
-returns-in-Ours-clause-found g c = λ bytes told.
+pub returns-then-note-clause-found : goal.returns-then-note-clause-found
+returns-then-note-clause-found g c = λ bytes told.
     let long = c.requires.len (Some bytes) told in
     let left : ℕ = length bytes - (c.loop.counter + 1) in
     let more : length bytes - c.loop.counter ≡ suc left = omega (arith, long) in
     let now = ap (λ t. t c.args.name.now) c.loop.invariant.same ∙ told in
     let sought = ap (λ (m : ℕ). last_from c.args.order bytes m c.loop.place c.loop.room) (sym more) ∙ c.loop.invariant.sought bytes told in
-    let there = rw c.in-Ours.is at c.in_ok-note_at.ensures.place bytes now in
-    sym sought ∙ there.1 left ∙ ap (λ (a : ℕ). Some (Some a)) (sym there.0)
+    let there = rw c.in-There.is at c.in_ok-note_at.ensures.place bytes now in
+    sym sought
+    ∙ ours_there c.args.order bytes c.loop.place c.loop.room left _ (there.1 left) (sym there.0.ours ∙ c.if-note.true)
+    ∙ ap (λ (a : ℕ). Some (Some a)) (sym there.0.at_is)
 
 pub returns-clause-found : goal.returns-clause-found
 returns-clause-found g c = λ bytes told.

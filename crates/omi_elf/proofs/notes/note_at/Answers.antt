@@ -32,9 +32,3 @@ returns-clause-place g c = λ bytes told.
     let long = c.requires.len (Some bytes) told in
     let piece = front_piece bytes c.front.new.to c.args.at c.in_ok-count.count (omega (arith, c.in_ok-count.ensures.count, c.in_ok-count.ensures.length)) (c.in_ok-count.ensures.bytes bytes told) in
     c.in_ok-place.ensures.place bytes long piece
-
-pub returns-clause-described : goal.returns-clause-described
-returns-clause-described g c = λ bytes told.
-    let long = c.requires.len (Some bytes) told in
-    let piece = front_piece bytes c.front.new.to c.args.at c.in_ok-count.count (omega (arith, c.in_ok-count.ensures.count, c.in_ok-count.ensures.length)) (c.in_ok-count.ensures.bytes bytes told) in
-    c.in_ok-place.ensures.described bytes long piece

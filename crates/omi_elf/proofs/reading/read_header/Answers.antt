@@ -9,13 +9,13 @@ returns-in_err-header-clause-rows g c = λ bytes told.
     let long = c.requires.len (Some bytes) told in
     let front = front_of 64 bytes _ c.in_ok-count.count (omega (arith, c.in_ok-count.ensures.count, long)) (c.in_ok-count.ensures.bytes bytes told) in
     let p = err_from_is_err_and c.from_residual-in_err-header.result c.from_residual-in_err-header.ensures.1 in
-    rw (p.1, p.2) (read_along c.in_err-header.field-0.0 _ _ (rows_of_front bytes _ c.args.len (sym long) front) c.in_err-header.ensures.rows)
+    rw (p.1, p.2) (read_along c.in_err-header.field-0.0 _ _ (rows_of_front bytes _ c.args.most c.args.len (sym long) front) c.in_err-header.ensures.rows)
 
 pub returns-clause-rows : goal.returns-clause-rows
 returns-clause-rows g c = λ bytes told.
     let long = c.requires.len (Some bytes) told in
     let front = front_of 64 bytes _ c.in_ok-count.count (omega (arith, c.in_ok-count.ensures.count, long)) (c.in_ok-count.ensures.bytes bytes told) in
-    sym (rows_of_front bytes _ c.args.len (sym long) front) ∙ c.in_ok-header.ensures.rows
+    sym (rows_of_front bytes _ c.args.most c.args.len (sym long) front) ∙ c.in_ok-header.ensures.rows
 
 pub returns-clause-says : goal.returns-clause-says
 returns-clause-says g c = λ bytes told.

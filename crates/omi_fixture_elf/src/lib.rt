@@ -1,4 +1,5 @@
 //! ELF files written out by hand, field by field.
+#![tactic(auto)]
 
 use std::alloc::{AllocError, Global};
 
@@ -61,6 +62,13 @@ pub fn put_note(
         put(out, order, *number, 8)?;
     }
     Ok(())
+}
+
+/// The note of a thread of this native id: NT_PRSTATUS, of which all else is 0.
+pub fn put_status(out: &mut Vec<u8>, order: u8, id: u32) -> Result<(), AllocError> {
+    let id = u64::from(id);
+    let last = if order == 0 { id } else { id << 32 };
+    put_note(out, order, b"CORE\0", &[0, 0, 0, 0, last])
 }
 
 /// A file with these program headers, and this behind them.
