@@ -3,6 +3,7 @@ pub mod FrontsOfFiles
 pub mod Segments
 pub mod WholeFiles
 pub mod Placing
+pub mod InOrder
 pub mod KeptPages
 pub mod Answering
 pub mod Telling

@@ -1,5 +1,5 @@
 -- What is known of a file once it was opened, or refused.
-use Rattle.std.proofs.Common.{◌≡◌, ◌⊎◌, inl, inr, ℕ, Bool, true, false, List, [], Contains, Some, Ok, sym, ap, subst, ◌∙◌, arith}
+use Rattle.std.proofs.Common.{◌≡◌, ◌⊎◌, inl, inr, ℕ, Bool, true, false, List, Some, Ok, sym, ap, subst, ◌∙◌}
 use Rattle.omi_outside.specs.Outside.{Told as FileTold}
 use Rattle.omi_outside.specs.declared.files.Refused.{Refused}
 use Rattle.omi_outside.specs.declared.files.Refused.TheVariants as refused
@@ -232,7 +232,3 @@ same_parts bytes p q a b = some_is p q (sym a ∙ b)
   where
     some_is : (x y : Parts) → (let some : Parts → Option Parts = λ z. Some z in some x ≡ some y) → x ≡ y
     some_is x y e = cc
-
--- nothing is kept at first
-pub none_kept : {X : Type 0} (x : X) → Contains [] x → ⊥
-none_kept x kept = omega (arith, kept.1)

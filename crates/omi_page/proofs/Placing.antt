@@ -92,18 +92,13 @@ place_more (x ∷ xs) zero next s addr after is =
 place_more (x ∷ xs) (suc place) next s addr after is =
     rw after (place_more xs place (suc place) s addr refl is)
 
-some_by : (b : Bool) (s : Span) (addr : ℕ) (rest : Option ℕ) → is_in s addr ≡ b
-    → is_some (option_or (cond b (Some (s.place + (addr - s.start))) None) rest) ≡ cond b true (is_some rest)
-some_by true s addr rest test = refl
-some_by false s addr rest test = refl
+some_by : (b : Bool) (s : Span) (addr : ℕ) → is_in s addr ≡ b → is_some (cond b (Some (s.place + (addr - s.start))) None) ≡ b
+some_by true s addr test = refl
+some_by false s addr test = refl
 
--- a word stands in this span, or in one behind it
-pub stands_more : (spans : List Span) (place next : ℕ) (s : Span) (addr : ℕ) → next ≡ suc place
-    → slice_get spans place ≡ Some s
-    → is_some (place_in (drop place spans) addr) ≡ cond (is_in s addr) true (is_some (place_in (drop next spans) addr))
-stands_more spans place next s addr after is =
-    ap is_some (place_more spans place next s addr after is)
-    ∙ some_by (is_in s addr) s addr (place_in (drop next spans) addr) refl
+-- a word stands in a span by its test
+pub stands_by_test : (s : Span) (addr : ℕ) → is_some (place_of s addr) ≡ is_in s addr
+stands_by_test s addr = some_by (is_in s addr) s addr refl
 
 -- ---- the part of a page that a span has
 

@@ -55,6 +55,7 @@ pub record TookHeader (bytes : List ℕ) (counts : Header) (rest : List ℕ) : T
   pub took : Took 16 bytes rest
   pub order_is : counts.order ≤ 1
   pub few_contexts : counts.contexts ≤ MOST_CONTEXTS
+  pub few_segments : counts.segments ≤ MOST_SEGMENTS
 
 pub header_took : (len : ℕ) (bytes : List ℕ) (x : Header × List ℕ) → header_at len bytes ≡ Ok x
     → TookHeader bytes x.0 x.1
@@ -97,6 +98,7 @@ header_took len bytes x e =
       took = whole;
       order_is = leb-true c.0.0 1 order_judged.1;
       few_contexts = leb-true d.0.0 MOST_CONTEXTS contexts_judged.1;
+      few_segments = leb-true f.0.0 MOST_SEGMENTS segments_judged.1;
     })
 
 pub contexts_took : (len least count : ℕ) (bytes : List ℕ) (x : List ℕ × List ℕ)

@@ -2,6 +2,8 @@
 
 ghost use Rattle.std.specs.Prelude.{◌≤◌, length};
 ghost use Rattle.omi_corefile.specs.declared.limits.TheConstants.{MOST_CONTEXTS};
+ghost use Rattle.omi_page.specs.Bounds.{AreInOrder};
+ghost use Rattle.omi_page.specs.declared.limits.TheConstants.{MOST_SPANS};
 
 use crate::span::SpanList;
 use omi_word::Natives;
@@ -14,5 +16,7 @@ pub struct Contents {
     pub contexts: Natives,
     pub spans: SpanList,
     pub ghost few: { length contexts ≤ MOST_CONTEXTS },
+    pub ghost ordered: { AreInOrder spans },
+    pub ghost few_spans: { length spans ≤ MOST_SPANS },
     pub ghost known: { order ≤ 1 },
 }

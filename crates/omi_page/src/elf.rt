@@ -1,11 +1,11 @@
 //! Reading what stands in an ELF core file beside its words: each kept segment is a span.
 
-ghost use Rattle.std.specs.Prelude.{◌≡◌, List, ℕ, true, All, IfOk, IfErr, IsErrOf};
+ghost use Rattle.std.specs.Prelude.{◌≡◌, List, ℕ, length, true, None, All, IfOk, IfErr, IsErrOf};
 ghost use Rattle.omi_outside.specs.Outside.{AreBytes, HasCause};
-ghost use Rattle.omi_elf.specs.Found.{FitsIn};
 ghost use Rattle.omi_elf.specs.Header.{begins_as_elf};
+ghost use Rattle.omi_elf.specs.Segments.{first_overlap};
 ghost use Rattle.omi_read.specs.Holding.{IsLength, Holds};
-ghost use Rattle.omi_page.specs.Bounds.{EndWithin, AreBoundsOf};
+ghost use Rattle.omi_page.specs.Bounds.{AreBoundsOf, AreInOrder, EndWithin, IsSpan};
 ghost use Rattle.omi_page.specs.Outcomes.{IsFaultOf};
 ghost use Rattle.omi_page.specs.Paging.{IsContentsOf};
 
@@ -17,11 +17,18 @@ use omi_list::OutOfMemory;
 use omi_outside::Files;
 use std::alloc::Global;
 
-/// Where the words of segments of a file of `len` bytes stand.
-fn spans_of(alloc: Global, len: u64, segments: &[ProgramHeader]) -> Result<SpanList, OutOfMemory>
-    requires { All (FitsIn len) segments.now }
+/// Where the words of segments of a file of `len` bytes stand, which begin in order of start and apart.
+pub fn spans_of(
+    alloc: Global,
+    len: u64,
+    segments: &[ProgramHeader],
+) -> Result<SpanList, OutOfMemory>
+    requires fit { All (IsSpan len) segments.now }
+    requires apart { first_overlap segments.now ≡ None }
     ensures bounds { IfOk result (λ spans. AreBoundsOf segments.now spans) }
     ensures ends { IfOk result (EndWithin len) }
+    ensures ordered { IfOk result AreInOrder }
+    ensures few { IfOk result (λ spans. length spans ≡ length segments.now) }
 {
     let mut spans = SpanList::new(alloc);
     for segment in segments {

@@ -17,7 +17,7 @@ pub trait Loan {
 }
 
 impl Loan for Brand {
-    ghost lending = { record { reference = 0; told = λ _. None; writes = 0 } };
+    ghost lending = { record { reference = 0; told = λ _. None; reads = 0; writes = 0 } };
 }
 
 /// Pages that are lent, as to a session, which knows nothing of files. The type keeps that they borrow the same files, of which no read

@@ -18,5 +18,9 @@ pub const CONTEXT_BYTES: usize = 512;
 /// The bytes of a segment before its words: its start address and their number.
 pub const SPAN_BYTES: usize = 16;
 
-/// Every word of a core stands below this byte address, 2^48: a segment starts below the end of memory and has few words.
-pub const WORDS_END: u64 = 0x1_0000_0000_0000;
+/// The most segments whose words are not read: an ELF file has no more program headers. As spans they take 1.6 megabytes.
+pub const MOST_SPANS: usize = 65_535;
+
+/// Every word stands below this byte address, 2^63 + 2^48: a segment starts below the end of memory, 2^47, or there, and a file has fewer
+/// than 2^63 bytes.
+pub const WORDS_END: u64 = 0x8001_0000_0000_0000;

@@ -1,12 +1,13 @@
 //! Reading a page of a core file.
 
-ghost use Rattle.std.specs.Prelude.{◌≡◌, ◌+◌, ◌*◌, ◌%◌, ◌^◌, ◌<◌, ◌≤◌, ℕ, List, length, Some, None, IsTrue, OnOk, IsErr, Option};
+ghost use Rattle.std.specs.Prelude.{◌≡◌, ◌+◌, ◌*◌, ◌%◌, ◌^◌, ◌<◌, ◌≤◌, ℕ, List, length, slice_get, nat_lt, Some, None, IsTrue, OnOk, IsErr, Option};
+ghost use Rattle.omi_page.specs.declared.span.Span.{Span};
 ghost use Rattle.std.specs.Option.{is_some};
 ghost use Rattle.omi_page.specs.declared.limits.TheConstants.{WORDS_END};
 ghost use Rattle.omi_outside.specs.Outside.{HasCause, content_len};
 ghost use Rattle.omi_read.specs.Holding.{IsLength, Holds};
 ghost use Rattle.omi_page.specs.Spans.{eight_at, is_in, place_of, place_in};
-ghost use Rattle.omi_page.specs.Bounds.{EndWithin};
+ghost use Rattle.omi_page.specs.Bounds.{AreInOrder, EndWithin};
 ghost use Rattle.omi_page.specs.Paging.{IsPage};
 
 use crate::PAGE_BYTES;
@@ -21,17 +22,33 @@ fn stands_in(span: &Span, addr: u64) -> bool
     span.start <= addr && addr < span.start + 8 * span.count
 }
 
+/// How many segments start below an address, or there: the first ones. They are searched by halves.
+fn started(spans: &SpanList, addr: u64) -> usize
+    requires { AreInOrder spans.now }
+    ensures few { result ≤ length spans.now }
+    ensures before { (k : ℕ) (s : Span) → k < result → slice_get spans.now k ≡ Some s
+        → s.start ≤ addr }
+    ensures behind { (k : ℕ) (s : Span) → result ≤ k → slice_get spans.now k ≡ Some s
+        → addr < s.start }
+{
+    spans.as_slice().partition_point(|span| span.start <= addr)
+}
+
 /// Whether a word stands at an address, which is aligned.
 pub fn stands(spans: &SpanList, addr: u64) -> bool
+    requires { AreInOrder spans.now }
     ensures stands { result ≡ is_some (place_in spans.now addr) }
     ensures low { IsTrue result → addr < WORDS_END }
 {
-    for at in 0..spans.len() {
-        if stands_in(spans.get(at), addr) {
-            return true;
-        }
-    }
-    false
+    let count = started(spans, addr);
+    count > 0 && stands_in(spans.get(count - 1), addr)
+}
+
+/// Whether a segment ends behind an address.
+fn ends_behind(span: &Span, addr: u64) -> bool
+    ensures { result ≡ nat_lt addr (span.now.start + 8 * span.now.count) }
+{
+    addr < span.start + 8 * span.count
 }
 
 /// Reads the words of one segment that stand in the page from address `base` on. The other words of the buffer stay.
@@ -76,7 +93,7 @@ fn load_part<F: Files>(
     )
 }
 
-/// Reads a page, segment by segment, into a buffer.
+/// Reads a page into a buffer, segment by segment: those that start in front of its end and end behind its start.
 pub fn load<F: Files>(
     files: &mut F,
     name: &str,
@@ -87,8 +104,9 @@ pub fn load<F: Files>(
 ) -> Result<(), Failed>
     requires len { IsLength (F.told files.old name.now) len }
     requires ends { EndWithin len spans.now }
+    requires ordered { AreInOrder spans.now }
     requires length { length buffer.old ≡ PAGE_BYTES }
-    requires low { page < 2 ^ 36 }
+    requires low { PAGE_BYTES * page < WORDS_END }
     ensures length { length buffer.new ≡ length buffer.old }
     ensures page { (bytes : List ℕ) → Holds (F.told files.old name.now) bytes
         → OnOk result (IsPage bytes spans.now page buffer.new) }
@@ -99,8 +117,8 @@ pub fn load<F: Files>(
     ensures writes { F.writes files.new ≡ F.writes files.old }
 {
     let base = page * PAGE_BYTES as u64;
-    let mut left = spans.len();
-    while left > 0 {
+    let mut left = started(spans, base + (PAGE_BYTES as u64 - 1));
+    while left > 0 && ends_behind(spans.get(left - 1), base) {
         left -= 1;
         load_part(files, name, spans.get(left), base, buffer)?;
     }

@@ -5,11 +5,11 @@ ghost use Rattle.omi_word.specs.declared.limits.TheConstants.{MEMORY_END};
 ghost use Rattle.omi_outside.specs.Outside.{HasCause};
 ghost use Rattle.omi_corefile.specs.Refusals.{header_at, contexts_at, segment_at, segments_at, reading};
 ghost use Rattle.omi_corefile.specs.Outcomes.{Gives as ReadGives};
-ghost use Rattle.omi_corefile.specs.declared.limits.TheConstants.{MOST_SEGMENT_WORDS, MOST_CONTEXTS};
+ghost use Rattle.omi_corefile.specs.declared.limits.TheConstants.{MOST_SEGMENT_WORDS, MOST_SEGMENTS, MOST_CONTEXTS};
 ghost use Rattle.omi_page.specs.Outcomes.{Gives};
 ghost use Rattle.omi_read.specs.Holding.{IsLength, Holds};
 ghost use Rattle.omi_page.specs.Spans.{segment_there, segments_there};
-ghost use Rattle.omi_page.specs.Bounds.{bounds_at, EndWithin};
+ghost use Rattle.omi_page.specs.Bounds.{bounds_at, AreInOrder, EndWithin};
 
 use crate::PageError;
 use crate::contents::Contents;
@@ -39,6 +39,7 @@ pub fn read_header<F: Files>(files: &mut F, name: &str, len: u64) -> Result<Coun
         result (header_at len bytes) }
     ensures long { IfOk result (λ _. HEADER_BYTES ≤ len) }
     ensures few { IfOk result (λ counts. counts.contexts ≤ MOST_CONTEXTS) }
+    ensures segments { IfOk result (λ counts. counts.segments ≤ MOST_SEGMENTS) }
     ensures order { IfOk result (λ counts. counts.order ≤ 1) }
 
     // No bytes change. A fault is counted as one of reading.
@@ -89,6 +90,7 @@ fn bounds(len: usize, least: u64, room: u64, bytes: &[u8]) -> Result<(u64, u64),
         (bounds_at len (least, room) bytes.now) }
     ensures long { IfOk result (λ _. SPAN_BYTES ≤ length bytes.now) }
     ensures aligned { IfOk result (λ x. x.0 % 8 ≡ 0) }
+    ensures from { IfOk result (λ x. least ≤ x.0) }
     ensures low { IfOk result (λ x. x.0 < MEMORY_END) }
     ensures few { IfOk result (λ x. x.1 ≤ room) }
 {
@@ -116,6 +118,7 @@ pub fn read_span<F: Files>(
         (segment_at len order (least, room) (drop at bytes)) }
     ensures place { IfOk result (λ s. s.place ≡ at + SPAN_BYTES) }
     ensures end { IfOk result (λ s. s.place + 8 * s.count ≤ len) }
+    ensures from { IfOk result (λ s. least ≤ s.start) }
     ensures few { IfOk result (λ s. s.count ≤ room) }
 
     // No bytes change. A fault is counted as one of reading.
@@ -154,6 +157,8 @@ pub fn read_spans<F: Files>(
         → Gives (λ x. (segments_there order bytes x.0, drop x.1 bytes)) result
         (segments_at len order count (drop first bytes)) }
     ensures ends { IfOk result (λ x. EndWithin len x.0) }
+    ensures ordered { IfOk result (λ x. AreInOrder x.0) }
+    ensures few { IfOk result (λ x. length x.0 ≤ count) }
     ensures end { IfOk result (λ x. x.1 ≤ len) }
 
     // No bytes change. A fault is counted as one of reading.

@@ -12,13 +12,13 @@ ghost use Rattle.omi_word.specs.SymbolTable.{symbol_in};
 ghost use Rattle.omi_calls.specs.Kept.{IsOrderOf};
 ghost use Rattle.omi_calls.specs.Asked.{AsksWord, Symbol, asked_after, unlisted};
 ghost use Rattle.omi_calls.specs.Memory.{told_by};
-ghost use Rattle.omi_page.specs.declared.limits.TheConstants.{MOST_PAGES, PAGE_BYTES};
+ghost use Rattle.omi_page.specs.declared.limits.TheConstants.{MOST_PAGES, MOST_SPANS, PAGE_BYTES};
 ghost use Rattle.omi_page.specs.Left.{LeavesFiles};
 ghost use Rattle.omi_page.specs.CoreFiles.{IsFault, IsFileOf};
 ghost use Rattle.omi_page.specs.Outcomes.{IsFaultOf, UnlessFree};
 ghost use Rattle.omi_page.specs.declared.fault.PageError.{PageError};
 ghost use Rattle.omi_read.specs.Holding.{IsLength, Holds};
-ghost use Rattle.omi_page.specs.Bounds.{EndWithin};
+ghost use Rattle.omi_page.specs.Bounds.{AreInOrder, EndWithin};
 ghost use Rattle.omi_page.specs.Paging.{AreLong, ArePages, ArePartsOf, IsOpened};
 
 use crate::contents::Contents;
@@ -48,8 +48,10 @@ pub struct Pages<'a, F: Files> {
     ghost room: { vec_len buffer ≡ PAGE_BYTES },
     ghost places: { kept.cap ≡ MOST_PAGES },
     ghost few: { length kept.entries ≤ MOST_PAGES },
+    ghost few_spans: { length spans ≤ MOST_SPANS },
     ghost length: { IsLength (F.told files.now name.now) len },
     ghost ends: { EndWithin len spans },
+    ghost ordered: { AreInOrder spans },
     ghost long: { AreLong kept.entries },
     ghost pages: { ArePages (F.told files.now name.now) spans kept.entries },
     ghost known: { order ≤ 1 },

@@ -2,7 +2,6 @@
 
 ghost use Rattle.std.specs.Prelude.{◌≡◌, ◌+◌, ◌*◌, ◌%◌, ◌^◌, ◌<◌, ◌≤◌};
 ghost use Rattle.omi_word.specs.declared.limits.TheConstants.{MEMORY_END};
-ghost use Rattle.omi_corefile.specs.declared.limits.TheConstants.{MOST_SEGMENT_WORDS};
 
 use omi_list::List;
 
@@ -14,8 +13,8 @@ pub struct Span {
     pub count: u64,
     pub place: u64,
     pub ghost aligned: { start % 8 ≡ 0 },
-    pub ghost low: { start < MEMORY_END },
-    pub ghost few: { count ≤ MOST_SEGMENT_WORDS },
+    pub ghost low: { start ≤ MEMORY_END },
+    pub ghost few: { 8 * count < 2 ^ 63 },
     pub ghost fits: { place + 8 * count < 2 ^ 64 },
 }
 

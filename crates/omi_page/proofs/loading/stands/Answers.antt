@@ -1,23 +1,23 @@
-use Rattle.std.proofs.Common.{◌≡◌, ◌+◌, true, false, cond, drop, sym, ap, ◌∙◌, arith}
+use Rattle.std.proofs.Common.{◌-◌, sym, ap, ◌∙◌, arith}
 use Rattle.std.specs.Option.{is_some}
-use Rattle.omi_page.specs.Spans.{place_in, is_in}
-use Rattle.omi_page.proofs.Placing.{stands_more}
+use Rattle.std.proofs.lemmas.Bool.{le-ltb}
+use Rattle.omi_page.proofs.InOrder.{none_below, none_from, one_stands}
+use Rattle.omi_page.proofs.Placing.{stands_by_test}
 use Rattle.omi_page.proofs.loading.stands.Goals as goal
 
-pub returns-then-stands_in-clause-stands : goal.returns-then-stands_in-clause-stands
-returns-then-stands_in-clause-stands c =
-    let rest = is_some (place_in (drop (c.loop-at.at + 1) c.args.spans.now) c.args.addr) in
-    let here : is_in c.get.result.now c.args.addr ≡ true = sym c.stands_in.ensures ∙ c.if-stands_in.true in
-    sym (c.loop-at.invariant
-    ∙ stands_more c.args.spans.now c.loop-at.at (c.loop-at.at + 1) c.get.result.now c.args.addr
-    (omega arith) c.get.ensures
-    ∙ ap (λ b. cond b true rest) here)
+pub returns-then-count-gt0-clause-stands : goal.returns-then-count-gt0-clause-stands
+returns-then-count-gt0-clause-stands c =
+    let spans = c.args.spans.now in
+    c.stands_in.ensures
+    ∙ sym (stands_by_test c.get.result.now c.args.addr)
+    ∙ sym (ap is_some
+    (one_stands spans (c.started-count.result - 1) c.get.result.now c.args.addr c.requires c.get.ensures
+    (c.started-count.ensures.before (c.started-count.result - 1) c.get.result.now (omega (arith, c.if-count-gt0.true)) c.get.ensures)
+    (λ k s lt is. c.started-count.ensures.behind k s (omega (arith, lt)) is)))
 
-pub loop-at-preserved : goal.loop-at-preserved
-loop-at-preserved c =
-    let rest = is_some (place_in (drop (c.loop-at.at + 1) c.args.spans.now) c.args.addr) in
-    let here : is_in c.get.result.now c.args.addr ≡ false = sym c.stands_in.ensures ∙ c.if-stands_in.false in
-    c.loop-at.invariant
-    ∙ stands_more c.args.spans.now c.loop-at.at (c.loop-at.at + 1) c.get.result.now c.args.addr
-    (omega arith) c.get.ensures
-    ∙ ap (λ b. cond b true rest) here
+pub returns-else-count-gt0-clause-stands : goal.returns-else-count-gt0-clause-stands
+returns-else-count-gt0-clause-stands c =
+    le-ltb 0 c.started-count.result (omega (arith, c.if-count-gt0.false))
+    ∙ sym (ap is_some
+    (none_from c.args.spans.now 0 c.args.addr
+    (λ k s le is. none_below s c.args.addr (c.started-count.ensures.behind k s (omega (arith, c.if-count-gt0.false)) is))))

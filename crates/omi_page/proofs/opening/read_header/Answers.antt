@@ -25,5 +25,8 @@ returns-clause-long g c = let took = header_took c.in_ok-count.count _ _ c.in_ok
 pub returns-clause-few : goal.returns-clause-few
 returns-clause-few g c = (header_took c.in_ok-count.count _ _ c.in_ok-counts.ensures).few_contexts
 
+pub returns-clause-segments : goal.returns-clause-segments
+returns-clause-segments g c = (header_took c.in_ok-count.count _ _ c.in_ok-counts.ensures).few_segments
+
 pub returns-clause-order : goal.returns-clause-order
 returns-clause-order g c = (header_took c.in_ok-count.count _ _ c.in_ok-counts.ensures).order_is

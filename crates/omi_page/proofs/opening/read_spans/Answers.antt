@@ -1,11 +1,13 @@
-use Rattle.std.proofs.Common.{rules, arith, ap, ◌∙◌, subst, sym}
+use Rattle.std.proofs.Common.{◌+◌, ◌*◌, length, rules, arith, ap, ◌∙◌, subst, sym}
+use Rattle.std.proofs.lemmas.List.{length_push}
 use Rattle.std.proofs.lemmas.Result.{err_from_is_err_and}
 use Rattle.omi_corefile.specs.Refusals.{segment_at, left_after, segments_at}
 use Rattle.omi_corefile.proofs.Rows.{row_ends}
 use Rattle.omi_read.specs.Holding.{Holds}
-use Rattle.omi_page.specs.Bounds.{EndWithin}
+use Rattle.omi_page.specs.Bounds.{AreInOrder, EndWithin}
 use Rattle.omi_page.specs.Spans.{segments_there}
 use Rattle.omi_page.proofs.Segments.{segment_more, segments_fault, ends_push}
+use Rattle.omi_page.proofs.InOrder.{EndBelow, below_push, order_push}
 use Rattle.omi_page.proofs.opening.read_spans.Goals as goal
 
 pub returns-in_err-span-clause-read : goal.returns-in_err-span-clause-read
@@ -26,6 +28,12 @@ loop-preserved g c = record {
   room_is_left = omega arith;
   within = search rules;
   ends = subst (EndWithin c.args.len) (sym c.in_ok-push.ensures.added) (ends_push c.args.len c.loop.spans c.in_ok-span.span c.loop.invariant.ends c.in_ok-span.ensures.end);
+  ordered = subst AreInOrder (sym c.in_ok-push.ensures.added)
+      (order_push c.loop.spans c.in_ok-span.span c.loop.invariant.ordered
+      (λ k s is. omega (arith, c.loop.invariant.below k s is, c.in_ok-span.ensures.from)));
+  below = subst (EndBelow (c.in_ok-span.span.start + 8 * c.in_ok-span.span.count + 1)) (sym c.in_ok-push.ensures.added)
+      (below_push c.loop.least _ c.loop.spans c.in_ok-span.span c.loop.invariant.below (omega (arith, c.in_ok-span.ensures.from)) (omega arith));
+  few = omega (arith, ap length c.in_ok-push.ensures.added, length_push c.loop.spans c.in_ok-span.span, c.loop.invariant.few);
   same = search rules;
   later = omega arith;
   writes = search rules;
