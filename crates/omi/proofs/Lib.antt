@@ -1,2 +1,4 @@
 pub mod NoTargets
-mod FrontsOfCores
+mod Held
+mod Looking
+mod Turned

@@ -1,20 +1,18 @@
 -- Why there is no session over the words of a core.
-use Rattle.std.proofs.Common.{◌≡◌, List, ℕ, Some, None, refl, sym, ap, subst}
+use Rattle.std.proofs.Common.{◌≡◌, ℕ, List, Option, None, refl, sym, ap, subst}
 use Rattle.omi_calls.specs.CoreWords.{words_of_segments}
 use Rattle.omi_calls.specs.Memory.{told_by, usual_sizes}
-use Rattle.omi_calls.specs.Told.{Told, aligned_word_at}
-use Rattle.omi_corefile.specs.Spelling.{Core}
+use Rattle.omi_calls.specs.Told.{Told}
 use Rattle.omi_corefile.specs.declared.core_image.CoreImage.{CoreImage}
-use Rattle.omi_corefile.specs.declared.segment.Segment.{Segment}
 use Rattle.omi_session.specs.Opening.{IsCause, Refuses}
 use Rattle.omi_session.specs.Tells.{Tells}
 use Rattle.omi_session.specs.declared.rc.Rc.{Rc}
 use Rattle.omi_session.specs.declared.rc.Rc.TheVariants as code
-use Rattle.omi_word.specs.SymbolTable.{symbol_in}
 use Rattle.omi_word.specs.Words.{Words}
-use Rattle.omi.specs.Opened.{IsNoCore, IsNoTarget, told_lowest_first, words_of_core}
-use Rattle.omi.specs.declared.opened.OpenError.{OpenError}
-use Rattle.omi.specs.declared.opened.OpenError.TheVariants as error
+use Rattle.omi.specs.Faults.{open_error_of_code}
+use Rattle.omi.specs.Opened.{HoldsCore, IsNotOpened, IsUnopened, words_of_core}
+use Rattle.omi.specs.declared.fault.OpenError.{OpenError}
+use Rattle.omi.specs.declared.fault.OpenError.TheVariants as error
 
 -- callbacks over a core tell its words
 pub tells_core : (core : CoreImage) (told : Told) → told ≡ told_by core → Tells told (words_of_core core)
@@ -28,32 +26,23 @@ pub no_target : (core : CoreImage) (told : Told) (rc : Rc) → told ≡ told_by 
 no_target core told rc is words known =
     words (words_of_core core) (tells_core core told is) (ap (λ (t : Told). t.sizes) is) known
 
--- a core of order 0 with the same segments has the same words and symbols
-pub told_again : (core other : CoreImage) → other.order ≡ 0 → other.segments ≡ core.segments
-    → told_by other ≡ told_lowest_first core
-told_again core other zero same = λ i. record {
-  order = Some (zero i);
-  words = λ _. Some (words_of_segments (same i));
-  symbols = Some (symbol_in (aligned_word_at (words_of_segments (same i))));
-  fails = None;
-  sizes = usual_sizes;
-}
+-- there is no session over the words of a core, by the code of a session that doesn't open
+pub unopened : (core : CoreImage) (told : Told) (rc : Rc) → told ≡ told_by core
+    → ((memory : Words) → Tells told memory → told.sizes ≡ usual_sizes → Refuses memory rc)
+    → IsUnopened core (open_error_of_code rc)
+unopened core told rc is words =
+    go rc (words (words_of_core core) (tells_core core told is) (ap (λ (t : Told). t.sizes) is))
+  where
+    go : (r : Rc) → Refuses (words_of_core core) r → IsUnopened core (open_error_of_code r)
+    go code.CallbackError refuses = tt
+    go r refuses = refuses (λ failed. cc failed)
 
--- and gives no layout for the same cause
-pub no_target_again : (core other : CoreImage) → other.segments ≡ core.segments → (e : OpenError)
-    → IsNoTarget other e → IsNoTarget core e
-no_target_again core other same (error.NoTarget rc) is =
-    subst (λ (ss : List Segment). IsCause (aligned_word_at (words_of_segments ss)) rc) same is
-no_target_again core other same error.NoFile is = absurd is
-no_target_again core other same error.NotRead is = absurd is
-no_target_again core other same (error.NoCore at why) is = absurd is
-no_target_again core other same error.OutOfMemory is = absurd is
-
--- the core is the one that the bytes spell
-pub no_core : (bytes : List ℕ) (core : CoreImage) (e : OpenError) → Core bytes core → IsNoTarget core e
-    → IsNoCore bytes e
-no_core bytes core error.NoFile spelled is = absurd is
-no_core bytes core error.NotRead spelled is = absurd is
-no_core bytes core (error.NoCore at why) spelled is = absurd is
-no_core bytes core (error.NoTarget rc) spelled is = (core, spelled, is)
-no_core bytes core error.OutOfMemory spelled is = absurd is
+-- and so the file that stands for the core isn't opened
+pub not_opened : (content : Option (List ℕ)) (core : CoreImage) (e : OpenError) → HoldsCore content core → IsUnopened core e
+    → IsNotOpened content e
+not_opened content core (error.NoTarget rc) holds why = (core, holds, why)
+not_opened content core error.NotRead holds why = tt
+not_opened content core error.NoFile holds why = absurd why
+not_opened content core (error.NoCore at fault) holds why = absurd why
+not_opened content core (error.NoElf at fault) holds why = absurd why
+not_opened content core error.OutOfMemory holds why = absurd why

@@ -1,6 +1,6 @@
 //! Chains of regions and of tasks, along which no record comes twice.
 
-ghost use Rattle.std.specs.Prelude.{◌≡◌, ◌-◌, ◌^◌, ◌<◌, ℕ, false, IfErr, OnErr, OnOk, option_map};
+ghost use Rattle.std.specs.Prelude.{◌≡◌, ◌-◌, ◌^◌, ◌<◌, ℕ, false, IfErr, OnErr, OnOk};
 ghost use Rattle.std.specs.Prelude as prelude;
 ghost use Rattle.std.specs.FinMap.{get};
 ghost use Rattle.omi_ask.specs.Regions.{enclosing_region};
@@ -10,13 +10,12 @@ ghost use Rattle.omi_handle.specs.declared.handle.Held.{Held};
 ghost use Rattle.omi_handle.specs.declared.handle.Kind.{Kind};
 ghost use Rattle.omi_handle.specs.declared.handle.Kind.TheVariants.{Region, Task};
 ghost use Rattle.omi_outside.specs.Outside.{HasCause};
-ghost use Rattle.omi_session.specs.Made.{IsMade, Makes, StandsFor, as_pair, region_pair, task_pair};
+ghost use Rattle.omi_session.specs.Made.{IsMade, Makes, StandsFor, region_pair, task_pair};
 ghost use Rattle.omi_session.specs.declared.rc.Rc.{Rc};
 ghost use Rattle.omi_session.specs.Opened.{Stays};
 ghost use Rattle.omi.specs.Chains.{ComesBy, IsCallbackError, IsStepOf, IsStepTo, MakesStep, StaysBy, StepAsks, StepComesBy, Steps, as_step, came_by};
 
-use omi_ask::get_enclosing_parallel_handle;
-use omi_asktask::{get_generating_task_handle, get_scheduling_task_handle};
+use crate::way::{Enclosing, Generating, Scheduling, Way, handle_at, pair_made};
 use omi_calls::{Callbacks, ToHost};
 use omi_handle::{RegionHandle, TaskHandle};
 use omi_session::{Rc, Session};
@@ -40,42 +39,6 @@ pub enum ChainError {
     /// The inquiry for the next object was refused.
     #[error("{0}")]
     Refused(Rc),
-}
-
-/// The key and serial of a new region handle.
-fn of_region(made: Result<RegionHandle, Rc>) -> Result<(u64, u64), Rc>
-    ensures { result ≡ as_pair region_pair made }
-{
-    match made {
-        Ok(r) => Ok((r.key, r.serial)),
-        Err(rc) => Err(rc),
-    }
-}
-
-/// The key and serial of a new task handle.
-fn of_task(made: Result<TaskHandle, Rc>) -> Result<(u64, u64), Rc>
-    ensures { result ≡ as_pair task_pair made }
-{
-    match made {
-        Ok(k) => Ok((k.key, k.serial)),
-        Err(rc) => Err(rc),
-    }
-}
-
-/// The region handle of a pair of key and serial.
-fn region_at(pair: Option<(u64, u64)>) -> Option<RegionHandle>
-    ensures { option_map region_pair result ≡ pair }
-{
-    let (key, serial) = pair?;
-    Some(RegionHandle { key, serial })
-}
-
-/// The task handle of a pair of key and serial.
-fn task_at(pair: Option<(u64, u64)>) -> Option<TaskHandle>
-    ensures { option_map task_pair result ≡ pair }
-{
-    let (key, serial) = pair?;
-    Some(TaskHandle { key, serial })
 }
 
 impl Chain {
@@ -137,6 +100,32 @@ impl Chain {
         }
     }
 
+    /// A step along a way. The chain comes by the object that is handed in.
+    fn step<C: Callbacks, F: ToHost, W: Way>(
+        &mut self,
+        s: &mut Session<C, F>,
+        handle: W::Handle,
+    ) -> Result<Option<W::Handle>, ChainError>
+        requires { s.old.handles.made < 2 ^ 64 - 1 }
+        ensures answer { Steps (C.told s.old.table.calls) (came_by self.new) s.new.handles
+            (as_step W.pair result)
+            (W.reads s.old.layout (get s.old.handles.held (W.pair handle))) }
+        ensures reads { StepAsks C.told C.asked (came_by self.new) s.old s.new
+            (as_step W.pair result)
+            (W.reads s.old.layout (get s.old.handles.held (W.pair handle))) }
+        ensures records { StepComesBy self.old self.new (get s.old.handles.held (W.pair handle))
+            result }
+        ensures handles { MakesStep W.kind s.old.handles s.new.handles (as_step W.pair result) }
+        ensures stays { Stays C.told s.old s.new }
+        ensures cause { HasCause (C.faults s.old.table.calls) (C.faults s.new.table.calls)
+            (IsCallbackError result) }
+    {
+        self.add(s, W::pair_of(handle))?;
+        let made = pair_made::<W>(W::next(s, handle));
+        let next = self.judged(s, made)?;
+        Ok(handle_at::<W>(next))
+    }
+
     /// The region that encloses one, where there is one. The chain comes by the region that is handed in.
     pub fn enclosing<C: Callbacks, F: ToHost>(
         &mut self,
@@ -157,10 +146,7 @@ impl Chain {
         ensures cause { HasCause (C.faults s.old.table.calls) (C.faults s.new.table.calls)
             (IsCallbackError result) }
     {
-        self.add(s, (r.key, r.serial))?;
-        let made = of_region(get_enclosing_parallel_handle(s, r));
-        let next = self.judged(s, made)?;
-        Ok(region_at(next))
+        self.step::<C, F, Enclosing>(s, r)
     }
 
     /// The task that was left for one on its thread, where there is one. The chain comes by the task that is handed in.
@@ -183,10 +169,7 @@ impl Chain {
         ensures cause { HasCause (C.faults s.old.table.calls) (C.faults s.new.table.calls)
             (IsCallbackError result) }
     {
-        self.add(s, (k.key, k.serial))?;
-        let made = of_task(get_scheduling_task_handle(s, k));
-        let next = self.judged(s, made)?;
-        Ok(task_at(next))
+        self.step::<C, F, Scheduling>(s, k)
     }
 
     /// The task that made one, where there is one. The chain comes by the task that is handed in.
@@ -209,9 +192,6 @@ impl Chain {
         ensures cause { HasCause (C.faults s.old.table.calls) (C.faults s.new.table.calls)
             (IsCallbackError result) }
     {
-        self.add(s, (k.key, k.serial))?;
-        let made = of_task(get_generating_task_handle(s, k));
-        let next = self.judged(s, made)?;
-        Ok(task_at(next))
+        self.step::<C, F, Generating>(s, k)
     }
 }

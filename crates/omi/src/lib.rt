@@ -3,11 +3,18 @@
 #![tactic(auto)]
 
 mod chain;
-pub mod limits;
+mod fault;
+mod lending;
+mod lowest_first;
 mod opened;
+mod session;
+mod target;
 mod tool;
+mod way;
 
 pub use chain::{Chain, ChainError};
+pub use fault::OpenError;
+pub use lowest_first::LowestFirst;
 pub use omi_ask::{
     get_curr_parallel_handle, get_enclosing_parallel_handle, get_task_parallel_handle,
     get_thread_handle, get_thread_id, get_thread_in_parallel, parallel_handle_compare, region_id,
@@ -22,6 +29,7 @@ pub use omi_calls::{
     CallbackFailed, Callbacks, CoreCalls, Got, MemCalls, Place, Sizes, Table, ToHost,
 };
 pub use omi_corefile::{CoreError, CoreImage, decode};
+pub use omi_elf::ElfFault;
 pub use omi_handle::{RegionHandle, TaskHandle, ThreadHandle};
 pub use omi_icv::{
     Scoped, enumerate_icvs, enumerate_states, get_display_control_vars, get_icv_from_scope,
@@ -34,11 +42,14 @@ pub use omi_numbers::{
     THREAD_NUM_VAR, UNDEFINED_STATE, UNDEFINED_VARIABLE, state_name, variable_name,
 };
 pub use omi_outside::{DiskFiles, Files, Refused, Sink, StdSink, hold_standard};
+pub use omi_page::Pages;
 pub use omi_session::{
     API_VERSION, Library, Parted, Rc, Session, get_api_version, get_version_string, initialize,
 };
 pub use omi_text::report_text;
 pub use omi_walk::{KeptList, WalkFault, kept, walk};
 pub use omi_word::Natives;
-pub use opened::{OpenCore, OpenError, open_core, session_over};
+pub use opened::open_core;
+pub use session::{session_of, session_over};
+pub use target::OpenCore;
 pub use tool::{Tool, look_into};

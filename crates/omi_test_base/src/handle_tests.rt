@@ -57,3 +57,16 @@ fn room_for_three(rt: HostRuntime) -> Result<(), Fail> {
     assert_eq!(rt; handles.made(), 3);
     Ok(())
 }
+
+#[test]
+fn without_memory_no_pair_is_made(rt: HostRuntime) -> Result<(), Fail> {
+    let mut handles = Handles::without_memory();
+    let task = held(Kind::Task, 0x109b0);
+    assert!(rt; handles.make(task).is_err());
+    assert!(rt; handles.reserve(1).is_err());
+    assert_eq!(rt; handles.find(0, 0), None);
+    let released = handles.release(0, 0);
+    assert!(rt; !released);
+    assert_eq!(rt; handles.made(), 0);
+    Ok(())
+}

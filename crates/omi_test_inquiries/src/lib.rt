@@ -5,6 +5,8 @@ pub mod answers;
 #[cfg(test)]
 mod forks;
 #[cfg(test)]
+mod held_tests;
+#[cfg(test)]
 mod kept_tests;
 #[cfg(test)]
 mod later_tests;

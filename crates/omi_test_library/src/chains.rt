@@ -1,7 +1,7 @@
 //! A tool that looks into a core by its file, and follows chains along all records of a memory.
 
 use omi::{
-    Chain, ChainError, CoreCalls, Natives, Rc, RegionHandle, Session, TaskHandle, ToHost, Tool,
+    Callbacks, Chain, ChainError, Natives, Rc, RegionHandle, Session, TaskHandle, ToHost, Tool,
     get_curr_parallel_handle, get_curr_task_handle, get_thread_handle, look_into,
     rel_parallel_handle, rel_task_handle,
 };
@@ -34,13 +34,10 @@ impl From<ChainError> for Ended {
     }
 }
 
-/// A session with the words of a core.
-type Target<F> = Session<CoreCalls, F>;
-
 /// How many regions a chain comes by, from one outwards.
-fn regions_from<F: ToHost>(
+fn regions_from<C: Callbacks, H: ToHost>(
     alloc: Global,
-    s: &mut Target<F>,
+    s: &mut Session<C, H>,
     innermost: RegionHandle,
 ) -> Result<u64, Ended> {
     let mut chain = Chain::new(alloc);
@@ -65,9 +62,9 @@ enum Along {
 }
 
 /// How many tasks a chain comes by from one on.
-fn tasks_from<F: ToHost>(
+fn tasks_from<C: Callbacks, H: ToHost>(
     alloc: Global,
-    s: &mut Target<F>,
+    s: &mut Session<C, H>,
     first: TaskHandle,
     along: Along,
 ) -> Result<u64, Ended> {
@@ -89,7 +86,10 @@ fn tasks_from<F: ToHost>(
 }
 
 /// How many records the three chains of thread 0 come by: of enclosing regions, of generating and of scheduling tasks.
-fn lengths<F: ToHost>(alloc: Global, s: &mut Target<F>) -> Result<[u64; 3], Ended> {
+fn lengths<C: Callbacks, H: ToHost>(
+    alloc: Global,
+    s: &mut Session<C, H>,
+) -> Result<[u64; 3], Ended> {
     s.may_make()?;
     let thread = get_thread_handle(s, 0, 1000)?;
     s.may_make()?;
@@ -113,7 +113,11 @@ struct Followed {
 }
 
 impl Tool for Followed {
-    fn look<F: ToHost>(&mut self, session: &mut Session<CoreCalls, F>, threads: &Natives) {
+    fn look<C: Callbacks + Drop, H: ToHost>(
+        &mut self,
+        session: &mut Session<C, H>,
+        threads: &Natives,
+    ) {
         self.chains = lengths(self.alloc, session);
         self.threads = threads.len();
     }

@@ -6,6 +6,8 @@ mod chains;
 #[cfg(test)]
 mod example;
 #[cfg(test)]
+mod files;
+#[cfg(test)]
 mod handles;
 #[cfg(test)]
 mod opening;

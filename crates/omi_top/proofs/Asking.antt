@@ -15,43 +15,12 @@ use Rattle.omi_page.specs.declared.fault.PageError.{PageError}
 use Rattle.omi_page.specs.declared.fault.PageError.TheVariants as page
 use Rattle.omi_top.specs.Files.{IsFaultBy}
 use Rattle.omi_top.specs.Questions.{ComesOfFile, IsAnswerOf, refusal_of_page}
-use Rattle.omi_commands.specs.Inquiries.{ComesOfWords}
-use Rattle.omi_frame.specs.Refusal.{IsReadFault, status_of}
+use Rattle.omi_frame.specs.Refusal.{status_of}
 use Rattle.omi_frame.specs.declared.refusal.Input.TheVariants as input
 use Rattle.omi_frame.specs.declared.refusal.Refusal.{Refusal}
 use Rattle.omi_frame.specs.declared.refusal.Refusal.TheVariants as refusal
 
 -- ---- what comes of a file
-
-pub page_of_file : (e : PageError) → ComesOfFile (refusal_of_page e)
-page_of_file (page.Fault at why) = tt
-page_of_file (page.Elf at why) = tt
-page_of_file page.NoFile = tt
-page_of_file page.Failed = inl refl
-page_of_file page.OutOfMemory = inr refl
-
-pub words_of_file : (r : Refusal) → ComesOfWords r → ComesOfFile r
-words_of_file refusal.Incompatible comes = comes
-words_of_file (refusal.Damaged addr field) comes = comes
-words_of_file (refusal.Cycle addr) comes = comes
-words_of_file (refusal.Script fault) comes = comes
-words_of_file refusal.Usage comes = comes
-words_of_file (refusal.NoFile input.Script) comes = comes
-words_of_file (refusal.NoFile input.Core) comes = tt
-words_of_file (refusal.NoFile input.Later) comes = comes
-words_of_file (refusal.ReadFault read) comes = comes
-words_of_file refusal.WriteFault comes = comes
-words_of_file (refusal.Core at why) comes = tt
-words_of_file (refusal.Elf at why) comes = tt
-words_of_file refusal.OutOfMemory comes = comes
-
--- only a read that failed is a read fault
-pub page_failed : (e : PageError) → IsReadFault (refusal_of_page e) → e ≡ page.Failed
-page_failed (page.Fault at why) read = absurd read
-page_failed (page.Elf at why) read = absurd read
-page_failed page.NoFile read = absurd read
-page_failed page.Failed read = refl
-page_failed page.OutOfMemory read = absurd read
 
 -- neither the words of the command line nor a script is refused, and nothing is written
 pub record IsOfCommand (r : Refusal) : Type 0 where

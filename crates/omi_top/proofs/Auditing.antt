@@ -1,6 +1,6 @@
 -- What `audit` answers where there is a verdict on its core, and where there is none.
 use Rattle.std.proofs.Common.{◌≡◌, inl, inr, ℕ, List, Option, Some, None, Ok, Err, refl, subst, sym, ◌∙◌}
-use Rattle.std.specs.Prelude.{Result, IfErr, IfOk, IsErrAnd}
+use Rattle.std.specs.Prelude.{Result, IfOk}
 use Rattle.std.specs.Global.{Vec}
 use Rattle.omi_audit.specs.Verdicts.{verdict}
 use Rattle.omi_audit.specs.declared.verdict.AuditFault.{AuditFault}
@@ -15,8 +15,7 @@ use Rattle.omi_top.specs.Audit.{IsJudged, audit_line, judged}
 use Rattle.omi_top.specs.Command.{Audit}
 use Rattle.omi_top.specs.Cores.{words_of_core}
 use Rattle.omi_top.specs.Questions.{IsAnswerOf, IsUnopened}
-use Rattle.omi_commands.specs.Inquiries.{ComesOfWords}
-use Rattle.omi_frame.specs.Refusal.{IsReadFault, IsUnread}
+use Rattle.omi_frame.specs.Refusal.{IsUnread}
 use Rattle.omi_frame.specs.declared.refusal.Input.TheVariants as input
 use Rattle.omi_frame.specs.declared.refusal.Refusal.{Refusal}
 use Rattle.omi_top.specs.CommandVerbs.{verb_of}
@@ -32,16 +31,6 @@ pub audit_judged_by : (core : CoreImage) (w : List ℕ) (r : Result Verdict Audi
 audit_judged_by core w (Ok v) valid layout is = record { w = w; valid = valid; layout = layout; is = sym is }
 audit_judged_by core w (Err fault.Callback) valid layout is = inr (inl refl)
 audit_judged_by core w (Err fault.OutOfMemory) valid layout is = inr (inr refl)
-
-pub audit_of_words : (r : Result Verdict AuditFault) → IfErr (judged r) ComesOfWords
-audit_of_words (Ok v) = tt
-audit_of_words (Err fault.Callback) = inl refl
-audit_of_words (Err fault.OutOfMemory) = inr refl
-
-pub audit_failed : (r : Result Verdict AuditFault) → IsErrAnd (judged r) IsReadFault → (let failed : Result Verdict AuditFault = Err fault.Callback in r ≡ failed)
-audit_failed (Ok v) read = absurd read
-audit_failed (Err fault.Callback) read = refl
-audit_failed (Err fault.OutOfMemory) read = absurd read
 
 module _ (name : List ℕ) (told : List ℕ → Told) (content : Option (List ℕ))
     (is : told name ≡ Some content) (old : Told) where

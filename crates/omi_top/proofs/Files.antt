@@ -7,7 +7,7 @@ use Rattle.omi_corefile.specs.declared.fault.CoreFault.{CoreFault}
 use Rattle.omi_corefile.proofs.FileLaws.{core_not_refused}
 use Rattle.omi_elf.specs.ElfCore.{ElfCore}
 use Rattle.omi_elf.specs.Header.{begins_as_elf}
-use Rattle.omi_elf.specs.Table.{ElfRefusal, judgement, header_rows}
+use Rattle.omi_elf.specs.Table.{ElfRefusal, judgement, front_rows, header_rows}
 use Rattle.omi_elf.specs.declared.fault.ElfFault.{ElfFault}
 use Rattle.omi_elf.specs.declared.fault.ElfFault.TheVariants.{NotElf}
 use Rattle.omi_elf.proofs.Stands.{elf_not_refused}
@@ -23,7 +23,7 @@ use Rattle.omi_frame.specs.declared.refusal.Refusal.TheVariants as refusal
 
 -- another file is no ELF core file
 not_elf : (bytes : List ℕ) → begins_as_elf bytes ≡ false → judgement bytes ≡ Err (0, NotElf)
-unfolding judgement header_rows
+unfolding judgement header_rows front_rows
 not_elf bytes begins = rw begins refl
 
 -- a file that stands for a core as an ELF file begins as one, and one that spells a core doesn't

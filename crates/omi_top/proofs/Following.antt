@@ -28,7 +28,8 @@ use Rattle.omi_session.specs.declared.rc.Rc.TheVariants as code
 use Rattle.omi_top.proofs.Asking.{IsOfCommand}
 use Rattle.omi_commands.proofs.FateLines.{names}
 use Rattle.omi_top.proofs.Files.{told_as}
-use Rattle.omi_top.proofs.Opening.{cause_refusal, tells_core}
+use Rattle.omi.proofs.NoTargets.{tells_core}
+use Rattle.omi_top.proofs.Opening.{cause_refusal}
 use Rattle.omi_frame.specs.Left.{IsAnswered, IsEarly}
 use Rattle.omi_top.specs.Command.{Follow}
 use Rattle.omi_top.specs.Cores.{IsLooked, words_of_core}

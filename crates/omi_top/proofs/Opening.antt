@@ -1,7 +1,7 @@
 -- A session over the words of a core: what they tell, why there is none, and what a walk in it answers.
 use Rattle.std.proofs.Common.{◌≡◌, inl, inr, ℕ, List, Ok, Err, refl, sym, ◌∙◌, ap, subst}
-use Rattle.std.specs.Prelude.{Result, None, IfErr, IsErrAnd}
-use Rattle.omi_calls.specs.CoreWords.{words_of_segments as segment_words}
+use Rattle.std.specs.Prelude.{Result}
+use Rattle.omi.proofs.NoTargets.{tells_core}
 use Rattle.omi_calls.specs.Memory.{told_by, usual_sizes}
 use Rattle.omi_calls.specs.Told.{Told}
 use Rattle.omi_corefile.specs.declared.core_image.CoreImage.{CoreImage}
@@ -20,19 +20,12 @@ use Rattle.omi_session.specs.declared.rc.Rc.{Rc}
 use Rattle.omi_session.specs.declared.rc.Rc.TheVariants as code
 use Rattle.omi_top.specs.Cores.{IsLooked, words_of_core}
 use Rattle.omi_top.specs.Questions.{IsLayoutRefusal, IsUnopened, refusal_of_layout}
-use Rattle.omi_commands.specs.Inquiries.{ComesOfWords, refusal_of_code}
+use Rattle.omi_commands.specs.Inquiries.{refusal_of_code}
 use Rattle.omi_top.specs.Shown.{IsViewed, handed_on}
-use Rattle.omi_frame.specs.Refusal.{IsReadFault}
 use Rattle.omi_frame.specs.declared.refusal.Refusal.{Refusal}
 use Rattle.omi_walk.specs.Gives.{Gives}
 use Rattle.omi_walk.specs.declared.fault.WalkFault.{WalkFault}
 use Rattle.omi_walk.specs.declared.fault.WalkFault.TheVariants as walk
-
--- callbacks over a core tell its words
-pub tells_core : (core : CoreImage) (told : Told) → told ≡ told_by core → Tells told (words_of_core core)
-tells_core core told is =
-    subst (λ (t : Told). Tells t (words_of_core core)) (sym is)
-    (record { order = core.order; order_told = refl; words = segment_words core.segments; rest = λ _. None; words_told = refl; is = refl })
 
 -- ---- a session that doesn't open
 
@@ -97,17 +90,3 @@ walk_viewed core (Err (walk.Damaged addr field)) looked = inl (inr (look.Damaged
 walk_viewed core (Err (walk.Cycle addr)) looked = inl (inr (look.Cycle addr, looked, refl))
 walk_viewed core (Err walk.Callback) looked = inr (inl refl)
 walk_viewed core (Err walk.OutOfMemory) looked = inr (inr refl)
-
-pub walk_of_words : (result : Result View WalkFault) → IfErr (handed_on result) ComesOfWords
-walk_of_words (Ok v) = tt
-walk_of_words (Err (walk.Damaged addr field)) = tt
-walk_of_words (Err (walk.Cycle addr)) = tt
-walk_of_words (Err walk.Callback) = inl refl
-walk_of_words (Err walk.OutOfMemory) = inr refl
-
-pub walk_failed : (result : Result View WalkFault) → IsErrAnd (handed_on result) IsReadFault → (let failed : Result View WalkFault = Err walk.Callback in result ≡ failed)
-walk_failed (Ok v) read = absurd read
-walk_failed (Err (walk.Damaged addr field)) read = absurd read
-walk_failed (Err (walk.Cycle addr)) read = absurd read
-walk_failed (Err walk.Callback) read = refl
-walk_failed (Err walk.OutOfMemory) read = absurd read

@@ -13,10 +13,11 @@ ghost use Rattle.omi_top.specs.Questions.{IsUnopened};
 ghost use Rattle.omi_commands.specs.Inquiries.{ComesOfWords, refusal_of_code};
 ghost use Rattle.omi_frame.specs.Refusal.{IsReadFault};
 
-use omi_calls::{Callbacks, Table, ToHost};
+use omi::session_of;
+use omi_calls::{Callbacks, ToHost};
 use omi_commands::refusal_of_code;
 use omi_frame::Refusal;
-use omi_session::{API_VERSION, Session, initialize};
+use omi_session::Session;
 use std::alloc::Global;
 
 /// The layout in a session is one that a type keeps, so it is valid.
@@ -47,12 +48,8 @@ pub fn opened<C: Callbacks + Drop, H: ToHost>(
     ensures cause { MatchResult result (λ s. C.faults calls ≤ C.faults s.table.calls)
         (λ back. HasCause (C.faults calls) (C.faults back.1) (IsReadFault back.0)) }
 {
-    let table = Table::new(calls, order, to_host);
-    let Ok(library) = initialize(API_VERSION, table) else {
-        unreachable!();
-    };
-    match library.process_initialize(alloc) {
+    match session_of(alloc, calls, order, to_host) {
         Ok(session) => Ok(session),
-        Err((rc, library)) => Err((refusal_of_code(rc), library.finalize().into_calls())),
+        Err((rc, calls)) => Err((refusal_of_code(rc), calls)),
     }
 }

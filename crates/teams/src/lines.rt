@@ -1,17 +1,17 @@
 //! The lines of the threads: the state, the current task and nthreads-var of each, and its regions from the inside out.
 
+ghost use Rattle.std.specs.Prelude.{◌≡◌, OnOk};
+ghost use Rattle.std.specs.FinMap.{remove};
+
 use crate::failure::Failure;
 use omi::{
-    Chain, CoreCalls, Id, NTHREADS_VAR, Natives, Rc, RegionHandle, Scoped, Session, TEAM_SIZE_VAR,
+    Callbacks, Chain, Id, NTHREADS_VAR, Natives, Rc, RegionHandle, Scoped, Session, TEAM_SIZE_VAR,
     TaskHandle, ThreadHandle, ToHost, Tool, get_curr_task_handle, get_icv_from_scope,
     get_icv_string_from_scope, get_state, get_task_parallel_handle, get_thread_handle, region_id,
     rel_parallel_handle, rel_task_handle, rel_thread_handle, state_name, task_id,
 };
 use std::alloc::{AllocError, Global};
 use std::fmt::Write;
-
-/// A stopped program.
-type Target<F> = Session<CoreCalls, F>;
 
 /// No layout has records of more regions. A chain that were longer would have told a cycle before.
 const MOST_REGIONS: u32 = 4096;
@@ -21,38 +21,56 @@ fn push_id(text: &mut String, id: Id) -> Result<(), AllocError> {
     write!(text, "{}.{}.{}", id.creator, id.slot, id.generation)
 }
 
-/// Adds a line for each region from one outwards, with the size of its team.
-fn push_regions<F: ToHost>(
+/// Adds a line for a region, with the size of its team.
+fn push_region<C: Callbacks, H: ToHost>(
+    s: &mut Session<C, H>,
+    region: RegionHandle,
+    text: &mut String,
+) -> Result<(), Failure>
+    ensures { s.new.handles ≡ s.old.handles }
+{
+    let name = region_id(s, region)?;
+    let size = get_icv_from_scope(s, Scoped::Parallel(region), TEAM_SIZE_VAR)?;
+    text.push_str("  region r")?;
+    push_id(text, name.0)?;
+    write!(text, " size {size}\n")?;
+    Ok(())
+}
+
+/// Adds a line for each region from one outwards. The handle of this one is given back too.
+fn push_regions<C: Callbacks, H: ToHost>(
     alloc: Global,
-    s: &mut Target<F>,
+    s: &mut Session<C, H>,
     innermost: RegionHandle,
     text: &mut String,
-) -> Result<(), Failure> {
+) -> Result<(), Failure>
+    ensures { OnOk result (s.new.handles.held
+        ≡ remove s.old.handles.held (innermost.key, innermost.serial)) }
+{
     let mut chain = Chain::new(alloc);
     let mut region = innermost;
     for _ in 0..MOST_REGIONS {
-        let name = region_id(s, region)?;
-        let size = get_icv_from_scope(s, Scoped::Parallel(region), TEAM_SIZE_VAR)?;
-        text.push_str("  region r")?;
-        push_id(text, name.0)?;
-        write!(text, " size {size}\n")?;
+        push_region(s, region, text)?;
         s.may_make()?;
         let outer = chain.enclosing(s, region)?;
         rel_parallel_handle(s, region)?;
         let Some(next) = outer else {
-            break;
+            return Ok(());
         };
         region = next;
     }
+    rel_parallel_handle(s, region)?;
     Ok(())
 }
 
 /// Adds the state of a thread by its name.
-fn push_state<F: ToHost>(
-    s: &mut Target<F>,
+fn push_state<C: Callbacks, H: ToHost>(
+    s: &mut Session<C, H>,
     thread: ThreadHandle,
     text: &mut String,
-) -> Result<(), Failure> {
+) -> Result<(), Failure>
+    ensures { s.new.handles ≡ s.old.handles }
+{
     let state = match get_state(s, thread) {
         Ok((state, _wait)) => state,
         Err(Rc::NeedsStateTracking) => {
@@ -68,13 +86,15 @@ fn push_state<F: ToHost>(
     Ok(())
 }
 
-/// Adds the name of a task and its nthreads-var, and a line for each of its regions.
-fn push_current<F: ToHost>(
+/// Adds the name of a task and its nthreads-var, and a line for each of its regions. Each handle that it makes is given back.
+fn push_current<C: Callbacks, H: ToHost>(
     alloc: Global,
-    s: &mut Target<F>,
+    s: &mut Session<C, H>,
     task: TaskHandle,
     text: &mut String,
-) -> Result<(), Failure> {
+) -> Result<(), Failure>
+    ensures { OnOk result (s.new.handles.held ≡ s.old.handles.held) }
+{
     let sizes = get_icv_string_from_scope(s, alloc, Scoped::Task(task), NTHREADS_VAR)?;
     let name = task_id(s, task)?;
     text.push_str(" task k")?;
@@ -82,16 +102,42 @@ fn push_current<F: ToHost>(
     write!(text, " nthreads-var {sizes}\n")?;
     s.may_make()?;
     let region = get_task_parallel_handle(s, task)?;
-    push_regions(alloc, s, region, text)
+    push_regions(alloc, s, region, text)?;
+    Ok(())
 }
 
-/// Adds the lines of a thread, by its native id. A thread that has not begun has none.
-fn push_thread<F: ToHost>(
+/// Adds the current task of a thread with its regions, or that there is none. Each handle that it makes is given back.
+fn push_task<C: Callbacks, H: ToHost>(
     alloc: Global,
-    s: &mut Target<F>,
+    s: &mut Session<C, H>,
+    thread: ThreadHandle,
+    text: &mut String,
+) -> Result<(), Failure>
+    ensures { OnOk result (s.new.handles.held ≡ s.old.handles.held) }
+{
+    s.may_make()?;
+    let task = match get_curr_task_handle(s, thread) {
+        Ok(task) => task,
+        Err(Rc::Unavailable) => {
+            text.push_str(" no task\n")?;
+            return Ok(());
+        }
+        Err(rc) => return Err(rc.into()),
+    };
+    push_current(alloc, s, task, text)?;
+    rel_task_handle(s, task)?;
+    Ok(())
+}
+
+/// Adds the lines of a thread, by its native id. A thread that has not begun has none. Each handle that it makes is given back.
+fn push_thread<C: Callbacks, H: ToHost>(
+    alloc: Global,
+    s: &mut Session<C, H>,
     native: u64,
     text: &mut String,
-) -> Result<(), Failure> {
+) -> Result<(), Failure>
+    ensures { OnOk result (s.new.handles.held ≡ s.old.handles.held) }
+{
     s.may_make()?;
     let thread = match get_thread_handle(s, 0, native) {
         Ok(thread) => thread,
@@ -100,26 +146,20 @@ fn push_thread<F: ToHost>(
     };
     write!(text, "thread {native} ")?;
     push_state(s, thread, text)?;
-    s.may_make()?;
-    match get_curr_task_handle(s, thread) {
-        Ok(task) => {
-            push_current(alloc, s, task, text)?;
-            rel_task_handle(s, task)?;
-        }
-        Err(Rc::Unavailable) => text.push_str(" no task\n")?,
-        Err(rc) => return Err(rc.into()),
-    }
+    push_task(alloc, s, thread, text)?;
     rel_thread_handle(s, thread)?;
     Ok(())
 }
 
-/// Adds the lines of all threads that the core names.
-fn push_lines<F: ToHost>(
+/// Adds the lines of all threads that the core names. Each handle that it makes is given back.
+fn push_lines<C: Callbacks, H: ToHost>(
     alloc: Global,
-    s: &mut Target<F>,
+    s: &mut Session<C, H>,
     threads: &Natives,
     text: &mut String,
-) -> Result<(), Failure> {
+) -> Result<(), Failure>
+    ensures { OnOk result (s.new.handles.held ≡ s.old.handles.held) }
+{
     for at in 0..threads.len() {
         push_thread(alloc, s, *threads.get(at), text)?;
     }
@@ -135,7 +175,11 @@ pub struct Lines {
 }
 
 impl Tool for Lines {
-    fn look<F: ToHost>(&mut self, session: &mut Session<CoreCalls, F>, threads: &Natives) {
+    fn look<C: Callbacks + Drop, H: ToHost>(
+        &mut self,
+        session: &mut Session<C, H>,
+        threads: &Natives,
+    ) {
         self.end = push_lines(self.alloc, session, threads, &mut self.text);
     }
 }

@@ -1,6 +1,6 @@
 use Rattle.std.proofs.Common.{◌∙◌}
 use Rattle.omi_layout.specs.Valid.{IsValid}
-use Rattle.omi_top.proofs.Opening.{tells_core}
+use Rattle.omi.proofs.NoTargets.{tells_core}
 use Rattle.omi_top.proofs.Auditing.{audit_judged_by, unopened_judged}
 use Rattle.omi_top.specs.Cores.{words_of_core}
 use Rattle.omi_top.proofs.audit.VerdictWantedQuestion.ask.Goals as goal
