@@ -300,11 +300,6 @@ asked_new w kind address met other new =
     go false true false is new = refl
     go false false c is new = refl
 
--- of one that is
-pub asked_known : (w : List ℕ) (kind address : ℕ) (met : List ℕ) → (kind == threads || list_any (λ one. address == one) met) ≡ true
-    → asked_of_record w met kind address ≡ []
-asked_known w kind address met known = ap (λ b. cond b [] (life_word w kind address)) known
-
 -- at one place
 module _ (w : List ℕ) (words : Words) (i : ℕ) (met : List ℕ) (p : Place) where
   pub place_unmapped : word_at w words p ≡ None → asked_among w words i met (p ∷ []) ≡ place_of w p.address p.field p.at ∷ []

@@ -303,10 +303,36 @@ module _ (w : List ℕ) (words : Words) (valid : IsValid w) (clear : IsClear w w
   along_none next zero = refl
   along_none next (suc d) = along_none next d
 
+  -- a step of a chain of names goes as the one of its records, or both end
+  abbrev Steps : (A : Type 0) → (A → Option A) → (ℕ → Option A) → (ℕ → Type 0) → ℕ → Type 0
+  Steps A next goes IsOn a =
+      (goes a ≡ None)
+      ⊎ ((v : ℕ) × (n : A) × (next_in_chain w words a ≡ Some v) × (goes a ≡ Some n) × (next n ≡ goes v) × IsOn v)
+
+  -- so it does where the field of a record names a live one, or none
+  step_by : (A : Type 0) (make : Id → A) (next : A → Option A) (goes : ℕ → Option A) (IsOn : ℕ → Type 0)
+      (kind : ℕ) (b : Bool) (a v : ℕ) → is_region w words a ≡ b → leads_to (cond b RegionEnclosing TaskScheduling) 0 ≡ Some kind
+      → (kind == threads) ≡ false → word_at w words (place_at a (cond b RegionEnclosing TaskScheduling) 0) ≡ Some v
+      → goes a ≡ option_map make (live_at w words kind v)
+      → ((n : Id) → live_at w words kind v ≡ Some n → (next (make n) ≡ goes v) × IsOn v)
+      → Steps A next goes IsOn a
+  step_by A make next goes IsOn kind b a v region leads other word is more = go (live_at w words kind v) refl
+    where
+      go : (o : Option Id) → live_at w words kind v ≡ o → Steps A next goes IsOn a
+      go None e = inl (is ∙ ap (option_map make) e)
+      go (Some n) e =
+          inr (
+            v,
+            make n,
+            next_is a kind v b region leads other word (is_some_of (live_at w words kind v) n e),
+            is ∙ ap (option_map make) e,
+            (more n e).0,
+            (more n e).1,
+          )
+
   -- a chain of names ends where one of records does
   module _ {A : Type 0} (next : A → Option A) (goes : ℕ → Option A) (IsOn : ℕ → Type 0)
-      (step : (a : ℕ) → IsOn a → (goes a ≡ None)
-      ⊎ ((v : ℕ) × (n : A) × (next_in_chain w words a ≡ Some v) × (goes a ≡ Some n) × (next n ≡ goes v) × IsOn v)) where
+      (step : (a : ℕ) → IsOn a → Steps A next goes IsOn a) where
     along_ends : (d a : ℕ) → IsOn a → EndsIn w words d a → along next d (goes a) ≡ None
     along_ends zero a is ends = elim (step a is) [
       | inl none ↦ none
@@ -328,48 +354,26 @@ module _ (w : List ℕ) (words : Words) (valid : IsValid w) (clear : IsClear w w
   abbrev IsRegion : ℕ → Type 0
   IsRegion a = (has (reached w words) a ≡ true) × (is_region w words a ≡ true)
 
-  region_step : (a : ℕ) → IsRegion a → ((region_in w words a).enclosing ≡ None)
-      ⊎ ((v : ℕ) × (n : Rid) × (next_in_chain w words a ≡ Some v) × ((region_in w words a).enclosing ≡ Some n) × (enclosing_of s n ≡ (region_in w words v).enclosing) × IsRegion v)
-  region_step a is = go (live_at w words regions (word_in w words a RegionEnclosing 0)) refl
-    where
-      go : (o : Option Id) → live_at w words regions (word_in w words a RegionEnclosing 0) ≡ o → ((region_in w words a).enclosing ≡ None)
-          ⊎ ((v : ℕ) × (n : Rid) × (next_in_chain w words a ≡ Some v) × ((region_in w words a).enclosing ≡ Some n) × (enclosing_of s n ≡ (region_in w words v).enclosing) × IsRegion v)
-      go None e = inl (ap (option_map (λ (n : Id). record { 0 = n })) e)
-      go (Some n) e =
-          let v = word_in w words a RegionEnclosing 0 in
-          let live = is_some_of (live_at w words regions v) n e in
-          let among = region_names a is.0 is.1 1 regions RegionEnclosing 0 refl refl refl live in
-          inr (
-            v,
-            record { 0 = n },
-            next_is a regions v true is.1 refl refl (region_passes a is.0 is.1 1 (place_at a RegionEnclosing 0) refl).mapped live,
-            ap (option_map (λ (m : Id). record { 0 = m })) e,
-            ap (option_and_then (λ r. r.enclosing)) (region_here v n among e),
-            (among, is_of_region v n e),
-          )
+  region_step : (a : ℕ) → IsRegion a
+      → Steps Rid (enclosing_of s) (λ b. (region_in w words b).enclosing) IsRegion a
+  region_step a is =
+      let v = word_in w words a RegionEnclosing 0 in
+      step_by Rid (λ n. record { 0 = n }) (enclosing_of s) (λ b. (region_in w words b).enclosing) IsRegion regions true a v
+      is.1 refl refl (region_passes a is.0 is.1 1 (place_at a RegionEnclosing 0) refl).mapped refl (λ n e.
+      let among = region_names a is.0 is.1 1 regions RegionEnclosing 0 refl refl refl (is_some_of (live_at w words regions v) n e) in
+      (ap (option_and_then (λ r. r.enclosing)) (region_here v n among e), (among, is_of_region v n e)))
 
   abbrev IsTask : ℕ → Type 0
   IsTask a = (has (reached w words) a ≡ true) × (is_region w words a ≡ false)
 
-  task_step : (a : ℕ) → IsTask a → ((task_in w words a).scheduling ≡ None)
-      ⊎ ((v : ℕ) × (n : Tid) × (next_in_chain w words a ≡ Some v) × ((task_in w words a).scheduling ≡ Some n) × (scheduling_of s n ≡ (task_in w words v).scheduling) × IsTask v)
-  task_step a is = go (live_at w words tasks (word_in w words a TaskScheduling 0)) refl
-    where
-      go : (o : Option Id) → live_at w words tasks (word_in w words a TaskScheduling 0) ≡ o → ((task_in w words a).scheduling ≡ None)
-          ⊎ ((v : ℕ) × (n : Tid) × (next_in_chain w words a ≡ Some v) × ((task_in w words a).scheduling ≡ Some n) × (scheduling_of s n ≡ (task_in w words v).scheduling) × IsTask v)
-      go None e = inl (ap (option_map (λ (n : Id). record { 0 = n })) e)
-      go (Some n) e =
-          let v = word_in w words a TaskScheduling 0 in
-          let live = is_some_of (live_at w words tasks v) n e in
-          let among = task_names a is.0 is.1 5 tasks TaskScheduling refl refl refl live in
-          inr (
-            v,
-            record { 0 = n },
-            next_is a tasks v false is.1 refl refl (task_passes a is.0 is.1 5 (place_at a TaskScheduling 0) refl).mapped live,
-            ap (option_map (λ (m : Id). record { 0 = m })) e,
-            ap (option_and_then (λ t. t.scheduling)) (task_here v n among e),
-            (among, is_of_task v n e),
-          )
+  task_step : (a : ℕ) → IsTask a
+      → Steps Tid (scheduling_of s) (λ b. (task_in w words b).scheduling) IsTask a
+  task_step a is =
+      let v = word_in w words a TaskScheduling 0 in
+      step_by Tid (λ n. record { 0 = n }) (scheduling_of s) (λ b. (task_in w words b).scheduling) IsTask tasks false a v
+      is.1 refl refl (task_passes a is.0 is.1 5 (place_at a TaskScheduling 0) refl).mapped refl (λ n e.
+      let among = task_names a is.0 is.1 5 tasks TaskScheduling refl refl refl (is_some_of (live_at w words tasks v) n e) in
+      (ap (option_and_then (λ t. t.scheduling)) (task_here v n among e), (among, is_of_task v n e)))
 
   -- ---- objects
 

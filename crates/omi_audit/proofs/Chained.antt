@@ -111,10 +111,6 @@ module _ (w : List ℕ) (words : Words) where
   chain_led true v = refl
   chain_led false v = refl
 
-  chain_may : (b : Bool) → may_be_none (cond b RegionEnclosing TaskScheduling) ≡ true
-  chain_may true = refl
-  chain_may false = refl
-
   chain_other : (b : Bool) → (cond b regions tasks == threads) ≡ false
   chain_other true = refl
   chain_other false = refl

@@ -142,13 +142,6 @@ grows_none s = record {
 }
 
 module _ (w : List ℕ) (words : Words) where
-  pub grows_met : {a b : Search} {xs : List ℕ} → Meets w words xs a b → Grows xs [] [] a b
-  grows_met {a} {b} {xs} meets = record {
-    met = meets.met;
-    links = meets.links ∙ sym (append-nil a.links.items);
-    begun = meets.begun ∙ sym (append-nil a.begun.items);
-  }
-
   -- what is known stays known
   pub still_knows_grown : (a b : Search) (named following : List ℕ) (started : List Bool)
       → ((x : ℕ) → has named x ≡ true → lives w words x ≡ true) → Knows w words a → Grows named following started a b

@@ -1,5 +1,5 @@
 -- Rows that are added one part after the other.
-use Rattle.std.proofs.Common.{◌≡◌, ℕ, List, [], ◌∷◌, ◌++◌, refl, sym, ap, subst, ◌∙◌, append_assoc, append-nil}
+use Rattle.std.proofs.Common.{◌≡◌, ℕ, List, [], ◌∷◌, ◌++◌, refl, sym, ap, subst, ◌∙◌, append_assoc}
 use Rattle.std.specs.Prelude.{Result, Ok, Err}
 use Rattle.omi_word.specs.Words.{Words}
 use Rattle.omi_calls.specs.Told.{Told}
@@ -51,27 +51,6 @@ module _ {A B C F : Type 0} (told : C → Told) (look : List ℕ → Words → A
   unfolding Looks
   looks_as s r a b same gives =
       λ memory tells. same_gives r (a s.layout memory) (b s.layout memory) (same memory) (gives memory tells)
-
-  -- no row is added for no element
-  pub added_none : (s : Opened C F) (rows : List B) → Added told s rows rows (at_each look [])
-  added_none s rows = record { rows = []; is = sym (append-nil rows); gives = look_is told s [] }
-
-  -- and rows that are added by one look are added by the other
-  pub added_as : (s : Opened C F) (old new : List B) (a b : List ℕ → Words → Look (List B))
-      → ((memory : Words) → a s.layout memory ≡ b s.layout memory) → Added told s old new a
-      → Added told s old new b
-  added_as s old new a b same added = record { rows = added.rows; is = added.is; gives = looks_as s (Ok added.rows) a b same added.gives }
-
-  -- the row of one element is added
-  pub added_one : (s : Opened C F) (rows : List B) (x : A) (y : B)
-      → Looks told s (Ok y) (λ w memory. look w memory x)
-      → Added told s rows (rows ++ y ∷ []) (at_each look (x ∷ []))
-  unfolding and_then
-  added_one s rows x y first = record {
-    rows = y ∷ [];
-    is = refl;
-    gives = look_then told s s y (Ok (y ∷ [])) (λ w memory. look w memory x) (λ w memory y. mapped (λ ys. y ∷ ys) (Ok [])) first (here s) (look_is told s (y ∷ []));
-  }
 
   -- or the look at it is refused
   pub one_stops : (s : Opened C F) (x : A) (f : WalkFault)

@@ -1,5 +1,5 @@
 -- The look at the regions of a thread in parts: its current task, the region of this task, and those which enclose it.
-use Rattle.std.proofs.Common.{◌≡◌, ℕ, List, [], Option, Some, None, refl, sym, ap, subst, ◌∙◌}
+use Rattle.std.proofs.Common.{◌≡◌, ℕ, List, [], Option, Some, refl, sym, ap, subst, ◌∙◌}
 use Rattle.std.specs.Prelude.{Result, Ok, Err}
 use Rattle.omi_word.specs.Words.{Words}
 use Rattle.omi_calls.specs.Told.{Told}
@@ -38,12 +38,6 @@ module _ (w : List ℕ) (memory : Words) where
       go (Err fault) = refl
 
 module _ {C F : Type 0} (told : C → Told) (s : Opened C F) (thread : ℕ) where
-  -- a thread without a current task has no region
-  pub no_regions : Looks told s (Ok None) (λ w memory. look_current w memory thread)
-      → Looks {A = List Id} told s (Ok []) (λ w memory. look_regions w memory thread)
-  unfolding Looks and_then regions_by
-  no_regions current = λ memory tells. ap (regions_by s.layout memory) (current memory tells)
-
   -- those of a thread with one are the region of this task, and those which enclose it
   pub regions_from : (k : Id) (r : Result (List Id) WalkFault)
       → Looks told s (Ok (Some k)) (λ w memory. look_current w memory thread)

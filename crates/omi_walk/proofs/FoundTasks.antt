@@ -1,7 +1,7 @@
 -- The chains of the threads that were found, one after the other.
-use Rattle.std.proofs.Common.{◌≡◌, ◌≤◌, ℕ, ◌+◌, List, [], ◌∷◌, Option, Some, None, length, map, drop, refl, ap, subst, ◌∙◌}
+use Rattle.std.proofs.Common.{◌≡◌, ◌≤◌, ℕ, List, [], Option, Some, None, length, map, drop, ap, subst}
 use Rattle.std.specs.Prelude.{IfSome, All, slice_get}
-use Rattle.std.proofs.lemmas.List.{drop_more, drop_all}
+use Rattle.std.proofs.lemmas.List.{drop_all}
 use Rattle.std.proofs.lemmas.List.Elements.{All-get_or}
 use Rattle.std.proofs.lemmas.Option.{slice_get_within, get_or_from_slice_get}
 use Rattle.omi_calls.specs.Told.{Told}
@@ -13,21 +13,11 @@ use Rattle.omi_walk.specs.FoundThreads.{IsFound}
 use Rattle.omi_walk.specs.Objects.{IsMet}
 use Rattle.omi_walk.proofs.Steps.{met_after}
 
--- the threads that are left begin with the next
-pub next_thread : (found : List Found) (at : ℕ) (f : Found) → slice_get found at ≡ Some f
-    → map (λ f. f.thread) (drop at found) ≡ f.thread ∷ map (λ f. f.thread) (drop (at + 1) found)
-next_thread found at f here =
-    ap (map (λ f. f.thread))
-    (drop_more found at f (slice_get_within found at f here) ∙ ap (λ g. g ∷ drop (at + 1) found) (get_or_from_slice_get found at f f here))
-
 -- and past the last there is none
 pub no_thread : (found : List Found) (at : ℕ) → length found ≤ at → map (λ f. f.thread) (drop at found) ≡ []
 no_thread found at over = ap (map (λ f. f.thread)) (drop_all at found over)
 
 module _ {C F : Type 0} (told : C → Told) (s : Opened C F) where
-  stays_here : Stays told s s
-  stays_here = record { table = record { same = refl; order = refl; to_host = refl }; layout = refl }
-
   -- each of them was found
   pub found_at : (found : List Found) (at : ℕ) (f : Found) → slice_get found at ≡ Some f
       → All (IsFound told s) found → IsFound told s f

@@ -1,11 +1,11 @@
 -- Handles of tasks that are made one after the other.
-use Rattle.std.proofs.Common.{◌≡◌, ◌≢◌, ◌≤◌, inl, inr, ℕ, zero, suc, ◌+◌, cond, List, [], ◌∷◌, ◌++◌, map, length, Option, Some, None, refl, sym, ap, subst, ◌∙◌, arith}
+use Rattle.std.proofs.Common.{◌≡◌, ◌≢◌, inl, inr, ℕ, zero, suc, ◌+◌, cond, List, [], ◌∷◌, ◌++◌, map, length, Option, Some, None, refl, sym, ap, subst, ◌∙◌, arith}
 use Rattle.std.specs.Prelude.{All}
 use Rattle.std.specs.FinMap.{get, get-insert}
 use Rattle.std.specs.List.{range_with_len}
 use Rattle.std.specs.Ordering.{eq_by_cmp}
 use Rattle.std.proofs.lemmas.List.{map-append, length_push, take_at}
-use Rattle.std.proofs.lemmas.List.Elements.{All-nil, All-push, All-weaker, All-take, All-contains, Contains-push}
+use Rattle.std.proofs.lemmas.List.Elements.{All-push, All-weaker, All-take, All-contains, Contains-push}
 use Rattle.omi_handle.specs.declared.handle.Held.{Held}
 use Rattle.omi_handle.specs.declared.handle.TaskHandle.{TaskHandle}
 use Rattle.omi_handle.specs.Ledger.{Ledger, pair_cmp}
@@ -41,17 +41,6 @@ pub record AreMade (w : List ℕ) (old new : Ledger) (kept : List (Tid × TaskHa
   pub others : (pair : ℕ × ℕ) → All (λ k. task_pair k.1 ≢ pair) kept
       → get new.held pair ≡ get old.held pair
   pub still : (pair : ℕ × ℕ) (h : Held) → get old.held pair ≡ Some h → get new.held pair ≡ Some h
-
-pub made_none : (w : List ℕ) (old new : Ledger) → new.held ≡ old.held → new.made ≡ old.made
-    → AreMade w old new []
-made_none w old new held made = record {
-  count = omega (arith, made);
-  serials = refl;
-  each = All-nil _;
-  fresh = All-nil _;
-  others = λ pair none. ap (λ map. get map pair) held;
-  still = λ pair h is. ap (λ map. get map pair) held ∙ is;
-}
 
 module _ (w : List ℕ) (old mid new : Ledger) (kept : List (Tid × TaskHandle)) (k : Tid × TaskHandle)
     (so : AreMade w old mid kept) (adds : AddsHandle mid new (task_pair k.1) (task_object w k.0)) where
@@ -111,21 +100,3 @@ keeps_made w old new kept so = record {
   fresh = so.fresh;
   others = so.others;
 }
-
--- also beside an earlier table of handles, in which the same are held
-pub keeps_before : (w : List ℕ) (before old new : Ledger) (kept : List (Tid × TaskHandle))
-    → old.held ≡ before.held → before.made ≤ old.made → Keeps w old new kept
-    → Keeps w before new kept
-keeps_before w before old new kept held later so =
-    let same : (pair : ℕ × ℕ) → get old.held pair ≡ get before.held pair = λ pair. ap (λ map. get map pair) held in
-    record {
-      first = so.first;
-      later = omega (arith, later, so.later);
-      apart = so.apart;
-      each = so.each;
-      fresh =
-          All-weaker (λ (k : Task). get old.held (task_pair k.1) ≡ None)
-          (λ (k : Task). get before.held (task_pair k.1) ≡ None)
-          (λ (k : Task) is. sym (same (task_pair k.1)) ∙ is) kept so.fresh;
-      others = λ pair apart. so.others pair apart ∙ same pair;
-    }

@@ -4,22 +4,13 @@ use Rattle.std.specs.FinMap.{remove}
 use Rattle.omi_calls.specs.Kept.{Kept}
 use Rattle.omi_calls.specs.Told.{Told}
 use Rattle.omi_handle.specs.declared.handle.Held.{Held}
-use Rattle.omi_handle.specs.declared.handle.Kind.{Kind}
 use Rattle.omi_session.specs.Made.{AddsHandle}
 use Rattle.omi_session.specs.Opened.{Opened, Stays}
-use Rattle.omi_walk.specs.declared.met.Met.{Met}
 use Rattle.omi_walk.specs.Leaves.{Leaves}
-use Rattle.omi_walk.specs.Objects.{IsMet, Stands}
 use Rattle.omi_walk.proofs.Names.{restored}
-use Rattle.omi_walk.proofs.Steps.{met_after, stays_then}
+use Rattle.omi_walk.proofs.Steps.{stays_then}
 
-module _ {C F : Type 0} (told : C → Told) (s given : Opened C F) (kind : Kind) (m : Met) (pair : ℕ × ℕ)
-    (adds : AddsHandle s.handles given.handles pair m.held) (stays : Stays told s given) where
-  -- the handle stands for the object
-  pub lent_stands : IsMet told s kind m → Stands told given kind pair m.name
-  lent_stands met = record { object = m.held; is = adds.found; met = met_after told s given kind m stays met }
-
--- and once it is let go, all handles are as they were
+-- once it is let go, all handles are as they were
 pub lent_leaves : {C F : Type 0} {told : C → Told} {s given asked new : Opened C F} {h : Held} {pair : ℕ × ℕ} (n most : ℕ) → n + 1 ≤ most
     → AddsHandle s.handles given.handles pair h → Stays told s given → Leaves told n given asked
     → new.handles.held ≡ remove asked.handles.held pair

@@ -1,5 +1,5 @@
 -- What an inquiry on a handle answers is a plain look at the record of the handle's object.
-use Rattle.std.proofs.Common.{◌≡◌, ◌≢◌, ◌==◌, arith, ℕ, Bool, true, false, cond, List, Option, Some, None, refl, sym, ap, subst, ◌∙◌, eq-eqb}
+use Rattle.std.proofs.Common.{◌≡◌, ◌==◌, arith, ℕ, Bool, true, false, cond, List, Option, Some, None, refl, sym, ap, subst, ◌∙◌, eq-eqb}
 use Rattle.std.specs.Prelude.{Result, Ok, Err, is_some}
 use Rattle.std.specs.Option.{option_and_then, ok_or}
 use Rattle.std.specs.FinMap.{get, remove}
@@ -12,14 +12,13 @@ use Rattle.omi_handle.specs.Ledger.{Ledger}
 use Rattle.omi_model.specs.declared.id.Id.{Id}
 use Rattle.omi_layout.specs.declared.field.Field.{Field}
 use Rattle.omi_layout.specs.Named.{number}
-use Rattle.omi_rep.specs.declared.fault.LookFault.{LookFault}
 use Rattle.omi_rep.specs.declared.fault.LookFault.TheVariants as look
 use Rattle.omi_rep.specs.Look.{Look, id_address, look_word, look_object, look_optional, slot_at, life_of, is_live}
 use Rattle.omi_session.specs.declared.rc.Rc.{Rc}
-use Rattle.omi_session.specs.declared.rc.Rc.TheVariants.{Unavailable, BadInput, Error, NoMem, CallbackError}
+use Rattle.omi_session.specs.declared.rc.Rc.TheVariants.{Unavailable, BadInput, Error}
 use Rattle.omi_session.specs.Handles.{name_of}
 use Rattle.omi_session.specs.Inquiry.{object, object_of, live_handle, unchanged, place_of, word_of, lead, follow, follow_some}
-use Rattle.omi_session.specs.Looked.{IsLook, IsOf, IsOptional, IsFault}
+use Rattle.omi_session.specs.Looked.{IsLook, IsOf, IsOptional}
 use Rattle.omi_session.specs.Made.{IsMade, IsMadeOf, Makes}
 use Rattle.omi_session.specs.Named.{record_kind, IsNamed}
 use Rattle.omi_session.specs.Opened.{Opened, Stays}
@@ -30,10 +29,8 @@ use Rattle.omi_session.proofs.Asked.{answer_then}
 use Rattle.omi_session.proofs.ShownParts.{then_answered, unchanged_told}
 use Rattle.omi_session.proofs.Told.{still_tells}
 use Rattle.omi_walk.specs.declared.met.Met.{Met}
-use Rattle.omi_walk.specs.Fault.{fault_of, walked, absent}
 use Rattle.omi_walk.specs.Leaves.{Leaves}
-use Rattle.omi_walk.specs.Gives.{Gives}
-use Rattle.omi_walk.specs.Objects.{IsMet, Stands, names_met}
+use Rattle.omi_walk.specs.Objects.{IsMet, Stands}
 use Rattle.omi_walk.proofs.Names.{named_address, restored}
 
 -- ---- answers and looks
@@ -82,38 +79,6 @@ module _ (w : List ℕ) (memory : Words) where
       (optional_is_looked w memory target there f)
 
 -- ---- faults
-
--- a refusal that is a look's fault is that fault to a walk
-pub fault_gives : (A : Type 0) (found : Option Held) (rc : Rc) (fault : LookFault) → IsFault rc fault
-    → Gives {A = A} (Err (fault_of found rc)) (Err fault)
-fault_gives A found rc (look.Cycle addr) is = absurd is
-fault_gives A found rc (look.Damaged addr field) is =
-    subst (λ c. Gives {A = A} (Err (fault_of found c)) (Err (look.Damaged addr field))) (sym is) refl
-
--- the answer of an inquiry for a value
-pub value_gives : {A : Type 0} (found : Option Held) (result answer : Result A Rc) (l : Look A)
-    → (result ≢ Err CallbackError → result ≡ answer)
-    → IsLook {A = A} {B = A} (λ x y. x ≡ y) answer l → Gives (walked found result) l
-value_gives {A} found result answer l is looked = go result answer l is looked
-  where
-    ok : (x : A) (answer : Result A Rc) (l : Look A) → Ok x ≡ answer
-        → IsLook {A = A} {B = A} (λ x y. x ≡ y) answer l → l ≡ Ok x
-    ok x (Ok y) (Ok z) is same = let first : x ≡ y = cc in ap Ok (sym (first ∙ same))
-    ok x (Ok y) (Err fault) is same = absurd same
-    ok x (Err rc) l is same = absurd (cc)
-
-    err : (rc : Rc) (answer : Result A Rc) (l : Look A) → Err rc ≡ answer
-        → IsLook {A = A} {B = A} (λ x y. x ≡ y) answer l → Gives (Err (fault_of found rc)) l
-    err rc (Ok y) l is same = absurd (cc)
-    err rc (Err why) (Ok z) is same = absurd same
-    err rc (Err why) (Err fault) is same =
-        let one : rc ≡ why = cc in fault_gives A found rc fault (subst (λ c. IsFault c fault) (sym one) same)
-
-    go : (result answer : Result A Rc) (l : Look A) → (result ≢ Err CallbackError → result ≡ answer)
-        → IsLook {A = A} {B = A} (λ x y. x ≡ y) answer l → Gives (walked found result) l
-    go (Ok x) answer l is looked = ok x answer l (is (λ e. cc)) looked
-    go (Err CallbackError) answer l is looked = tt
-    go (Err rc) answer l is looked = err rc answer l (is (λ e. cc)) looked
 
 -- ---- handles
 
@@ -178,39 +143,6 @@ module _ {C F : Type 0} (told : C → Told) (s : Opened C F) (kind : Kind) (pair
 
 -- ---- what was found
 
--- a handle was made of the object that is found, whose name is this one
-pub found_gives : (w : List ℕ) (new : Ledger) (pair : ℕ × ℕ) (h : Held) (n : Id) (answer : Result Held Rc) (l : Look Id)
-    → get new.held pair ≡ Some h → name_of w h ≡ Some n
-    → IsMade new (Ok pair) answer → IsLook (IsOf w) answer l → l ≡ Ok n
-found_gives w new pair h n answer l held named made looked =
-    let same : made.object ≡ h = (let both : Some made.object ≡ Some h = sym made.found ∙ held in cc) in
-    go answer l (made.answers ∙ ap Ok same) looked
-  where
-    go : (answer : Result Held Rc) (l : Look Id) → answer ≡ Ok h → IsLook (IsOf w) answer l → l ≡ Ok n
-    go (Ok o) (Ok m) is same =
-        let object : o ≡ h = cc in
-        let both : Some m ≡ Some n = sym same ∙ ap (name_of w) object ∙ named in
-        let one : m ≡ n = cc in ap Ok one
-    go (Ok o) (Err fault) is same = absurd same
-    go (Err rc) l is same = absurd (cc)
-
-pub found_some : (w : List ℕ) (new : Ledger) (pair : ℕ × ℕ) (h : Held) (n : Id) (answer : Result Held Rc) (l : Look (Option Id))
-    → get new.held pair ≡ Some h → name_of w h ≡ Some n
-    → IsMade new (Ok pair) answer → IsOptional w answer l → l ≡ Ok (Some n)
-found_some w new pair h n answer l held named made looked =
-    let same : made.object ≡ h = (let both : Some made.object ≡ Some h = sym made.found ∙ held in cc) in
-    go answer l (made.answers ∙ ap Ok same) looked
-  where
-    go : (answer : Result Held Rc) (l : Look (Option Id)) → answer ≡ Ok h → IsOptional w answer l
-        → l ≡ Ok (Some n)
-    go (Ok o) (Ok (Some m)) is same =
-        let object : o ≡ h = cc in
-        let both : Some m ≡ Some n = sym same ∙ ap (name_of w) object ∙ named in
-        let one : m ≡ n = cc in ap (λ x. Ok (Some x)) one
-    go (Ok o) (Ok None) is same = absurd same
-    go (Ok o) (Err fault) is same = absurd same
-    go (Err rc) l is same = absurd (cc)
-
 -- there is no such object
 pub found_none : (w : List ℕ) (new : Ledger) (answer : Result Held Rc) (l : Look (Option Id))
     → IsMade new (Err Unavailable) answer → IsOptional w answer l → l ≡ Ok None
@@ -220,45 +152,6 @@ found_none w new (Err rc) (Ok None) made looked = refl
 found_none w new (Err rc) (Err (look.Damaged addr field)) made looked =
     let clash : Unavailable ≡ Error addr field = (let one : rc ≡ Unavailable = cc in sym one ∙ looked) in absurd (cc)
 found_none w new (Err rc) (Err (look.Cycle addr)) made looked = absurd looked
-
--- the inquiry was refused
-module _ (w : List ℕ) (new : Ledger) (found : Option Held) where
-  object_err : (rc : Rc) (answer : Result Held Rc) (l : Look Id) → answer ≡ Err rc → IsLook (IsOf w) answer l
-      → Gives {A = Id} (Err (fault_of found rc)) l
-  object_err rc (Ok o) l is same = absurd (cc)
-  object_err rc (Err why) (Ok z) is same = absurd same
-  object_err rc (Err why) (Err fault) is same =
-      let one : rc ≡ why = cc in fault_gives Id found rc fault (subst (λ c. IsFault c fault) (sym one) same)
-
-  optional_err : (rc : Rc) (answer : Result Held Rc) (l : Look (Option Id)) → rc ≢ Unavailable
-      → answer ≡ Err rc → IsOptional w answer l → Gives {A = Option Id} (Err (fault_of found rc)) l
-  optional_err rc (Ok o) l ne is same = absurd (cc)
-  optional_err rc (Err why) (Ok None) ne is same = absurd (ne (let one : rc ≡ why = cc in one ∙ same))
-  optional_err rc (Err why) (Ok (Some z)) ne is same = absurd same
-  optional_err rc (Err why) (Err fault) ne is same =
-      let one : rc ≡ why = cc in fault_gives (Option Id) found rc fault (subst (λ c. IsFault c fault) (sym one) same)
-
-  pub refused_object : (rc : Rc) (answer : Result Held Rc) (l : Look Id) → IsMade new (Err rc) answer
-      → IsLook (IsOf w) answer l → Gives {A = Id} (Err (fault_of found rc)) l
-  refused_object CallbackError answer l made looked = tt
-  refused_object NoMem answer l made looked = tt
-  refused_object rc answer l made looked = object_err rc answer l made looked
-
-  pub refused_optional : (rc : Rc) (answer : Result Held Rc) (l : Look (Option Id)) → rc ≢ Unavailable
-      → IsMade new (Err rc) answer → IsOptional w answer l
-      → Gives {A = Option Id} (Err (fault_of found rc)) l
-  refused_optional CallbackError answer l ne made looked = tt
-  refused_optional NoMem answer l ne made looked = tt
-  refused_optional rc answer l ne made looked = optional_err rc answer l ne made looked
-
-  -- there may be none
-  pub absent_gives : (rc : Rc) (answer : Result Held Rc) (l : Look (Option Id)) → IsMade new (Err rc) answer
-      → IsOptional w answer l
-      → Gives (names_met (absent found rc)) l
-  absent_gives Unavailable answer l made looked = found_none w new answer l made looked
-  absent_gives CallbackError answer l made looked = tt
-  absent_gives NoMem answer l made looked = tt
-  absent_gives rc answer l made looked = optional_err rc answer l (λ e. cc) made looked
 
 -- ---- objects that live
 

@@ -1,26 +1,26 @@
 -- What the inquiries for a member of a region answer are plain looks, where the region has this size.
 use Rattle.std.proofs.Common.{◌≡◌, ◌≢◌, ◌==◌, ◌&&◌, ◌<◌, ◌≤◌, leb-true, arith, ℕ, Bool, true, false, cond, nat_le, nat_lt, List, Option, Some, None, refl, sym, ap, subst, ◌∙◌}
 use Rattle.std.proofs.lemmas.Bool.Decides.{nat_tests}
-use Rattle.std.specs.Prelude.{Result, Ok, Err, IsOk, is_some}
+use Rattle.std.specs.Prelude.{Result, Ok, Err, is_some}
 use Rattle.std.specs.Option.{option_and_then, ok_or}
 use Rattle.std.specs.FinMap.{get}
 use Rattle.omi_word.specs.Words.{Words}
 use Rattle.omi_calls.specs.Told.{Told}
 use Rattle.omi_handle.specs.declared.handle.Kind.{Kind}
-use Rattle.omi_handle.specs.declared.handle.Kind.TheVariants.{Thread, Region, Task}
+use Rattle.omi_handle.specs.declared.handle.Kind.TheVariants.{Region, Task}
 use Rattle.omi_handle.specs.declared.handle.Held.{Held}
 use Rattle.omi_handle.specs.Ledger.{Ledger}
 use Rattle.omi_layout.specs.declared.field.Field.{Field}
-use Rattle.omi_layout.specs.declared.field.Field.TheVariants.{RegionSize, RegionTeam, TaskThread}
-use Rattle.omi_layout.specs.Field.{threads, regions, tasks}
+use Rattle.omi_layout.specs.declared.field.Field.TheVariants.{RegionSize, RegionTeam}
+use Rattle.omi_layout.specs.Field.{regions, tasks}
 use Rattle.omi_layout.specs.Named.{number}
 use Rattle.omi_layout.specs.Table.{thread_count}
 use Rattle.omi_model.specs.declared.id.Id.{Id}
-use Rattle.omi_rep.specs.declared.fault.LookFault.TheVariants.{Damaged, Cycle}
+use Rattle.omi_rep.specs.declared.fault.LookFault.TheVariants.{Damaged}
 use Rattle.omi_rep.specs.Look.{Look, id_address, and_then, look_word, look_object, slot_at, is_live, life_of}
 use Rattle.omi_rep.specs.LookView.{look_within}
 use Rattle.omi_session.specs.declared.rc.Rc.{Rc}
-use Rattle.omi_session.specs.declared.rc.Rc.TheVariants.{Unavailable, BadInput, Error, NoMem, CallbackError}
+use Rattle.omi_session.specs.declared.rc.Rc.TheVariants.{Unavailable, BadInput, Error}
 use Rattle.omi_session.specs.Handles.{name_of}
 use Rattle.omi_session.specs.Inquiry.{object, place_of, word_of, lead, follow, follow_some, team_size, member}
 use Rattle.omi_session.specs.Looked.{IsLook, IsOf}
@@ -31,15 +31,12 @@ use Rattle.omi_session.specs.Reads.{Answer, Read, answer_on, after, then_reads}
 use Rattle.omi_session.specs.Tells.{Tells}
 use Rattle.omi_session.proofs.Asked.{answer_then}
 use Rattle.omi_session.proofs.LookedLaws.{word_is_looked, object_is_looked}
-use Rattle.omi_session.proofs.ShownParts.{then_answered, then_refused}
-use Rattle.omi_ask.specs.Threads.{thread_of_member}
+use Rattle.omi_session.proofs.ShownParts.{then_answered}
 use Rattle.omi_walk.specs.Objects.{Stands}
-use Rattle.omi_walk.specs.declared.fault.WalkFault.{WalkFault}
-use Rattle.omi_walk.specs.Gives.{Gives, Looks}
+use Rattle.omi_walk.specs.Gives.{Looks}
 use Rattle.omi_walk.specs.Fault.{fault_of, member_fault}
-use Rattle.omi_walk.specs.Members.{HasSize, size_refused}
-use Rattle.omi_walk.proofs.Names.{named_address}
-use Rattle.omi_walk.proofs.Looked.{stands_at, after_object, last_part, refused_object}
+use Rattle.omi_walk.specs.Members.{HasSize}
+use Rattle.omi_walk.proofs.Looked.{stands_at, after_object, last_part}
 
 -- the object to which an address leads is of the kind that is asked for
 lead_kind : (w : List ℕ) (memory : Words) (kind : Kind) (f : Field) (pointer : ℕ) (o : Held)
@@ -157,12 +154,6 @@ module _ {C F : Type 0} (told : C → Told) (s : Opened C F) (n : Id) (size coun
   unfolding Looks
   has_count memory t = has memory t ∙ ap Ok (sym (count_is memory t))
 
-  pub for_size : {A : Type 0} (r : Result A WalkFault) (look : List ℕ → Words → ℕ → Look A)
-      → Looks told s r (λ w memory. look w memory count) → Looks told s r (λ w memory. look w memory size)
-  unfolding Looks
-  for_size r look there memory t =
-      subst (λ k. Gives r (look s.layout memory k)) (count_is memory t) (there memory t)
-
 -- what a look gives is what is answered
 pub looked_ok : {A : Type 0} (a : Result A Rc) (l : Look A) (x : A)
     → IsLook {A = A} {B = A} (λ x y. x ≡ y) a l → l ≡ Ok x → a ≡ Ok x
@@ -195,18 +186,6 @@ module _ {C F : Type 0} (told : C → Told) (s : Opened C F) (pair : ℕ × ℕ)
       ∙ ap
       (λ (c : Bool). answer_on memory (cond c (follow s.layout Task st.object.addr RegionTeam num) (Answer (Err BadInput)))) test
 
-  -- where there is none, both inquiries answer that the number is out of range
-  pub member_past : size ≤ num
-      → answer_on memory (member s.layout (get s.handles.held pair) num) ≡ Err BadInput
-  member_past past = member_by false (let no : nat_lt num size ≡ false = grind (arith, nat_tests) in no)
-
-  pub member_thread_past : size ≤ num
-      → answer_on memory (thread_of_member s.layout (get s.handles.held pair) num) ≡ Err BadInput
-  unfolding thread_of_member
-  member_thread_past past =
-      then_refused memory (member s.layout (get s.handles.held pair) num)
-      (λ task. follow s.layout Thread task.addr TaskThread 0) BadInput (member_past past)
-
 module _ {C F : Type 0} (told : C → Told) (s : Opened C F) (pair : ℕ × ℕ) (n : Id) (size num : ℕ)
     (st : Stands told s Region pair n) (has : HasSize told s n size) (low : num < size)
     (memory : Words) (t : Tells (told s.table.calls) memory) where
@@ -224,57 +203,12 @@ module _ {C F : Type 0} (told : C → Told) (s : Opened C F) (pair : ℕ × ℕ)
       (subst (λ a. IsLook (IsOf s.layout) (answer_on memory (follow s.layout Task st.object.addr RegionTeam num)) (look_object s.layout memory tasks a RegionTeam num)) (stands_at told s Region pair n st)
       (object_is_looked s.layout memory Task st.object.addr RegionTeam num))
 
-  -- and the thread the one to which this task's word points
-  pub member_thread_looked : (k : Id)
-      → look_object s.layout memory tasks (id_address s.layout regions n) RegionTeam num ≡ Ok k
-      → IsLook (IsOf s.layout) (answer_on memory (thread_of_member s.layout (get s.handles.held pair) num))
-      (look_object s.layout memory threads (id_address s.layout tasks k) TaskThread 0)
-  unfolding thread_of_member
-  member_thread_looked k is =
-      let found = named_ok s.layout _ _ k member_looked is in
-      let of_kind : found.0.kind ≡ Task =
-      follow_kind s.layout memory Task st.object.addr RegionTeam num found.0 (sym member_answers ∙ found.1) in
-      let there : found.0.addr ≡ id_address s.layout tasks k =
-      named_address s.layout found.0 k found.2 ∙ ap (λ kind. id_address s.layout (record_kind kind) k) of_kind in
-      subst
-      (λ (a : Result Held Rc). IsLook (IsOf s.layout) a (look_object s.layout memory threads (id_address s.layout tasks k) TaskThread 0))
-      (sym (then_answered memory (member s.layout (get s.handles.held pair) num) (λ task. follow s.layout Thread task.addr TaskThread 0) found.0 found.1))
-      (subst (λ a. IsLook (IsOf s.layout) (answer_on memory (follow s.layout Thread found.0.addr TaskThread 0)) (look_object s.layout memory threads a TaskThread 0)) there
-      (object_is_looked s.layout memory Thread found.0.addr TaskThread 0))
-
 -- ---- what is made of a refusal
 
 -- of another refusal than that a number is out of range
 other_fault : (found : Option Held) (rc : Rc) → rc ≢ BadInput → fault_of found rc ≡ member_fault found rc
 other_fault found BadInput ne = absurd (ne refl)
 other_fault found rc ne = refl
-
--- a look is never refused as an argument is
-not_looked : (w : List ℕ) (answer : Result Held Rc) (l : Look Id) → answer ≡ Err BadInput
-    → IsLook (IsOf w) answer l → ⊥
-not_looked w (Ok o) l is same = absurd (cc)
-not_looked w (Err rc) (Ok y) is same = same
-not_looked w (Err rc) (Err (Damaged addr field)) is same = absurd (cc)
-not_looked w (Err rc) (Err (Cycle addr)) is same = same
-
--- the inquiry for a member that there is was refused
-pub refused_member : (w : List ℕ) (new : Ledger) (found : Option Held) (rc : Rc) (answer : Result Held Rc) (l : Look Id)
-    → IsMade new (Err rc) answer → IsLook (IsOf w) answer l → Gives {A = Id} (Err (member_fault found rc)) l
-refused_member w new found BadInput answer l made looked = absurd (not_looked w answer l made looked)
-refused_member w new found rc answer l made looked =
-    subst (λ f. Gives {A = Id} (Err f) l) (other_fault found rc (λ e. cc))
-    (refused_object w new found rc answer l made looked)
-
--- the one for a member that there isn't is refused by the size
-pub past_member : (w : List ℕ) (new : Ledger) (found : Option Held) (region : Held) (n : Id) (rc : Rc) (answer : Result Held Rc)
-    → found ≡ Some region → region.addr ≡ id_address w regions n → answer ≡ Err BadInput → IsMade new (Err rc) answer
-    → Gives {A = Id} (Err (member_fault found rc)) (size_refused w n)
-past_member w new found region n BadInput answer there at is made =
-    rw there (ap (λ a. Err (Damaged a (number RegionSize))) (sym at))
-past_member w new found region n CallbackError answer there at is made = tt
-past_member w new found region n NoMem answer there at is made =
-    absurd (let some = subst (λ (a : Result Held Rc). IsOk a) is made in cc)
-past_member w new found region n rc answer there at is made = absurd (cc)
 
 -- and it makes no handle
 pub no_member : {A : Type 0} (new : Ledger) (pair : ℕ × ℕ) (answer : Result Held Rc) → answer ≡ Err BadInput

@@ -1,10 +1,9 @@
 -- The regions of an index, slot by slot and thread by thread, and those that were met in the slots.
-use Rattle.std.proofs.Common.{◌≡◌, ◌<◌, ◌≤◌, ◌+◌, ◌-◌, ◌*◌, ◌==◌, ◌&&◌, ℕ, suc, zero, Bool, true, false, cond, List, [], ◌∷◌, ◌++◌, map, find, Some, None, refl, sym, ap, ◌∙◌, arith, append-nil, zero-add, add-zero, eqb-true, eq-eqb}
+use Rattle.std.proofs.Common.{◌≡◌, ◌<◌, ◌≤◌, ◌+◌, ◌-◌, ◌*◌, ◌==◌, ◌&&◌, ℕ, suc, zero, Bool, true, false, cond, List, [], ◌∷◌, ◌++◌, map, find, Some, None, refl, sym, ap, ◌∙◌, arith, zero-add, add-zero, eqb-true, eq-eqb}
 use Rattle.std.specs.BTreeMap.{BTreeMap, get}
 use Rattle.std.specs.List.{All, flat_map, filter_map, cons_option, range_with_len}
 use Rattle.std.specs.Ordering.{nat_cmp}
 use Rattle.std.proofs.lemmas.List.Elements.{filter_map-append, All-head, All-tail}
-use Rattle.std.proofs.lemmas.Grind.{flat_map-append}
 use Rattle.omi_word.specs.Words.{Words}
 use Rattle.omi_layout.specs.Field.{regions}
 use Rattle.omi_layout.specs.Table.{per_thread, makers}
@@ -27,26 +26,6 @@ range_over a (suc n) k =
     ∙ ap (λ xs. a ∷ xs)
     (range_over (a + 1) n k ∙ ap (λ b. range_with_len (a + 1) n ++ range_with_len b k) next)
 
--- a part for each number: those below one, that of this one, and those behind it
-module _ {A : Type 0} (part : ℕ → List A) where
-  pub parts_more : (n : ℕ)
-      → flat_map part (range_with_len 0 (n + 1)) ≡ flat_map part (range_with_len 0 n) ++ part n
-  parts_more n =
-      ap (flat_map part) (range_over 0 n 1)
-      ∙ flat_map-append part (range_with_len 0 n) (range_with_len (0 + n) 1)
-      ∙ ap (λ xs. flat_map part (range_with_len 0 n) ++ xs) (append-nil (part (0 + n)) ∙ ap part (zero-add n))
-
-  pub parts_behind : (n m : ℕ) → n < m
-      → flat_map part (range_with_len 0 m) ≡ flat_map part (range_with_len 0 n) ++ (part n ++ flat_map part (range_with_len (n + 1) (m - (n + 1))))
-  parts_behind n m below =
-      let all : m ≡ n + suc (m - (n + 1)) = omega (arith, below) in
-      ap (λ k. flat_map part (range_with_len 0 k)) all
-      ∙ ap (flat_map part) (range_over 0 n (suc (m - (n + 1))))
-      ∙ flat_map-append part (range_with_len 0 n) (range_with_len (0 + n) (suc (m - (n + 1))))
-      ∙ ap
-      (λ k. flat_map part (range_with_len 0 n) ++ (part k ++ flat_map part (range_with_len (k + 1) (m - (n + 1)))))
-      (zero-add n)
-
 -- ---- the regions of an index
 
 module _ (index : BTreeMap ℕ Met) where
@@ -57,28 +36,6 @@ module _ (index : BTreeMap ℕ Met) where
   pub none_in : (creator slot : ℕ) → get nat_cmp index (slot_key creator slot) ≡ None
       → in_one creator slot ≡ []
   none_in creator slot none = ap (λ o. cons_option (name_in o) []) none
-
-  pub one_in : (creator slot : ℕ) (m : Met) → get nat_cmp index (slot_key creator slot) ≡ Some m
-      → in_one creator slot ≡ m.name ∷ []
-  one_in creator slot m some = ap (λ o. cons_option (name_in o) []) some
-
-  own_by_slots : (creator : ℕ) (slots : List ℕ)
-      → filter_map (in_slot index) (map (λ slot. (creator, slot)) slots) ≡ flat_map (in_one creator) slots
-  own_by_slots creator [] = refl
-  own_by_slots creator (x ∷ slots) =
-      filter_map-append (in_slot index) ((creator, x) ∷ []) (map (λ slot. (creator, slot)) slots)
-      ∙ ap (λ xs. in_one creator x ++ xs) (own_by_slots creator slots)
-
-  pub own_by_slot : (w : List ℕ) (creator : ℕ)
-      → in_own_slots index w creator ≡ flat_map (in_one creator) (range_with_len 0 (per_thread w regions))
-  own_by_slot w creator = own_by_slots creator (range_with_len 0 (per_thread w regions))
-
-  pub all_by_thread : (w : List ℕ) (creators : List ℕ)
-      → filter_map (in_slot index) (flat_map (own_slots w) creators) ≡ flat_map (in_own_slots index w) creators
-  all_by_thread w [] = refl
-  all_by_thread w (x ∷ creators) =
-      filter_map-append (in_slot index) (own_slots w x) (flat_map (own_slots w) creators)
-      ∙ ap (λ xs. in_own_slots index w x ++ xs) (all_by_thread w creators)
 
 -- ---- what was met in a slot
 

@@ -2,8 +2,7 @@
 use Rattle.std.proofs.Common.{append_assoc, append-nil, ◌≡◌, ◌≤◌, ◌<◌, ◌+◌, ◌-◌, ℕ, suc, List, [], ◌∷◌, ◌++◌, refl, sym, ap, subst, ◌∙◌, arith}
 use Rattle.std.specs.FinMap.{get}
 use Rattle.std.specs.List.{range_with_len}
-use Rattle.std.specs.Prelude.{Result, Ok, Err, IsErrAnd}
-use Rattle.std.proofs.lemmas.Result.{err_from_is_err_and}
+use Rattle.std.specs.Prelude.{Result, Ok, Err}
 use Rattle.omi_word.specs.Words.{Words}
 use Rattle.omi_calls.specs.Told.{Told}
 use Rattle.omi_handle.specs.declared.handle.Kind.{Kind}
@@ -54,14 +53,6 @@ module _ {C F : Type 0} (told : C → Told) where
       subst (λ w. Gives r (look w memory)) stays.layout
       (there memory (still_tells (told s.table.calls) (told t.table.calls) memory stays.table.same tells))
 
-  -- and the other way round
-  pub looks_after : {A : Type 0} (s t : Opened C F) (r : Result A WalkFault) (look : List ℕ → Words → Look A)
-      → Stays told s t → Looks told s r look → Looks told t r look
-  unfolding Looks
-  looks_after s t r look stays there = λ memory tells.
-      subst (λ w. Gives r (look w memory)) (sym stays.layout)
-      (there memory (still_tells (told t.table.calls) (told s.table.calls) memory (sym stays.table.same) tells))
-
   -- an object that was met still lives, and a handle still stands for it
   pub met_after : (s t : Opened C F) (kind : Kind) (m : Met) → Stays told s t → IsMet told s kind m
       → IsMet told t kind m
@@ -89,25 +80,12 @@ module _ {C F : Type 0} (told : C → Told) where
       then_gives r x (a s.layout memory) (b s.layout memory) (first memory tells)
       (looks_before s t r (λ w memory. b w memory x) stays rest memory tells)
 
-  -- the same of a look at an object of a handle, which still stands for it after the look
-  pub read_then : {A B : Type 0} (most : ℕ) (s t : Opened C F) (kind : Kind) (pair : ℕ × ℕ) (n : Id) (x : A) (r : Result B WalkFault) (a : List ℕ → Words → Look A) (b : List ℕ → Words → A → Look B)
-      → Leaves told most s t → Stands told s kind pair n → Looks told s (Ok x) a → (Stands told t kind pair n → Looks told t r (λ w memory. b w memory x))
-      → Looks told s r (λ w memory. and_then (a w memory) (b w memory))
-  read_then most s t kind pair n x r a b leaves st first rest =
-      look_then s t x r a b first leaves.stays (rest (stands_after most s t kind pair n leaves st))
-
   -- a look was refused
   pub look_stops : {A B : Type 0} (s : Opened C F) (f : WalkFault) (a : List ℕ → Words → Look A) (b : List ℕ → Words → A → Look B)
       → Looks {A = A} told s (Err f) a → Looks {A = B} told s (Err f) (λ w memory. and_then (a w memory) (b w memory))
   unfolding Looks
   look_stops s f a b first =
       λ memory tells. stop_gives f (a s.layout memory) (b s.layout memory) (first memory tells)
-
-  -- a part was refused, and the call with it
-  pub refused_looks : {A : Type 0} (s : Opened C F) (f : WalkFault) (r : Result A WalkFault) (look : List ℕ → Words → Look A)
-      → IsErrAnd r (λ why. why ≡ f)
-      → Looks told s (Err f) look → Looks told s r look
-  refused_looks s f r look refused rest = let p = err_from_is_err_and r refused in rw (p.1, p.2) rest
 
   -- what is there is given
   pub look_is : {A : Type 0} (s : Opened C F) (x : A) → Looks told s (Ok x) (λ w memory. Ok x)

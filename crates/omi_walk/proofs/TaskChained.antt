@@ -1,5 +1,5 @@
 -- A chain of tasks, of which none comes twice.
-use Rattle.std.proofs.Common.{◌≡◌, ℕ, suc, zero, Bool, false, List, [], ◌∷◌, ◌++◌, Option, Some, None, refl, sym, ap, ◌∙◌, append-nil}
+use Rattle.std.proofs.Common.{◌≡◌, ℕ, suc, zero, Bool, List, [], ◌∷◌, ◌++◌, Option, Some, None, refl, sym, ap, ◌∙◌, append-nil}
 use Rattle.std.specs.Prelude.{Ok, Err}
 use Rattle.std.specs.Option.{option_map}
 use Rattle.omi_word.specs.Words.{Words}
@@ -17,7 +17,7 @@ use Rattle.omi_session.specs.Tells.{Tells}
 use Rattle.omi_walk.specs.declared.fault.WalkFault.{WalkFault}
 use Rattle.omi_walk.specs.declared.fault.WalkFault.TheVariants as fault
 use Rattle.omi_walk.specs.Gives.{Looks}
-use Rattle.omi_walk.proofs.Steps.{mapped_same, mapped_next, stop_gives, same_gives, looks_before}
+use Rattle.omi_walk.proofs.Steps.{mapped_next, stop_gives, same_gives, looks_before}
 
 -- the rows so far, and the tasks that are left
 pub record TasksSoFar {C F : Type 0} (told : C → Told) (s : Opened C F) (thread : ℕ) (first : Option Id) (rows : List TaskRow) (known : ℕ → Bool) (left : ℕ) (current : Option Id) : Type 0 where
@@ -34,14 +34,6 @@ named_back None = refl
 named_back (Some n) = refl
 
 module _ {C F : Type 0} (told : C → Told) (s : Opened C F) (thread : ℕ) (first : Option Id) where
-  pub tasks_begin : (empty : ℕ → Bool) → ((address : ℕ) → empty address ≡ false)
-      → TasksSoFar told s thread first [] empty (records s.layout tasks) first
-  tasks_begin empty none = record {
-    before = [];
-    same = none;
-    rest = λ memory tells. mapped_same (look_chain s.layout memory (records s.layout tasks) [] thread first);
-  }
-
   module _ (t : Opened C F) (stays : Stays told s t) (rows : List TaskRow) (known : ℕ → Bool) (left : ℕ)
       (task : Id) (so : TasksSoFar told s thread first rows known (suc left) (Some task)) where
     -- the addresses that were met, this one included

@@ -1,20 +1,16 @@
 -- The look at a task is a look at its relations, at its words, and at its data environment.
-use Rattle.std.proofs.Common.{◌≡◌, ◌∙◌, ℕ, List, refl, subst}
+use Rattle.std.proofs.Common.{◌≡◌, ◌∙◌, ℕ, List, refl}
 use Rattle.std.specs.Option.{option_map}
-use Rattle.std.specs.Prelude.{Result, Ok, Err}
+use Rattle.std.specs.Prelude.{Ok, Err}
 use Rattle.omi_word.specs.Words.{Words}
-use Rattle.omi_calls.specs.Told.{Told}
 use Rattle.omi_layout.specs.declared.field.Field.TheVariants.{TaskImplicit, TaskRegion, TaskFunction, TaskGenerating, TaskScheduling, TaskExit, TaskEnter, TaskDynamic, TaskSchedule, TaskDevice, TaskFinal, TaskTool}
 use Rattle.omi_layout.specs.Field.{regions, tasks}
 use Rattle.omi_model.specs.declared.id.Id.{Id}
 use Rattle.omi_model.specs.declared.view.TaskRow.{TaskRow}
 use Rattle.omi_rep.specs.Look.{Look, and_then, id_address, look_object, look_optional, look_onward}
 use Rattle.omi_rep.specs.LookView.{look_task, look_nthreads, read_task}
-use Rattle.omi_session.specs.Opened.{Opened}
-use Rattle.omi_walk.specs.declared.fault.WalkFault.{WalkFault}
 use Rattle.omi_walk.specs.declared.tasks.Environment.{Environment}
 use Rattle.omi_walk.specs.declared.tasks.Relations.{Relations}
-use Rattle.omi_walk.specs.Gives.{Gives, Looks}
 use Rattle.omi_walk.specs.Parts.{look_frames}
 use Rattle.omi_walk.specs.Tasks.{look_relations, look_environment}
 
@@ -120,10 +116,3 @@ module _ (w : List ℕ) (memory : Words) (met : List ℕ) (i : ℕ) (k : Id) whe
         generating = option_map (λ g. record { 0 = g }) generating;
         scheduling = option_map (λ h. record { 0 = h }) scheduling;
       }) j)))))
-
--- what an equal look gives
-pub looks_same : {A C F : Type 0} (told : C → Told) (s : Opened C F) (r : Result A WalkFault) (one other : List ℕ → Words → Look A)
-    → ((w : List ℕ) (memory : Words) → one w memory ≡ other w memory) → Looks told s r one → Looks told s r other
-unfolding Looks
-looks_same told s r one other same given =
-    λ memory tells. subst (Gives r) (same s.layout memory) (given memory tells)

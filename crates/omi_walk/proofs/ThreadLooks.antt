@@ -1,5 +1,5 @@
 -- What inquiries about threads answer are plain looks.
-use Rattle.std.proofs.Common.{zero, suc, ◌≡◌, ◌≢◌, ◌==◌, ◌<◌, ◌+◌, ◌/◌, arith, ℕ, Bool, true, false, cond, List, [], ◌∷◌, Option, Some, None, refl, sym, ap, subst, ◌∙◌}
+use Rattle.std.proofs.Common.{zero, suc, ◌≡◌, ◌==◌, ◌<◌, ◌+◌, ◌/◌, arith, ℕ, Bool, true, false, cond, List, [], ◌∷◌, Option, Some, None, refl, sym, ap, subst, ◌∙◌}
 use Rattle.std.proofs.lemmas.Bool.{eqb-true}
 use Rattle.std.specs.Prelude.{Result, Ok, Err, is_some}
 use Rattle.std.specs.FinMap.{get}
@@ -28,13 +28,12 @@ use Rattle.omi_layout.specs.Table.{thread_count, per_thread}
 use Rattle.omi_layout.specs.Valid.{IsValid}
 use Rattle.omi_model.specs.declared.id.Id.{Id}
 use Rattle.omi_layout.specs.Named.{number}
-use Rattle.omi_rep.specs.declared.fault.LookFault.{LookFault}
-use Rattle.omi_rep.specs.declared.fault.LookFault.TheVariants.{Damaged, Cycle}
-use Rattle.omi_rep.specs.Look.{Look, and_then, id_address, look_optional, optional, slot_at, is_live}
+use Rattle.omi_rep.specs.declared.fault.LookFault.TheVariants.{Damaged}
+use Rattle.omi_rep.specs.Look.{Look, and_then, id_address, optional, slot_at, is_live}
 use Rattle.omi_rep.specs.LookView.{look_for, look_state, look_current, read_thread, read_task, read_runtime}
 use Rattle.omi_rep.specs.Records.{runtime_address, thread_address}
 use Rattle.omi_session.specs.declared.rc.Rc.{Rc}
-use Rattle.omi_session.specs.declared.rc.Rc.TheVariants.{Unavailable, NeedsStateTracking, NoMem, CallbackError}
+use Rattle.omi_session.specs.declared.rc.Rc.TheVariants.{Unavailable, NeedsStateTracking}
 use Rattle.omi_session.specs.Handles.{name_of}
 use Rattle.omi_session.specs.Inquiry.{object_of, place_of, word_of, follow_some, unchanged}
 use Rattle.omi_session.specs.Looked.{IsFault, IsOptional}
@@ -50,13 +49,10 @@ use Rattle.omi_session.proofs.ShownNames.{name_told}
 use Rattle.omi_rep.proofs.Slots.{slot_is}
 use Rattle.omi_session.proofs.Told.{still_tells}
 use Rattle.omi_ask.specs.Threads.{begun, has_id, first_with, thread_with}
-use Rattle.omi_walk.specs.declared.fault.WalkFault.{WalkFault}
 use Rattle.omi_walk.specs.declared.met.Met.{Met}
-use Rattle.omi_walk.specs.Fault.{fault_of, absent, untracked}
-use Rattle.omi_walk.specs.Gives.{Gives, Looks}
+use Rattle.omi_walk.specs.Fault.{untracked}
 use Rattle.omi_walk.specs.Objects.{IsMet, Stands}
-use Rattle.omi_walk.specs.Threads.{number_met}
-use Rattle.omi_walk.proofs.Looked.{ValueIs, word_there, optional_there, fault_gives, stands_at, object_answers}
+use Rattle.omi_walk.proofs.Looked.{ValueIs, word_there, optional_there, stands_at, object_answers}
 use Rattle.omi_walk.proofs.MemberLooks.{some_kind}
 use Rattle.omi_walk.proofs.Names.{named_address}
 use Rattle.omi_walk.proofs.WordLooks.{sourced_answers, record_answers}
@@ -247,84 +243,6 @@ IsMaybe none (Err rc) (Err fault) = IsFault rc fault
 pub maybe_by : {A : Type 0} (none : Rc) (l : Look (Option A)) {a b : Result A Rc} → a ≡ b
     → IsMaybe none b l → IsMaybe none a l
 maybe_by {A} none l same looked = subst (λ (r : Result A Rc). IsMaybe none r l) (sym same) looked
-
-pub maybe_ok : {A : Type 0} (none : Rc) (x : A) (answer : Result A Rc) (l : Look (Option A)) → Ok x ≡ answer
-    → IsMaybe none answer l → l ≡ Ok (Some x)
-maybe_ok none x (Ok y) (Ok (Some z)) is same =
-    ap (λ k. Ok (Some k)) (let first : x ≡ y = cc in sym (first ∙ same))
-maybe_ok none x (Ok y) (Ok None) is same = absurd same
-maybe_ok none x (Ok y) (Err fault) is same = absurd same
-maybe_ok none x (Err rc) l is same = absurd (cc)
-
-maybe_err : (A : Type 0) (found : Option Held) (none rc : Rc) (answer : Result A Rc) (l : Look (Option A))
-    → rc ≢ none → Err rc ≡ answer → IsMaybe {A = A} none answer l
-    → Gives {A = Option A} (Err (fault_of found rc)) l
-maybe_err A found none rc (Ok y) l ne is same = absurd (cc)
-maybe_err A found none rc (Err why) (Ok (Some z)) ne is same = absurd same
-maybe_err A found none rc (Err why) (Ok None) ne is same =
-    let one : rc ≡ why = cc in absurd (ne (one ∙ same))
-maybe_err A found none rc (Err why) (Err fault) ne is same =
-    let one : rc ≡ why = cc in
-    fault_gives (Option A) found rc fault (subst (λ c. IsFault c fault) (sym one) same)
-
-maybe_none : (A : Type 0) (none : Rc) (answer : Result A Rc) (l : Look (Option A))
-    → ((fault : LookFault) → IsFault none fault → ⊥) → Err none ≡ answer → IsMaybe {A = A} none answer l
-    → l ≡ Ok None
-maybe_none A none (Ok y) l never is same = absurd (cc)
-maybe_none A none (Err why) (Ok (Some z)) never is same = absurd same
-maybe_none A none (Err why) (Ok None) never is same = refl
-maybe_none A none (Err why) (Err fault) never is same =
-    absurd (never fault (let one : none ≡ why = cc in subst (λ c. IsFault c fault) (sym one) same))
-
-unavailable_never : (fault : LookFault) → IsFault Unavailable fault → ⊥
-unavailable_never (Damaged addr field) is = absurd (cc)
-unavailable_never (Cycle addr) is = is
-
-untracked_never : (fault : LookFault) → IsFault NeedsStateTracking fault → ⊥
-untracked_never (Damaged addr field) is = absurd (cc)
-untracked_never (Cycle addr) is = is
-
-pub absent_maybe : {A : Type 0} (found : Option Held) (rc : Rc) (answer : Result A Rc)
-    (l : Look (Option A)) → (rc ≢ CallbackError → Err rc ≡ answer) → IsMaybe Unavailable answer l
-    → Gives (absent found rc) l
-absent_maybe {A} found Unavailable answer l is looked =
-    maybe_none A Unavailable answer l unavailable_never (is (λ e. cc)) looked
-absent_maybe {A} found CallbackError answer l is looked = tt
-absent_maybe {A} found NoMem answer l is looked = tt
-absent_maybe {A} found rc answer l is looked =
-    maybe_err A found Unavailable rc answer l (λ e. cc) (is (λ e. cc)) looked
-
-pub untracked_maybe : {A : Type 0} (found : Option Held) (rc : Rc) (answer : Result A Rc)
-    (l : Look (Option A)) → (rc ≢ CallbackError → Err rc ≡ answer) → IsMaybe NeedsStateTracking answer l
-    → Gives (untracked found rc) l
-untracked_maybe {A} found NeedsStateTracking answer l is looked =
-    maybe_none A NeedsStateTracking answer l untracked_never (is (λ e. cc)) looked
-untracked_maybe {A} found CallbackError answer l is looked = tt
-untracked_maybe {A} found NoMem answer l is looked = tt
-untracked_maybe {A} found rc answer l is looked =
-    maybe_err A found NeedsStateTracking rc answer l (λ e. cc) (is (λ e. cc)) looked
-
--- that no thread was found
-pub absent_thread : (w : List ℕ) (memory : Words) (new : Ledger) (found : Option Held) (rc : Rc)
-    (answer : Result Held Rc) (l : Look (Option ℕ)) → IsMade new (Err rc) answer → IsFound w memory answer l
-    → Gives (number_met (absent found rc)) l
-absent_thread w memory new found rc answer l made looked = go rc made
-  where
-    as_maybe : (why : Rc) (answer : Result Held Rc) (l : Look (Option ℕ)) → answer ≡ Err why
-        → IsFound w memory answer l → IsMaybe {A = ℕ} Unavailable (Err why) l
-    as_maybe why (Ok o) l is looked = absurd (cc)
-    as_maybe why (Err what) (Ok (Some i)) is looked = absurd looked
-    as_maybe why (Err what) (Ok None) is looked = (let one : what ≡ why = cc in sym one ∙ looked)
-    as_maybe why (Err what) (Err fault) is looked =
-        (let one : what ≡ why = cc in subst (λ c. IsFault c fault) one looked)
-
-    go : (why : Rc) → IsMade new (Err why) answer → Gives (number_met (absent found why)) l
-    go Unavailable made =
-        absent_maybe found Unavailable (Err Unavailable) l (λ ne. refl)
-        (as_maybe Unavailable answer l made looked)
-    go CallbackError made = tt
-    go NoMem made = tt
-    go why made = absent_maybe found why (Err why) l (λ ne. refl) (as_maybe why answer l made looked)
 
 -- ---- a thread's record
 
@@ -526,14 +444,3 @@ module _ {C F : Type 0} (told : C → Told) (old mid new : Opened C F) (native :
             word = there;
             live = subst (λ k. is_live (record_kind k) h.life ≡ true) is named.live;
           }))
-
--- the current task of a thread, by its number
-pub current_looks : {C F : Type 0} (told : C → Told) (s : Opened C F) (t : ThreadHandle) (n : Id)
-    (r : Result (Option Id) WalkFault) → Stands told s Thread (thread_pair t) n
-    → Looks told s r
-    (λ w memory. look_optional w memory tasks (id_address w threads n) ThreadCurrent 0)
-    → Looks told s r (λ w memory. look_current w memory n.creator)
-unfolding Looks
-current_looks told s t n r st there = λ memory tells.
-    subst (λ a. Gives r (look_optional s.layout memory tasks a ThreadCurrent 0))
-    (thread_at told s t n st) (there memory tells)

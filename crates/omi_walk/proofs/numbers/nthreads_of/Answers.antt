@@ -33,7 +33,7 @@ returns-in_ok-list_of-in-Ok-clause-reads g c =
     let s = c.args.s.now in
     let pair = task_pair c.args.k in
     walks_ok told asked s _ (λ (v : Value). v.numbers) c.in-Ok.value _ _
-    (c.in_ok-list_of-in-Ok.ensures ∙ c.as_slice.ensures)
+    (c.in_ok-list_of-in-Ok.ensures ∙ c.as_slice.ensures.numbers)
     (of_answers told asked s _ (Ok c.in-Ok.value) (Ok c.in-Ok.value) (walked (get s.handles.held pair)) (icv_value s.layout (get s.handles.held) (scoped.Task c.args.k) NTHREADS_VAR) refl refl c.in-Ok.ensures.answer)
 
 pub returns-in-Err-clause-reads : goal.returns-in-Err-clause-reads
