@@ -3,8 +3,8 @@ use Rattle.std.proofs.Common.{◌≡◌, ◌<◌, ℕ, List, [], ◌∷◌, leng
 use Rattle.std.specs.Prelude.{Result}
 use Rattle.omi.proofs.NoTargets.{tells_core}
 use Rattle.omi.specs.Opened.{IsNoTarget, words_of_core}
-use Rattle.omi.specs.declared.opened.OpenError.{OpenError}
-use Rattle.omi.specs.declared.opened.OpenError.TheVariants as error
+use Rattle.omi.specs.declared.fault.OpenError.{OpenError}
+use Rattle.omi.specs.declared.fault.OpenError.TheVariants as error
 use Rattle.omi_calls.specs.Memory.{told_by}
 use Rattle.omi_calls.specs.Told.{Told}
 use Rattle.omi_corefile.specs.Spelling.{segments_of}
@@ -66,6 +66,7 @@ module _ (words : List ℕ) (k : ShowsSome words) where
   opens core error.NoFile same cause = cause
   opens core error.NotRead same cause = cause
   opens core (error.NoCore at why) same cause = cause
+  opens core (error.NoElf at why) same cause = cause
   opens core error.OutOfMemory same cause = cause
 
   -- a walk gives what a look at them gives, in the layout that they give

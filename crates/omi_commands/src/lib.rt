@@ -14,7 +14,6 @@ mod run_lines;
 mod usage;
 
 pub use cores::{contexts_of, write_core};
-pub use event_lines::push_event_lines;
 pub use image_view::view_of;
 pub use inquiries::{refusal_of_code, refusal_of_walk};
 pub use kept_tasks::{KeptTasks, fates};
