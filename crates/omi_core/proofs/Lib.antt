@@ -8,5 +8,6 @@ pub mod Opened
 pub mod Copied
 pub mod Histories
 pub mod ScheduledSteps
+pub mod Judging
 pub mod DeferSlots
 pub mod RecordedRuns

@@ -1,9 +1,8 @@
 -- A run of which steps and events are not kept, step by step: it is a run, whose lists stand in the proof alone.
-use Rattle.std.proofs.Common.{◌≡◌, ◌<◌, ◌≤◌, ◌+◌, ◌/◌, ◌^◌, ◌++◌, ℕ, List, [], ◌∷◌, length, slice_index_or, slice_set, Some, None, refl, sym, ap, ◌∙◌, subst, arith}
-use Rattle.std.specs.Prelude.{IfSome}
-use Rattle.std.proofs.lemmas.Nat.{le-div, mod_below}
+use Rattle.std.proofs.Common.{◌≡◌, ◌<◌, ◌≤◌, ◌+◌, ◌/◌, ◌++◌, ℕ, List, [], ◌∷◌, length, slice_index_or, slice_set, refl, sym, ap, ◌∙◌, subst, arith}
+use Rattle.std.specs.Prelude.{Ok}
+use Rattle.std.proofs.lemmas.Nat.{le-div}
 use Rattle.std.proofs.lemmas.List.{length-append}
-use Rattle.std.proofs.lemmas.List.Elements.{All-get_or}
 use Rattle.omi_model.specs.declared.id.Tid.{Tid}
 use Rattle.omi_model.specs.declared.event.Event.{Event}
 use Rattle.omi_word.specs.declared.op.Op.{Op}
@@ -27,20 +26,16 @@ use Rattle.omi_core.specs.declared.entry.Entry.{Entry}
 use Rattle.omi_core.specs.declared.limits.TheConstants.{MOST_STEPS}
 use Rattle.omi_core.specs.declared.machine.Machine.{Machine}
 use Rattle.omi_core.specs.declared.schedule.Schedule.{Schedule}
-use Rattle.omi_core.specs.declared.schedule.Schedule.TheVariants as schedule
 use Rattle.omi_core.specs.declared.stop.End.{End}
-use Rattle.omi_core.specs.declared.stop.End.TheVariants as end
 use Rattle.omi_core.specs.declared.stop.Stop.{Stop}
-use Rattle.omi_core.specs.Ends.{IsBelow, end_at, met_at}
 use Rattle.omi_core.specs.Kept.{KeepsRun}
 use Rattle.omi_core.specs.Recorded.{IsRecorded}
 use Rattle.omi_core.specs.RecordedSteps.{IsAt, IsOpened, IsStepOn, run_with}
 use Rattle.omi_core.specs.RunSteps.{event_of, made_of}
 use Rattle.omi_core.specs.Runs.{AreOpeningActors, IsOpening, Run, actors_in, events_in, spare_in}
-use Rattle.omi_core.specs.Schedules.{IsListed, drawn_at, first_draw, next_draw, thread_at}
+use Rattle.omi_core.specs.StepsOf.{IsRunOn}
 use Rattle.omi_core.proofs.Histories.{history}
 use Rattle.omi_core.proofs.Opened.{opened_run}
-use Rattle.omi_core.proofs.ScheduledSteps.{SoFar, all_made, begins, ended, fewer, one_more}
 use Rattle.omi_core.proofs.Stepping.{actor_is, inside, other_room, own, run_after}
 
 -- ---- room, which only the proof asks for
@@ -230,119 +225,20 @@ opened_machine m valid suits words actors =
       };
     }
 
--- ---- the steps of a run
+-- ---- the end of a run
 
--- so many steps were made, and the run goes on
-pub record IsUnder (p : Program) (w : List ℕ) (how : Schedule) (stop : Stop) (m : Machine) (tells : List (ℕ × ℕ × Event) → Type 0) (step met draw : ℕ) : Type 0 where
-  pub first : Run
-  pub run : Run
-  pub opens : IsOpening p w first
-  pub so_far : SoFar first how stop step met draw run
-  pub at : IsAt m step run
-  pub told : tells run.events.items
-
-pub before_all : (how : Schedule) (stop : Stop) (m : Machine) (tells : List (ℕ × ℕ × Event) → Type 0)
-    → IfSome stop.on (λ on. 1 ≤ on.1) → IsOpened m → tells [] → (draw : ℕ) → draw ≡ first_draw how
-    → IsUnder m.program m.layout.table how stop m tells 0 0 draw
-before_all how stop m tells some opened nothing draw drawn = record {
-  first = opened.first;
-  run = opened.first;
-  opens = opened.opens;
-  so_far = subst (λ d. SoFar opened.first how stop 0 0 d opened.first) (sym drawn) (begins opened.first how stop some);
-  at = opened.at;
-  told = subst tells (sym opened.opens.events) nothing;
-}
-
-module _ (p : Program) (w : List ℕ) (how : Schedule) (stop : Stop) (m : Machine)
-    (tells : List (ℕ × ℕ × Event) → Type 0) (step met draw : ℕ)
-    (u : IsUnder p w how stop m tells step met draw) where
-  -- the program and the layout stay
-  pub program_stays : m.program ≡ p
-  program_stays = ap (λ (z : Run). z.program) u.at.parts ∙ u.so_far.added.program ∙ u.opens.program
-
-  pub few : IsBelow stop.on met
-  few = fewer u.first how stop step met draw u.run u.so_far
-
-  module _ (below : step < stop.steps) (i : ℕ) (thread : i ≡ thread_at how p.threads step) (n : Machine)
-      (later : List (ℕ × ℕ × Event) → Type 0) (outcome : CompactOutcome)
-      (on : IsStepOn u.run i step n later outcome) where
-    thread_is : i ≡ thread_at how u.first.program.threads step
-    thread_is = thread ∙ ap (λ (q : Program). thread_at how q.threads step) (sym u.opens.program)
-
-    pub goes_on : ((team : List (Tid × ℕ)) → end_at stop.on met (outcome_with team outcome) ≡ None)
-        → (more : ℕ) → ((team : List (Tid × ℕ)) → more ≡ met_at stop.on met (outcome_with team outcome))
-        → (drawn : ℕ) → drawn ≡ next_draw how p.threads draw → IsUnder p w how stop n later (step + 1) more drawn
-    goes_on none more met_is drawn drawn_is =
-        let none_now : end_at stop.on met on.entry.outcome ≡ None =
-        ap (end_at stop.on met) on.outcome_is ∙ none on.team in
-        let draws_same : drawn ≡ next_draw how u.first.program.threads draw =
-        drawn_is ∙ ap (λ (q : Program). next_draw how q.threads draw) (sym u.opens.program) in
-        let met_now : met_at stop.on met on.entry.outcome ≡ more =
-        ap (met_at stop.on met) on.outcome_is ∙ sym (met_is on.team) in
-        record {
-          first = u.first;
-          run = on.next;
-          opens = u.opens;
-          so_far =
-              subst (λ k. SoFar u.first how stop (step + 1) more k on.next) (sym draws_same)
-              (subst (λ k. SoFar u.first how stop (step + 1) k (next_draw how u.first.program.threads draw) on.next) met_now
-              (one_more u.first how stop step met draw u.run on.next i on.entry u.so_far below on.step thread_is none_now));
-          at = on.at;
-          told = on.told;
-        }
-
-    pub ends : (why : End)
-        → ((team : List (Tid × ℕ)) → end_at stop.on met (outcome_with team outcome) ≡ Some why)
-        → IsRecorded p w how stop later n.image (step + 1) why
-    ends why is =
-        let is_now : end_at stop.on met on.entry.outcome ≡ Some why =
-        ap (end_at stop.on met) on.outcome_is ∙ is on.team in
-        record {
-          first = u.first;
-          last = on.next;
-          opens = u.opens;
-          run = ended u.first how stop step met draw u.run on.next i on.entry why u.so_far below on.step thread_is is_now;
-          history = history on.next on.at.keeps;
-          words_are = ap (λ (z : Run). z.words) on.at.parts;
-          steps_are = sym on.at.count;
-          told = on.told;
-        }
-
-  pub ends_with_all : step ≡ stop.steps → IsRecorded p w how stop tells m.image stop.steps end.Steps
-  ends_with_all all = record {
-    first = u.first;
-    last = u.run;
-    opens = u.opens;
-    run = all_made u.first how stop step met draw u.run u.so_far all;
-    history = history u.run u.at.keeps;
-    words_are = ap (λ (z : Run). z.words) u.at.parts;
-    steps_are = sym (u.at.count ∙ all);
-    told = u.told;
-  }
-
--- the same of another name of the program, the layout and the words
-pub same_recorded : (p q : Program) (w v : List ℕ) (how : Schedule) (stop : Stop)
-    (tells : List (ℕ × ℕ × Event) → Type 0) (words held : List ℕ) (steps : ℕ) (why : End)
-    → q ≡ p → v ≡ w → held ≡ words → IsRecorded q v how stop tells words steps why
+-- what a run from the opening of a machine leads to
+pub recorded : (p : Program) (w : List ℕ) (how : Schedule) (stop : Stop) (tells : List (ℕ × ℕ × Event) → Type 0) (why : End)
+    (left : Run → Type 0) (m : Machine) (steps : ℕ) (first : Run) → IsOpening p w first
+    → IsRunOn first how stop (Ok why) (λ b. IsAt m steps b × tells b.events.items) left → (held : List ℕ) → held ≡ m.image
     → IsRecorded p w how stop tells held steps why
-same_recorded p q w v how stop tells words held steps why program table same recorded = record {
-  first = recorded.first;
-  last = recorded.last;
-  opens = subst (λ (z : Program). IsOpening z w recorded.first) program (subst (λ (z : List ℕ). IsOpening q z recorded.first) table recorded.opens);
-  run = recorded.run;
-  history = recorded.history;
-  words_are = same ∙ recorded.words_are;
-  steps_are = recorded.steps_are;
-  told = recorded.told;
+recorded p w how stop tells why left m steps first opens on held same = record {
+  first = first;
+  last = on.new;
+  opens = opens;
+  run = on.run;
+  history = history on.new on.behind.0.keeps;
+  words_are = same ∙ ap (λ (z : Run). z.words) on.behind.0.parts;
+  steps_are = sym on.behind.0.count;
+  told = on.behind.1;
 }
-
--- ---- threads
-
--- the thread that makes a step is one of the program's
-pub thread_known : (how : Schedule) (threads step steps : ℕ) → 0 < threads → IsListed how threads steps
-    → step < steps → thread_at how threads step < threads
-thread_known schedule.RoundRobin threads step steps some listed below = mod_below step threads some
-thread_known (schedule.Seed seed) threads step steps some listed below = mod_below (drawn_at seed step / 2 ^ 33) threads some
-thread_known (schedule.List list) threads step steps some listed below =
-    let long = listed.1 in
-    All-get_or (λ i. i < threads) list step 0 (omega (arith, below, long)) listed.0

@@ -1,9 +1,10 @@
 -- A run by a schedule, step by step: what the steps made so far add, and how the run ends.
-use Rattle.std.proofs.Common.{◌≡◌, ◌≢◌, ◌<◌, ◌≤◌, ◌+◌, ◌*◌, ◌%◌, ◌==◌, ◌&&◌, ◌++◌, ℕ, suc, Bool, true, false, List, [], ◌∷◌, length, map, Option, Some, None, refl, sym, ap, ◌∙◌, subst, arith, if◌then◌else◌, nat_lt, ltb-true, ltb-false}
+use Rattle.std.proofs.Common.{◌≡◌, ◌≢◌, ◌<◌, ◌≤◌, ◌+◌, ◌*◌, ◌/◌, ◌%◌, ◌^◌, ◌==◌, ◌&&◌, ◌++◌, ℕ, suc, Bool, true, false, List, [], ◌∷◌, length, map, Option, Some, None, refl, sym, ap, ◌∙◌, subst, arith, if◌then◌else◌, nat_lt, ltb-true, ltb-false}
 use Rattle.std.specs.Prelude.{IfSome, MatchOption, Ok, Err}
 use Rattle.std.specs.List.{AllByRecursion}
 use Rattle.std.specs.declared.alloc.AllocError.{AllocError}
 use Rattle.std.proofs.lemmas.List.{append_assoc, append-nil}
+use Rattle.std.proofs.lemmas.List.Elements.{All-get_or}
 use Rattle.std.proofs.lemmas.List.Sums.{sum_by-append, sum_by-cons}
 use Rattle.std.proofs.lemmas.Bool.Decides.{nat_tests}
 use Rattle.std.proofs.lemmas.Nat.{mod-mul-add, mod_below}
@@ -23,10 +24,10 @@ use Rattle.omi_core.specs.declared.stop.End.{End}
 use Rattle.omi_core.specs.declared.stop.End.TheVariants as end
 use Rattle.omi_core.specs.declared.stop.Stop.{Stop}
 use Rattle.omi_core.specs.Ends.{EndsAt, GoesOn, IsBelow, IsEnded, count_of, end_at, end_of_kind, is_done, is_of_kind, met_at, met_by}
-use Rattle.omi_core.specs.RunSteps.{IsStep, RuleHolds, event_of, made_of}
-use Rattle.omi_core.specs.Runs.{IsSameRun, Run}
+use Rattle.omi_core.specs.RunSteps.{IsStep, event_of, made_of}
+use Rattle.omi_core.specs.Runs.{Run}
 use Rattle.omi_core.specs.ScheduledRuns.{Adds, IsRunBy}
-use Rattle.omi_core.specs.Schedules.{IsDrawn, drawn_at, first_draw, next_draw, next_number, thread_at, threads_by}
+use Rattle.omi_core.specs.Schedules.{IsDrawn, IsListed, drawn_at, first_draw, next_draw, next_number, thread_at, threads_by}
 
 -- ---- lists
 
@@ -86,13 +87,6 @@ of_kind_on (Some o) met es e few are goes = go (is_of_kind o.0 e.2) (met + 1 == 
         snoc_counts o.0 es e ∙ ap (λ (b : Bool). count_of o.0 es + (if b then 1 else 0)) f in
         (omega (arith, more, few), omega (arith, more, are))
 
--- ---- the rule
-
--- it holds of the same run with other room
-pub rule_roomier : (a b : Run) → IsSameRun a b → RuleHolds a → RuleHolds b
-rule_roomier a b same (s, rule) =
-    (s, rw (same.program, same.table, same.words, same.events, same.actors) rule)
-
 -- ---- threads in turn
 
 -- a number below another one is its own rest
@@ -121,6 +115,15 @@ next_in_turn threads n draw some is =
         let past : threads ≤ draw + 1 = ltb-false (draw + 1) threads not_less in
         let all : draw + 1 ≡ 1 * threads + 0 = omega (arith, past, below, is) in
         sym (step ∙ ap (λ k. k % threads) all ∙ mod-mul-add 1 threads 0 some)
+
+-- the thread that makes a step is one of the program's
+pub thread_known : (how : Schedule) (threads step steps : ℕ) → 0 < threads → IsListed how threads steps
+    → step < steps → thread_at how threads step < threads
+thread_known schedule.RoundRobin threads step steps some listed below = mod_below step threads some
+thread_known (schedule.Seed seed) threads step steps some listed below = mod_below (drawn_at seed step / 2 ^ 33) threads some
+thread_known (schedule.List list) threads step steps some listed below =
+    let long = listed.1 in
+    All-get_or (λ i. i < threads) list step 0 (omega (arith, below, long)) listed.0
 
 -- ---- steps
 
@@ -166,25 +169,6 @@ module _ (old : Run) (how : Schedule) (stop : Stop) where
     goes_on = record { not_done = tt; too_few = some_wanted stop.on some };
     met_are = none_met stop.on;
     drawn = first_drawn how;
-  }
-
-  -- the run has other room
-  pub roomier : (n met draw : ℕ) (a b : Run) → SoFar n met draw a → IsSameRun a b → SoFar n met draw b
-  roomier n met draw a b so same = record {
-    added = record {
-      program = same.program ∙ so.added.program;
-      table = same.table ∙ so.added.table;
-      made = so.added.made;
-      made_are = same.made ∙ so.added.made_are;
-      threads = so.added.threads;
-      within = so.added.within;
-      events = so.added.events;
-      events_are = same.events ∙ so.added.events_are;
-    };
-    count = so.count;
-    goes_on = so.goes_on;
-    met_are = so.met_are;
-    drawn = so.drawn;
   }
 
   -- ---- one step more

@@ -12,5 +12,6 @@ pub mod Schedules
 pub mod Ends
 pub mod ScheduledRuns
 pub mod Recorded
+pub mod StepsOf
 -- The laws
 pub mod DeferLaws

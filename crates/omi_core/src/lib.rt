@@ -11,6 +11,7 @@ mod recorder;
 mod run;
 mod schedule;
 mod scheduled;
+mod stepper;
 mod stop;
 mod thread_run;
 

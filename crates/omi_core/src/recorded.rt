@@ -9,9 +9,9 @@ ghost use Rattle.omi_rep.specs.Suits.{Suits};
 use crate::machine::Machine;
 use crate::opening::{opening_actors, opening_image};
 use crate::recorder::Recorder;
-use crate::schedule::{first_draw, next_draw, thread_at};
+use crate::stepper::{Judged, Stepper, run_by};
 use crate::stop::{compact_end_at, compact_met_at};
-use crate::{End, MOST_STEPS, OutOfMemory, Schedule, Stop};
+use crate::{Break, End, MOST_STEPS, OutOfMemory, Schedule, Stop};
 use omi_layout::Layout;
 use omi_script::Program;
 use omi_word::Image;
@@ -25,13 +25,6 @@ pub struct Recorded<R> {
     pub steps: u64,
     pub why: End,
     pub recorder: R,
-}
-
-/// Where a run ended: behind so many steps.
-#[derive(Clone, Copy)]
-struct Ended {
-    steps: u64,
-    why: End,
 }
 
 /// The opening of a program in a layout that suits it.
@@ -51,43 +44,43 @@ fn opening(alloc: Global, p: Program, l: Layout) -> Result<Machine, OutOfMemory>
     })
 }
 
-/// Makes the steps of a run, from its opening on. Want of memory is also the answer behind `MOST_STEPS` steps.
-fn run_steps<R: Recorder>(
-    machine: &mut Machine,
-    how: &Schedule,
-    stop: Stop,
-    recorder: &mut R,
-) -> Result<Ended, OutOfMemory>
-    requires count { IfSome stop.on (λ on. 1 ≤ on.1) }
-    requires listed { IsListed how.now machine.old.program.threads stop.steps }
-    requires opened { IsOpened machine.old }
-    requires nothing { R.tells recorder.old [] }
-    ensures { let w = machine.old.layout.table in
-        IfOk result (λ ended. IsRecorded machine.old.program w how.now stop
-        (λ items. R.tells recorder.new items) machine.new.image ended.steps ended.why) }
-{
-    let threads = machine.program.threads;
-    let mut draw = first_draw(how);
-    let mut met = 0;
-    for step in 0..stop.steps {
-        if step >= MOST_STEPS {
+/// A run of which nothing is kept but its words, the number of its steps, and what a recorder keeps of its events.
+#[derive(Drop)]
+struct Recording<R> {
+    machine: Machine,
+    steps: u64,
+    recorder: R,
+}
+
+impl<R: Recorder> Stepper for Recording<R> {
+    ghost use Rattle.std.specs.Prelude.{⊤};
+    ghost use Rattle.omi_core.specs.RecordedSteps.{IsAt};
+
+    ghost stands = { λ x a. IsAt x.machine x.steps a × R.tells x.recorder a.events.items };
+
+    ghost left = { λ x a. ⊤ };
+
+    fn thread_count(&self) -> u8 {
+        self.machine.program.threads
+    }
+
+    fn make_one(
+        &mut self,
+        thread: u8,
+        _steps: u64,
+        on: Option<(Break, u32)>,
+        met: u32,
+    ) -> Result<Judged, OutOfMemory> {
+        if self.steps >= MOST_STEPS {
             return Err(AllocError);
         }
-        let thread = thread_at(how, threads, step, draw);
-        let outcome = machine.step(thread, step, recorder)?;
-        if let Some(why) = compact_end_at(stop.on, met, outcome) {
-            return Ok(Ended {
-                steps: step + 1,
-                why,
-            });
-        }
-        met = compact_met_at(stop.on, met, outcome);
-        draw = next_draw(how, threads, draw);
+        let outcome = self.machine.step(thread, self.steps, &mut self.recorder)?;
+        self.steps += 1;
+        Ok(Judged {
+            end: compact_end_at(on, met, outcome),
+            met: compact_met_at(on, met, outcome),
+        })
     }
-    Ok(Ended {
-        steps: stop.steps,
-        why: End::Steps,
-    })
 }
 
 /// Runs a program in a layout, from its opening on, as `Core::run` does, and keeps of it what is left. Want of memory
@@ -107,13 +100,22 @@ pub fn run_recorded<R: Recorder + Drop>(
     ensures { IfOk result (λ ran. IsRecorded p l.table how.now stop
         (λ items. R.tells ran.recorder items) ran.image ran.steps ran.why) }
 {
-    let mut machine = opening(alloc, p, l)?;
-    let mut recorder = recorder;
-    let ended = run_steps(&mut machine, how, stop, &mut recorder)?;
+    let machine = opening(alloc, p, l)?;
+    let mut recording = Recording {
+        machine,
+        steps: 0,
+        recorder,
+    };
+    let why = run_by(&mut recording, how, stop)?;
+    let Recording {
+        machine,
+        steps,
+        recorder,
+    } = recording;
     Ok(Recorded {
         image: machine.into_image(),
-        steps: ended.steps,
-        why: ended.why,
+        steps,
+        why,
         recorder,
     })
 }

@@ -1,4 +1,4 @@
-//! Runs by a schedule.
+//! Runs by a schedule that keep their steps and events.
 
 ghost use Rattle.std.specs.Prelude.{◌≡◌, ◌≤◌, IfSome, OnOk};
 ghost use Rattle.omi_core.specs.Runs.{IsSameRun, spare_in};
@@ -6,9 +6,9 @@ ghost use Rattle.omi_core.specs.RunSteps.{RuleHolds};
 ghost use Rattle.omi_core.specs.ScheduledRuns.{IsRunBy};
 ghost use Rattle.omi_core.specs.Schedules.{IsListed};
 
-use crate::schedule::{first_draw, next_draw, thread_at};
+use crate::stepper::{Judged, Stepper, run_by};
 use crate::stop::{end_at, met_at};
-use crate::{Core, End, MOST_STEPS, OutOfMemory, Schedule, Stop};
+use crate::{Break, Core, End, MOST_STEPS, OutOfMemory, Schedule, Stop};
 use std::alloc::AllocError;
 
 /// For so many steps room is taken at a time.
@@ -42,19 +42,35 @@ impl Core {
         ensures run { IsRunBy self.old how.now stop result self.new }
         ensures rule { RuleHolds self.new }
     {
+        let ended = run_by(self, how, stop);
         self.rule_holds();
-        let threads = self.threads();
-        let mut draw = first_draw(how);
-        let mut met = 0;
-        for step in 0..stop.steps {
-            self.make_room(stop.steps - step)?;
-            let entry = self.step(thread_at(how, threads, step, draw));
-            if let Some(end) = end_at(stop.on, met, &entry.outcome) {
-                return Ok(end);
-            }
-            met = met_at(stop.on, met, &entry.outcome);
-            draw = next_draw(how, threads, draw);
-        }
-        Ok(End::Steps)
+        ended
+    }
+}
+
+impl Stepper for Core {
+    ghost use Rattle.omi_core.specs.Runs.{IsSameRun};
+
+    ghost stands = { λ core a. IsSameRun a core };
+
+    ghost left = { λ core a. IsSameRun a core };
+
+    fn thread_count(&self) -> u8 {
+        self.threads()
+    }
+
+    fn make_one(
+        &mut self,
+        thread: u8,
+        steps: u64,
+        on: Option<(Break, u32)>,
+        met: u32,
+    ) -> Result<Judged, OutOfMemory> {
+        self.make_room(steps)?;
+        let entry = self.step(thread);
+        Ok(Judged {
+            end: end_at(on, met, &entry.outcome),
+            met: met_at(on, met, &entry.outcome),
+        })
     }
 }

@@ -20,7 +20,6 @@ use Rattle.omi_model.specs.Opening.{initial_thread, waiting_worker, opening_regi
 use Rattle.omi_model.specs.Put.{first_alone}
 use Rattle.omi_model.specs.Rows.{body_items}
 use Rattle.omi_model.specs.Settings.{with_head}
-use Rattle.omi_model.specs.Teams.{shortened}
 
 -- a list from a place on, where the element there is known
 pub from_place : {A : Type 0} (xs : List A) (k : ℕ) (x : A) → slice_get xs k ≡ Some x
@@ -75,14 +74,6 @@ module _ (p : Program) (env : Env) (locks : List (Option ℕ)) (threads : List T
       ∙ first_then (p.threads - 1) initial_thread waiting_worker in
       λ j. record { environment = same j; count = count j; max_active = p.env.max_active; locks = by_number (free j) None; threads = each j; regions = r j; tasks = t j }
 
--- one default more changes nothing
-pub one_default_more : {A : Type 0} (xs : List A) (d : A) (j : ℕ)
-    → unwrap_or (slice_get (xs ++ d ∷ []) j) d ≡ unwrap_or (slice_get xs j) d
-one_default_more [] d zero = refl
-one_default_more [] d (suc j) = refl
-one_default_more (x ∷ xs) d zero = refl
-one_default_more (x ∷ xs) d (suc j) = one_default_more xs d j
-
 -- one element more of a list that is taken
 pub take_one_more : {A : Type 0} (xs : List A) (k : ℕ) (y : A) → slice_get xs k ≡ Some y
     → take k xs ++ y ∷ [] ≡ take (suc k) xs
@@ -118,9 +109,3 @@ rest_more xs now k y some is so_far =
     go [] k some is = absurd (cc)
     go (x ∷ xs) zero some is = absurd (omega (arith, some))
     go (x ∷ xs) (suc k) some is = take_one_more xs k y is
-
--- a list of two elements or more without its first
-pub rest_shortened : (xs : List ℕ) → 2 ≤ length xs → drop 1 xs ≡ shortened xs
-rest_shortened [] two = absurd (omega (arith, two))
-rest_shortened (x ∷ []) two = absurd (omega (arith, two))
-rest_shortened (x ∷ y ∷ xs) two = refl

@@ -1,5 +1,5 @@
 -- What is kept of the slots, with one slot exchanged, and the slots that it means.
-use Rattle.std.proofs.Common.{◌≡◌, ◌<◌, ◌==◌, ◌+◌, ℕ, zero, suc, Bool, true, false, List, [], ◌∷◌, length, Option, Some, None, if◌then◌else◌, refl, sym, ap, ◌∙◌, arith, set-set, get_or-set_same, length-set}
+use Rattle.std.proofs.Common.{◌≡◌, ◌<◌, ◌==◌, ◌+◌, ℕ, zero, suc, Bool, true, false, List, [], ◌∷◌, length, Option, Some, None, if◌then◌else◌, refl, sym, ap, ◌∙◌, arith, set-set, get_or-set_same}
 use mathlib.Core.Path.{fun_ext}
 use Rattle.std.specs.Prelude.{slice_get, slice_set, unwrap_or}
 use Rattle.std.specs.Option.{option_and_then, option_map}
@@ -10,7 +10,7 @@ use Rattle.omi_model.specs.declared.id.Id.{Id}
 use Rattle.omi_model.specs.declared.slot.Slot.{Slot}
 use Rattle.omi_machine.specs.Kept.{slots_of}
 use Rattle.omi_machine.specs.KeptSlots.{IsKept, row_at, slot_at, with_slot}
-use Rattle.omi_model.specs.Put.{put, on, made, named, found, changed, unused, emptied, gone}
+use Rattle.omi_model.specs.Put.{put, on, named, found, changed, unused, emptied, gone}
 
 -- the element at a place of a list of which one is exchanged
 pub got : {A : Type 0} (xs : List A) (i j : ℕ) (x : A) → i < length xs
@@ -74,17 +74,6 @@ module _ {A : Type 0} (slots : List (List (Slot A))) (n : Id) (kept : IsKept slo
       (get_or-set_same slots n.creator _ [] kept.creator)
       ∙ ap (λ (r : List (Slot A)). slice_set slots n.creator r) (set-set (row_at slots n.creator) n.slot v w)
 
-  -- the slot stays kept
-  pub still_kept : (v : Slot A) → IsKept (with_slot slots n v) n
-  still_kept v =
-      let row =
-      ap (λ (r : List (Slot A)). length r)
-      (get_or-set_same slots n.creator (slice_set (row_at slots n.creator) n.slot v) [] kept.creator) in
-      record {
-        creator = omega (arith, length-set slots n.creator (slice_set (row_at slots n.creator) n.slot v), kept.creator);
-        slot = omega (arith, row, length-set (row_at slots n.creator) n.slot v, kept.slot);
-      }
-
 -- an object that is found and changed
 pub changed_found : {A : Type 0} (slot : Slot A) (g : ℕ) (f : A → A) (t : A) → found g slot ≡ Some t
     → changed g f slot ≡ record { generations = g + 1; live = Some (f t) }
@@ -124,11 +113,6 @@ object_gone {A} slots n t kept live =
     slots_put slots n kept _
     ∙ ap (λ (v : Slot A). put (slots_of slots) n.creator (put (slots_of slots n.creator) n.slot v))
     (sym (emptied_found (slots_of slots n.creator n.slot) n.generation t live))
-
--- an object begins
-pub object_made : {A : Type 0} (slots : List (List (Slot A))) (n : Id) (x : A) → IsKept slots n
-    → slots_of (with_slot slots n (record { generations = n.generation + 1; live = Some x })) ≡ made (slots_of slots) n x
-object_made slots n x kept = slots_put slots n kept _
 
 -- how a slot is exchanged: its row is taken out, and put back
 pub slot_exchanged : {A : Type 0} (slots between after : List (List (Slot A))) (n : Id) (slot : Slot A) (empty row next : List (Slot A))

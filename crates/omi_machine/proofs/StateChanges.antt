@@ -1,5 +1,5 @@
 -- The state of what is kept, with one object or one thread changed.
-use Rattle.std.proofs.Common.{◌≡◌, ◌<◌, ◌==◌, ◌+◌, ℕ, Bool, true, false, List, length, Option, Some, None, if◌then◌else◌, refl, sym, ap, ◌∙◌, set-set, length-set}
+use Rattle.std.proofs.Common.{◌≡◌, ◌<◌, ◌==◌, ◌+◌, ℕ, Bool, true, false, List, length, Option, Some, if◌then◌else◌, refl, sym, ap, ◌∙◌, set-set, length-set}
 use mathlib.Core.Path.{fun_ext}
 use Rattle.std.specs.Prelude.{slice_get, slice_set, unwrap_or}
 use Rattle.omi_model.specs.declared.id.Id.{Id}
@@ -17,7 +17,7 @@ use Rattle.omi_machine.specs.KeptSlots.{IsKept, with_slot}
 use Rattle.omi_numbers.specs.declared.variables.TheConstants.{MAX_ACTIVE_LEVELS_VAR}
 use Rattle.omi_model.specs.Opening.{waiting_worker}
 use Rattle.omi_model.specs.Put.{named, on, put}
-use Rattle.omi_model.specs.Settings.{with_lock, with_set, with_variable}
+use Rattle.omi_model.specs.Settings.{with_set, with_variable}
 use Rattle.omi_model.specs.State.{State, region_of, task_of}
 use Rattle.omi_machine.proofs.KeptLists.{by_number}
 use Rattle.omi_machine.proofs.KeptSlotLemmas.{got, object_changed, slot_twice}
@@ -118,19 +118,6 @@ module _ (s : Kept) (between after : List (List (Slot Region))) (i : ℕ) (k : T
 pub one_region : (s : State) (n : Rid) (r q : Region) → region_of s n ≡ Some r → region_of s n ≡ Some q
     → r ≡ q
 one_region s n r q a b = let same : Some r ≡ Some q = sym a ∙ b in cc same
-
--- what is kept of the locks, where more of them are kept
-module _ (s : Kept) (between : List (Option ℕ))
-    (same : (k : ℕ) → unwrap_or (slice_get between k) None ≡ unwrap_or (slice_get s.locks k) None) where
-  pub locks_same : state_of (record s { locks = between }) ≡ state_of s
-  locks_same = ap (λ (m : ℕ → Option ℕ). record (state_of s) { locks = m }) (fun_ext same)
-
-  pub lock_changed : (after : List (Option ℕ)) (k : ℕ) (holder : Option ℕ) → k < length between
-      → after ≡ slice_set between k holder
-      → state_of (record s { locks = after }) ≡ with_lock (state_of s) k holder
-  lock_changed after k holder within is =
-      ap (λ (m : ℕ → Option ℕ). record (state_of s) { locks = m })
-      (ap (λ (xs : List (Option ℕ)). by_number xs None) is ∙ place_put between k holder None within ∙ ap (λ (m : ℕ → Option ℕ). put m k holder) (fun_ext same))
 
 -- a variable of the current task set
 module _ (s : Kept) (between after : List (List (Slot Task))) (i icv value : ℕ) (k : Tid) (v : Slot Task)

@@ -23,11 +23,6 @@ pub innermost_of : (other : Option Group) (k : Tid) (n : ℕ) (g : Group) → in
 innermost_of other k zero g is = absurd (none_some refl is)
 innermost_of other k (suc n) g is = is
 
-pub innermost_else : (other : Option Group) (k : Tid) (n : ℕ) → innermost_or None k n ≡ None
-    → innermost_or other k n ≡ other
-innermost_else other k zero is = refl
-innermost_else other k (suc n) is = absurd (none_some is refl)
-
 -- the innermost open group of a task is one of its own, else it is the other one
 pub innermost_cases : (other : Option Group) (k : Tid) (n : ℕ) (g : Group) → innermost_or other k n ≡ Some g
     → (other ≡ Some g) ⊎ ((g.owner ≡ k) × (suc g.index ≡ n))

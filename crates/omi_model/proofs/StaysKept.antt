@@ -726,16 +726,6 @@ stays_step p s i e next step =
             let (w', found_w, alike) = (keeps_list s i zs).tasks n w child in
             inr (inr (n, w', found_w, alike.generating ∙ by))
 
--- over an event that takes no task away, each live task stays
-pub stays_whole : (p : Program) (s : State) (i : ℕ) (e : Event) (next : State) → is_free e ≡ false → Step p s i e next
-    → (k : Tid) (t : Task) → task_of s k ≡ Some t → (v : Task) × (task_of next k ≡ Some v) × IsSameTask t v
-stays_whole p s i e next other step k t live =
-    let m = move_of p s i e next step in
-    let zs : List Item = stays (encounter s i) e m.item m.behind in
-    let middle : State = moved_on s i e m.item m.behind in
-    (keeps_trans s middle next (keeps_list s i zs)
-    (from_some (KeepsAll middle) (effect p middle i e m.item) next m.effect_is (keeps_effect p middle i e m.item other m.rule_moved))).tasks k t live
-
 -- ---- tasks that are needed
 
 -- one that has begun, and one that waits to begin

@@ -493,14 +493,3 @@ move_of p s i e after_step step = record {
   rule_moved = rule_moved s i e step.legal.item (stays (encounter s i) e step.legal.item step.legal.behind) step.legal.rule;
   effect_is = sym (ap (option_and_then (moved p s i e)) step.legal.taken) ∙ step.after_is;
 }
-
--- a law between a state and the next one: it holds of the list's move and of the effect, and of both in a row
-pub step_law : (p : Program) (L : State → State → Type 0) → ((s t u : State) → L s t → L t u → L s u)
-    → ((s : State) (i : ℕ) (zs : List Item) → L s (with_list s i zs))
-    → ((s : State) (i : ℕ) (e : Event) (y : Item) → Rule s i e y → IfSome (effect p s i e y) (L s))
-    → (s : State) (i : ℕ) (e : Event) (next : State) → Step p s i e next → L s next
-step_law p L trans lists effects s i e next step =
-    let m = move_of p s i e next step in
-    let middle : State = moved_on s i e m.item m.behind in
-    trans s middle next (lists s i (stays (encounter s i) e m.item m.behind))
-    (from_some (L middle) (effect p middle i e m.item) next m.effect_is (effects middle i e m.item m.rule_moved))

@@ -1,6 +1,5 @@
 -- Parts of seats: a part that a seat knows is that of one worker, or the inspector's.
-use Rattle.std.proofs.Common.{◌≡◌, [], ◌∷◌, sym, ap, ◌∙◌}
-use Rattle.omi_seat.specs.Seats.{Seated}
+use Rattle.std.proofs.Common.{◌≡◌, [], ◌∷◌, ap}
 use Rattle.omi_seat.proofs.Seats.{head_is}
 use Rattle.omi_park.specs.declared.known.InspectorPart.{InspectorPart}
 use Rattle.omi_park.specs.declared.known.Part.{Part}
@@ -20,8 +19,3 @@ worker_is x y same = ap (worker_or x) (head_is (part.Worker x) (part.Worker y) s
 
 pub inspector_is : (i j : InspectorPart) → part.Inspector i ∷ [] ≡ part.Inspector j ∷ [] → i ≡ j
 inspector_is i j same = ap (inspector_or i) (head_is (part.Inspector i) (part.Inspector j) same)
-
--- a seat stands for one worker at most, and for one inspector
-pub one_worker : (x y : WorkerPart) (me : Seated Part) → me ≡ (part.Worker x ∷ [], []) → me ≡ (part.Worker y ∷ [], [])
-    → x ≡ y
-one_worker x y me is other = worker_is x y (ap (λ (m : Seated Part). m.0) (sym is ∙ other))

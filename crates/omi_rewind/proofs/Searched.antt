@@ -7,7 +7,6 @@ use Rattle.omi_script.specs.declared.program.Program.{Program}
 use Rattle.omi_core.specs.declared.schedule.Schedule.{Schedule}
 use Rattle.omi_core.specs.declared.schedule.Schedule.TheVariants as schedule
 use Rattle.omi_core.specs.Schedules.{IsListed}
-use Rattle.omi_run_lists.specs.declared.made.Made.{Made}
 use Rattle.omi_rewind.specs.declared.test.Test.{Test}
 use Rattle.omi_rewind.specs.Answers.{HoldsNowhere, IsFirst, IsWithin}
 use Rattle.omi_rewind.specs.Rewound.{IsLater, Rewound, steps_in, words_at}
@@ -43,16 +42,6 @@ goes_one a b c last goes more later one at =
     let low : steps_in c ≤ last = omega (arith, more, one) in
     record { later = later_two a b c goes.later later; within = inl low; at = at ∙ goes.at }
 
-pub goes_wanting : (a b c : Rewound) (last : ℕ) → GoesUntil a b last → IsLater b c
-    → c.run.made.items ≡ b.run.made.items → c.at ≡ b.at → GoesUntil a c last
-goes_wanting a b c last goes later same at =
-    let steps : steps_in c ≡ steps_in b = ap (λ (ms : List Made). length ms) same in
-    record { later = later_two a b c goes.later later; within = go steps goes.within; at = at ∙ goes.at }
-  where
-    go : steps_in c ≡ steps_in b → IsWithin a b last → IsWithin a c last
-    go steps (inl low) = let few : steps_in c ≤ last = omega (arith, low, steps) in inl few
-    go steps (inr none) = inr (same ∙ none)
-
 -- ---- a test
 
 module _ (test : Test) (w : List ℕ) where
@@ -65,9 +54,6 @@ module _ (test : Test) (w : List ℕ) where
       go (inl less) = none m less within
       go (inr more) =
           let same : m ≡ n = omega (arith, below, more) in ap (λ k. holds test w (words_at a k)) same ∙ not
-
-  pub nowhere_none : (a : Rewound) → HoldsNowhere a test w 0
-  nowhere_none a m below within = absurd (omega (arith, below))
 
   -- the run goes on by a step behind which it doesn't hold
   pub nowhere_later : (a b : Rewound) → IsLater a b → steps_in b ≡ steps_in a + 1

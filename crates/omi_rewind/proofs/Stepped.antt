@@ -25,8 +25,7 @@ use Rattle.omi_core.specs.Histories.{HasHistory}
 use Rattle.omi_core.specs.RunSteps.{IsStep, event_of, made_of}
 use Rattle.omi_core.specs.Runs.{Run, events_in}
 use Rattle.omi_core.specs.Schedules.{IsDrawn, IsListed, next_draw, thread_at, threads_by}
-use Rattle.omi_core.proofs.RecordedRuns.{thread_known}
-use Rattle.omi_core.proofs.ScheduledSteps.{next_drawn}
+use Rattle.omi_core.proofs.ScheduledSteps.{next_drawn, thread_known}
 use Rattle.omi_rewind.specs.declared.limits.TheConstants.{COPY_EVERY, LAST_STEP}
 use Rattle.omi_rewind.specs.Keeps.{IsCopied, KeepsRewind, commits_done}
 use Rattle.omi_rewind.specs.Rewound.{IsLater, Rewound, ShowsReached, done_in, events_until, steps_in, words_at, words_behind}

@@ -25,7 +25,6 @@ use Rattle.omi_pc.specs.declared.frame.Opened.TheVariants as opened
 use Rattle.omi_pc.specs.declared.team_counter.WorkerCounter.{WorkerCounter}
 use Rattle.omi_pc.specs.Moves.{context_under}
 use Rattle.omi_pc.specs.OpenBodies.{IsCalled}
-use Rattle.omi_step_words.specs.Placed.{AreContextsPlaced}
 use Rattle.omi_model.specs.declared.freeable.Freeable.{Freeable}
 use Rattle.omi_model.specs.declared.freeable.Freeable.TheVariants as freeable
 use Rattle.omi_model.proofs.ListLaws.{may_pass}
@@ -69,14 +68,6 @@ bodies_are_of_bodies p s i = record {
   calls = λ c g x f fs called o. (o.0, called_says_nothing p s c x (f ∷ fs) called, subst (λ (d : Context). KeepsBodies p s i d (f ∷ fs)) (sym (called_under c x called)) o);
   returns = λ c f fs called o. subst (λ (d : Context). KeepsBodies p s i d fs) (called_under c f.opened called) o.2;
   again = λ c f left fs called o. (o.0, tt, subst (λ (d : Context). KeepsBodies p s i d fs) (called_under c f.opened called) o.2);
-}
-
-pub places_are_of_bodies : (w : List ℕ) → IsOfBodies (AreContextsPlaced w)
-places_are_of_bodies w = record {
-  advances = λ c f fs o. o;
-  calls = λ c g x f fs called o. (o.0, subst (λ (d : Context). AreContextsPlaced w d (f ∷ fs)) (sym (called_under c x called)) o);
-  returns = λ c f fs called o. subst (λ (d : Context). AreContextsPlaced w d fs) (called_under c f.opened called) o.1;
-  again = λ c f left fs called o. (o.0, subst (λ (d : Context). AreContextsPlaced w d fs) (called_under c f.opened called) o.1);
 }
 
 -- ---- what stands in front of a list

@@ -1,16 +1,15 @@
 -- Counters at which neither a search nor a look stands: behind most events a thread comes to one.
-use Rattle.std.proofs.Common.{◌≡◌, Bool, true, false, List, [], ◌∷◌, None, refl, sym, subst, if◌then◌else◌}
+use Rattle.std.proofs.Common.{◌≡◌, Bool, true, false, [], None, refl, sym, subst, if◌then◌else◌}
 use Rattle.omi_script.specs.declared.program.Program.{Program}
 use Rattle.omi_pc.specs.declared.actor.Actor.{Actor}
 use Rattle.omi_pc.specs.declared.counter.Counter.{Counter}
 use Rattle.omi_pc.specs.declared.counter.Counter.TheVariants as counter
 use Rattle.omi_pc.specs.declared.counter.PlainCounter.{PlainCounter}
 use Rattle.omi_pc.specs.declared.frame.Barrier.TheVariants.{Implicit}
-use Rattle.omi_pc.specs.declared.frame.Frame.{Frame}
 use Rattle.omi_pc.specs.declared.team_counter.BarrierCounter.TheVariants as barrier
 use Rattle.omi_pc.specs.declared.team_counter.JoinCounter.{JoinCounter}
 use Rattle.omi_pc.specs.declared.team_counter.WorkerCounter.{WorkerCounter}
-use Rattle.omi_pc.specs.Moves.{closed, closed_in, returned, worked, back_to_work}
+use Rattle.omi_pc.specs.Moves.{returned, worked, back_to_work}
 use Rattle.omi_pc.specs.Settle.{settled}
 use Rattle.omi_pc.proofs.NextCounters.{HoldsNext, returned_next, settled_next, worked_next, working_next}
 use Rattle.omi_plain.specs.PlainSteps.{task_counter}
@@ -77,13 +76,6 @@ rests_working p a alone = working_next Rests rests_next p a alone
 
 pub rests_returned : (p : Program) (a : Actor) → Rests a.counter → Rests (returned p a).counter
 rests_returned p a now = returned_next Rests rests_next p a now
-
-pub rests_closed : (a : Actor) → Rests a.counter → Rests (closed a).counter
-rests_closed a now = go a.stack
-  where
-    go : (fs : List Frame) → Rests (closed_in a fs).counter
-    go [] = now
-    go (f ∷ fs) = now
 
 pub rests_task : (b : Bool) → Rests (task_counter b)
 rests_task true = record { fresh = seeks_none refl refl (λ a. refl); look = λ a h. tt }

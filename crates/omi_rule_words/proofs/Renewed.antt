@@ -267,11 +267,6 @@ module _ (w : List ℕ) (m n : Memory) (s : State) (rs : Slots Region) (ts : Slo
       found_after TaskRenews k.0.generation (s.tasks k.0.creator k.0.slot) (ts k.0.creator k.0.slot)
       (task_slots k.0.creator k.0.slot) t is
 
-  some_task_before : (k : Tid) → IsSome (task_of after k) → IsSome (task_of s k)
-  some_task_before k is =
-      some_before TaskRenews k.0.generation (s.tasks k.0.creator k.0.slot) (ts k.0.creator k.0.slot)
-      (task_slots k.0.creator k.0.slot) is
-
   some_task_after : (k : Tid) → IsSome (task_of s k) → IsSome (task_of after k)
   some_task_after k is =
       some_after TaskRenews k.0.generation (s.tasks k.0.creator k.0.slot) (ts k.0.creator k.0.slot)
