@@ -1,4 +1,4 @@
-//! Tests of omi_layout, omi_rep and omi_text: layouts, programs that suit them, and printed texts.
+//! Tests of omi_layout, omi_rep, omi_text and omi_listing: layouts, programs that suit them, printed texts, and tables.
 #![tactic(auto)]
 
 #[cfg(test)]
@@ -8,4 +8,10 @@ mod event_tests;
 #[cfg(test)]
 mod layout_tests;
 #[cfg(test)]
+mod listing_tests;
+#[cfg(test)]
 mod report_tests;
+#[cfg(test)]
+mod short_tests;
+#[cfg(test)]
+mod views;

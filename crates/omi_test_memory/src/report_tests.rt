@@ -1,144 +1,17 @@
 //! Worked reports, and the texts of events.
 
-use omi_fixture_rows::FORKED;
-use omi_model::{
-    HeadRow, Id, MemberRow, MemberRows, RegionRow, RegionRows, Rid, TaskRow, TaskRows, ThreadPart,
-    ThreadRow, ThreadRows, Tid, View,
+use crate::views::{
+    Plain, bare, forked_view, initial_region, initial_task, region, task, with_region, with_task,
+    with_thread, with_unknown,
 };
+use omi_fixture_rows::FORKED;
+use omi_model::{Id, Rid, TaskRow, Tid, View};
 use omi_numbers::{kind_name, state_name};
 use omi_script::NumList;
 use omi_text::report_text;
 use std::alloc::{AllocError, Global};
 use std::process::Abort;
 use std::test::*;
-
-fn task(creator: u8, slot: u16) -> Tid {
-    Tid(Id {
-        creator,
-        slot,
-        generation: 0,
-    })
-}
-
-fn region(creator: u8, slot: u16) -> Rid {
-    Rid(Id {
-        creator,
-        slot,
-        generation: 0,
-    })
-}
-
-/// A view with no rows.
-fn bare(alloc: Global, threads: u8, debug: u64) -> View {
-    View {
-        head: HeadRow {
-            version: 201811,
-            threads,
-            debug,
-            procs: 4,
-            max_active: 8,
-        },
-        threads: ThreadRows::new(alloc),
-        regions: RegionRows::new(alloc),
-        tasks: TaskRows::new(alloc),
-    }
-}
-
-/// The view with one more thread, of its native id.
-fn with_thread(
-    mut view: View,
-    thread: u8,
-    state: Option<(u32, u64)>,
-    number: Option<u64>,
-    current: Option<Tid>,
-) -> Result<View, AllocError> {
-    view.threads.push(ThreadRow {
-        native: 1000 + u64::from(thread),
-        found: Some(ThreadPart {
-            thread,
-            state,
-            number,
-            current,
-        }),
-    })?;
-    Ok(view)
-}
-
-/// What is told of a region but for its members.
-#[derive(Clone, Copy)]
-struct Plain {
-    slot: u16,
-    func: u64,
-    /// levels-var and active-levels-var.
-    levels: (u64, u64),
-    enclosing: Option<Rid>,
-}
-
-/// The initial region, whose function has this address.
-fn initial_region(func: u64) -> Plain {
-    Plain {
-        slot: 0,
-        func,
-        levels: (0, 0),
-        enclosing: None,
-    }
-}
-
-/// The view with one more region of thread 0, with these members, each a thread and the slot of its task.
-fn with_region(
-    alloc: Global,
-    mut view: View,
-    plain: Plain,
-    members: &[(u8, u16)],
-) -> Result<View, AllocError> {
-    let mut rows = MemberRows::new(alloc);
-    for (thread, slot) in members {
-        rows.push(MemberRow {
-            thread: *thread,
-            task: task(0, *slot),
-        })?;
-    }
-    view.regions.push(RegionRow {
-        region: region(0, plain.slot),
-        func: plain.func,
-        levels: plain.levels.0,
-        active: plain.levels.1,
-        size: members.len() as u64,
-        enclosing: plain.enclosing,
-        members: rows,
-    })?;
-    Ok(view)
-}
-
-/// The view with one more task, of this nthreads-var.
-fn with_task(mut view: View, mut row: TaskRow, nthreads: &[u64]) -> Result<View, AllocError> {
-    for n in nthreads {
-        row.nthreads.push(*n)?;
-    }
-    view.tasks.push(row)?;
-    Ok(view)
-}
-
-/// The row of the initial task, whose function has this address. Its nthreads-var has no values yet.
-fn initial_task(alloc: Global, func: u64) -> TaskRow {
-    TaskRow {
-        task: task(0, 0),
-        thread: 0,
-        implicit: 1,
-        region: region(0, 0),
-        func,
-        generating: None,
-        scheduling: None,
-        exit: 0x7f00000fffc0,
-        enter: 0,
-        tool: 0,
-        dyn_var: 0,
-        nthreads: NumList::new(alloc),
-        sched: 1,
-        device: 0,
-        final_task: 0,
-    }
-}
 
 /// The report of a program of one thread at its initial task.
 fn alone(
@@ -205,36 +78,9 @@ fn states_are_not_kept(rt: HostRuntime) -> Result<(), Fail> {
     Ok(())
 }
 
-/// The tasks of the two threads at the commit.
-fn with_commit_tasks(alloc: Global, view: View) -> Result<View, AllocError> {
-    let mut row = initial_task(alloc, 0x400000);
-    row.task = task(0, 1);
-    row.region = region(0, 1);
-    row.generating = Some(task(0, 0));
-    row.scheduling = Some(task(0, 0));
-    row.exit = 0x7f00000fff80;
-    let view = with_task(view, row, &[2])?;
-    let mut row = initial_task(alloc, 0x400010);
-    row.enter = 0x7f00000fffa0;
-    with_task(view, row, &[2])
-}
-
 #[test]
 fn the_commit(rt: HostRuntime) -> Result<(), Fail> {
-    let alloc = rt.alloc();
-    let view = bare(alloc, 2, 1);
-    let view = with_thread(view, 0, Some((0x101, 0)), Some(0), Some(task(0, 1)))?;
-    let view = with_thread(view, 1, Some((0x100, 0)), None, None)?;
-    let view = with_region(alloc, view, initial_region(0x400010), &[(0, 0)])?;
-    let forked = Plain {
-        slot: 1,
-        func: 0x400000,
-        levels: (1, 1),
-        enclosing: Some(region(0, 0)),
-    };
-    let view = with_region(alloc, view, forked, &[(0, 1), (1, 2)])?;
-    let view = with_commit_tasks(alloc, view)?;
-    let text = report_text(alloc, &view)?;
+    let text = report_text(rt.alloc(), &forked_view(rt.alloc())?)?;
     assert_eq!(rt; text.as_slice(), FORKED.as_bytes());
     Ok(())
 }
@@ -310,15 +156,6 @@ member 0 thread 0 task k0.3.0
 task k0.0.0 thread 0 kind implicit region r0.0.0 function 0xffffffffffffffff generating none scheduling none exit 0x7f00000fffc0 enter 0xabcdef tool 18446744073709551615
 icv dyn-var=2 nthreads-var=1,64,3,2 run-sched-var=5,7 default-device-var=4 final-task-var=3 implicit-task-var=1
 ";
-
-/// The view with one more context, of no thread.
-fn with_unknown(mut view: View, native: u64) -> Result<View, AllocError> {
-    view.threads.push(ThreadRow {
-        native,
-        found: None,
-    })?;
-    Ok(view)
-}
 
 /// Values that a damaged core may hold: a state and a schedule kind that no table lists, and a context of no thread. The
 /// region is one at the limit of active levels.
