@@ -33,11 +33,11 @@ enum {
   THREAD_NUM_VAR = 13
 };
 
-/* An address space. Each of its words lies in the segment of its layout table. */
+/* An address space, with its layout table as the proved library judged it. Each of its words lies in the segment of the table. */
 struct space {
   ompd_address_space_context_t *context;
   ompd_seg_t segment;
-  uint64_t table[OMI_TABLE_WORDS];
+  omi_judged table;
 };
 
 /* What a handle stands for: an address space, or an object in it by its record in the target. */
@@ -100,7 +100,7 @@ ompd_rc_t code_of(uint32_t code);
 /* Whether to ask again: the code was that of a needed word, which is known now. Else `rc` is the call's. */
 bool needs_word(struct words *words, uint32_t code, uint64_t place);
 
-#define TABLE(space) (space)->table, OMI_TABLE_WORDS
+#define TABLE(space) &(space)->table
 #define WORDS(words) TABLE((words).of.space), (words).known, (words).count
 
 /* Sets `answer` by an inquiry over WORDS(words), which is asked until it needs no further word. */

@@ -4,7 +4,7 @@
  * words that are known so far, and answers either its result or, with the code OMI_NEEDS_WORD, the byte address of a word that isn't
  * known. C reads that word, adds it to the known ones and asks again.
  *
- * Each inquiry takes the words of the target's layout table first (OMI_TABLE_WORDS of them), and then the words that are known.
+ * Each inquiry takes the target's layout table first, as omi_judge_table judged it, and then the words that are known.
  */
 #ifndef OMI_C_H
 #define OMI_C_H
@@ -19,6 +19,15 @@
 /* The codes of an answer: 0, a return code of OMPD (1 to 11), or that of a word that is needed. */
 #define OMI_OK 0
 #define OMI_NEEDS_WORD 255
+
+/* A layout table that was judged: its code is OMI_OK, an error (4), where the place is the number of the word that is wrong, or incompatible (7).
+ * Only omi_judge_table makes one, and nothing else changes it: the library takes the words for a layout where the code is OMI_OK. Where it
+ * isn't, each inquiry answers this code and place. */
+typedef struct {
+  uint32_t code;
+  uint64_t place;
+  uint64_t words[OMI_TABLE_WORDS];
+} omi_judged;
 
 /* A word that is known: what stands at a byte address of the target, which is a multiple of 8. Where nothing is mapped there, the word
  * is 0. */
@@ -98,15 +107,15 @@ typedef struct {
   uint8_t clause;
 } omi_audited;
 
-#define OMI_WORDS const uint64_t *table, size_t table_words, const omi_known *known, size_t known_count
+#define OMI_WORDS const omi_judged *table, const omi_known *known, size_t known_count
 
 /* Of the library itself. */
 uint64_t omi_table_words(void);
 uint64_t omi_api_version(void);
 uint64_t omi_version_text(uint8_t *to, size_t room);         /* the text's length */
 
-/* The code for a layout table: OMI_OK, an error (4), with place: the number of the word that is wrong, or incompatible (7). */
-omi_number omi_judge_table(const uint64_t *table, size_t table_words);
+/* Judges the words of a layout table. */
+omi_judged omi_judge_table(const uint64_t *table, size_t table_words);
 
 /* Threads and regions. A kind of native ids is that of the target's thread ids; here kind 0 is the only one. */
 omi_found omi_thread_with_id(OMI_WORDS, uint32_t kind, uint64_t native);
@@ -137,14 +146,14 @@ omi_number omi_tool_data(OMI_WORDS, uint32_t scope, omi_object object);
 
 /* OpenMP's version: that of the target's runtime as year and month, and the library's as text. */
 omi_number omi_openmp_version(OMI_WORDS);
-omi_text omi_openmp_text(const uint64_t *table, size_t table_words, uint8_t *to, size_t room);
+omi_text omi_openmp_text(const omi_judged *table, uint8_t *to, size_t room);
 
 /* Enumerations, behind the entry of a number; 258 (0x102) is before the first state, 0 before the first variable. */
-omi_entry omi_next_state(const uint64_t *table, size_t table_words, uint32_t current, uint8_t *to, size_t room);
-omi_entry omi_next_icv(const uint64_t *table, size_t table_words, uint32_t current, uint8_t *to, size_t room);
+omi_entry omi_next_state(const omi_judged *table, uint32_t current, uint8_t *to, size_t room);
+omi_entry omi_next_icv(const omi_judged *table, uint32_t current, uint8_t *to, size_t room);
 
 /* The audit of a target's records, whose words stand one behind another from the byte address `start` on. No other word counts as mapped. */
-omi_audited omi_audit(const uint64_t *table, size_t table_words, uint64_t start, const uint64_t *words, size_t count);
+omi_audited omi_audit(const omi_judged *table, uint64_t start, const uint64_t *words, size_t count);
 
 /* The text that names a field, by its number, and `layout` for 0. The code is that of bad input (3) where no field has the number. */
 omi_text omi_field_text(uint32_t field, uint8_t *to, size_t room);

@@ -36,7 +36,7 @@ static ompd_rc_t look_up(ompd_address_space_context_t *context, ompd_address_t *
   return refuse(rc, "the debugger's callback symbol_addr_lookup failed");
 }
 
-static ompd_rc_t read_table(struct space *space, uint64_t address)
+static ompd_rc_t read_table(const struct space *space, uint64_t address, uint64_t words[OMI_TABLE_WORDS])
 {
   for (size_t place = 0; place < OMI_TABLE_WORDS; place++) {
     omi_known known;
@@ -45,17 +45,18 @@ static ompd_rc_t read_table(struct space *space, uint64_t address)
       return refuse(rc, "the debugger's callback read_memory or device_to_host failed");
     if (!known.mapped)
       return refuse(ompd_rc_error, "the layout table isn't mapped, or stands at no word's address");
-    space->table[place] = known.word;
+    words[place] = known.word;
   }
   return ompd_rc_ok;
 }
 
 /* The version is the table's first word, and 0 until the table is published. */
-static ompd_rc_t judge_table(const struct space *space)
+static ompd_rc_t judge_table(struct space *space, const uint64_t words[OMI_TABLE_WORDS])
 {
-  if (space->table[0] == 0)
+  if (words[0] == 0)
     return refuse(ompd_rc_unavailable, "the runtime hasn't published its layout table yet");
-  ompd_rc_t rc = code_of(omi_judge_table(TABLE(space)).code);
+  space->table = omi_judge_table(words, OMI_TABLE_WORDS);
+  ompd_rc_t rc = code_of(space->table.code);
   if (rc == ompd_rc_incompatible)
     return refuse(rc, "the layout table is of a version that this library doesn't read");
   return rc == ompd_rc_ok ? rc : refuse(rc, "the layout table is damaged");
@@ -82,10 +83,11 @@ static ompd_rc_t open_space(ompd_address_space_context_t *context, ompd_address_
   if (rc == ompd_rc_ok)
     rc = look_up(context, &table);
   struct space opened = {.context = context, .segment = table.segment};
+  uint64_t words[OMI_TABLE_WORDS];
   if (rc == ompd_rc_ok)
-    rc = read_table(&opened, table.address);
+    rc = read_table(&opened, table.address, words);
   if (rc == ompd_rc_ok)
-    rc = judge_table(&opened);
+    rc = judge_table(&opened, words);
   return rc == ompd_rc_ok ? keep_space(&opened, handle) : rc;
 }
 

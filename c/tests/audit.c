@@ -41,7 +41,8 @@ static void read_core(struct memory *memory, const char *folder, const char *nam
 
 static omi_audited audited(const struct memory *memory)
 {
-  return omi_audit(memory->table, OMI_TABLE_WORDS, memory->start, memory->words, memory->count);
+  omi_judged table = omi_judge_table(memory->table, OMI_TABLE_WORDS);
+  return omi_audit(&table, memory->start, memory->words, memory->count);
 }
 
 static uint64_t *word(const struct memory *memory, uint64_t address)
@@ -122,24 +123,26 @@ static void ranges(struct memory *memory)
 {
   uint64_t version = address_of(memory, memory->table[RT_PLACE], RT_VERSION, 0);
   size_t before = (version - memory->start) / WORD;
-  const uint64_t *table = memory->table, *words = memory->words;
-  EXPECT(is_no(omi_audit(table, OMI_TABLE_WORDS, memory->start, words, before), version, RT_VERSION, 1));
-  EXPECT(is_no(omi_audit(table, OMI_TABLE_WORDS, memory->start, words, 0), version, RT_VERSION, 1));
-  EXPECT(is_no(omi_audit(table, OMI_TABLE_WORDS, memory->start + 1, words, memory->count), version, RT_VERSION, 1));
-  EXPECT(is_no(omi_audit(table, OMI_TABLE_WORDS, UINT64_MAX - 7, words, memory->count), version, RT_VERSION, 1));
-  EXPECT(is_no(omi_audit(table, OMI_TABLE_WORDS, version + WORD, words + before + 1, memory->count - before - 1), version, RT_VERSION, 1));
-  EXPECT(omi_audit(table, OMI_TABLE_WORDS, version, words + before, memory->count - before).yes);
+  const omi_judged judged = omi_judge_table(memory->table, OMI_TABLE_WORDS), *table = &judged;
+  const uint64_t *words = memory->words;
+  EXPECT(is_no(omi_audit(table, memory->start, words, before), version, RT_VERSION, 1));
+  EXPECT(is_no(omi_audit(table, memory->start, words, 0), version, RT_VERSION, 1));
+  EXPECT(is_no(omi_audit(table, memory->start + 1, words, memory->count), version, RT_VERSION, 1));
+  EXPECT(is_no(omi_audit(table, UINT64_MAX - 7, words, memory->count), version, RT_VERSION, 1));
+  EXPECT(is_no(omi_audit(table, version + WORD, words + before + 1, memory->count - before - 1), version, RT_VERSION, 1));
+  EXPECT(omi_audit(table, version, words + before, memory->count - before).yes);
 }
 
 static void tables(struct memory *memory)
 {
   uint64_t *table = memory->table, start = memory->start;
-  omi_audited got = omi_audit(table, OMI_TABLE_WORDS - 1, start, memory->words, memory->count);
+  omi_judged judged = omi_judge_table(table, OMI_TABLE_WORDS - 1);
+  omi_audited got = omi_audit(&judged, start, memory->words, memory->count);
   EXPECT(got.code == 7 && got.place == 0 && !got.yes && got.clause == 0);
   for (size_t place = 0; place < OMI_TABLE_WORDS; place++) {
     uint64_t before = table[place];
     table[place] = UINT64_MAX;
-    omi_number judged = omi_judge_table(table, OMI_TABLE_WORDS);
+    judged = omi_judge_table(table, OMI_TABLE_WORDS);
     got = audited(memory);
     EXPECT(judged.code != OMI_OK && got.code == judged.code && got.place == judged.place);
     EXPECT(!got.yes && got.records == 0 && got.addr == 0 && got.field == 0 && got.clause == 0);

@@ -134,6 +134,7 @@ static ompd_rc_t alloc_memory(ompd_size_t size, void **memory)
     return ompd_rc_nomem;
   block[front - 1] = front;
   *memory = block + front;
+  watch.taken++;
   watch.blocks++;
   return ompd_rc_ok;
 }

@@ -49,9 +49,9 @@ enum callback {
   NO_CALLBACK, ALLOC_MEMORY, FREE_MEMORY, SIZEOF_TYPE, SYMBOL_ADDR_LOOKUP, READ_MEMORY, DEVICE_TO_HOST
 };
 
-/* What the callbacks were asked since the last watch_calls, and how many blocks of memory are out. */
+/* What the callbacks were asked since the last watch_calls, how many blocks of memory they gave, and how many are out. */
 struct watch {
-  unsigned long calls, reads, unmapped;
+  unsigned long calls, reads, unmapped, taken;
   uint64_t first_read;
   unsigned long fail_at;   /* the number of the call that fails, and 0 for none */
   ompd_rc_t fail_with;

@@ -36,12 +36,13 @@ static _Noreturn void refuse(omi_audited audited, const char *made_at)
 /* Nothing is judged before the records are published, and in a child that was forked before its own are. */
 static void judge(const char *made_at)
 {
-  const uint64_t *table = published_table();
-  if (!table || !is_published())
+  const uint64_t *words = published_table();
+  if (!words || !is_published())
     return;
   judged++;
+  omi_judged table = omi_judge_table(words, TABLE_WORDS);
   omi_audited audited =
-    omi_audit(table, TABLE_WORDS, address_of(arenas.runtime), (const uint64_t *)arenas.runtime, arenas.words);
+    omi_audit(&table, address_of(arenas.runtime), (const uint64_t *)arenas.runtime, arenas.words);
   if (!audited.yes)
     refuse(audited, made_at);
 }

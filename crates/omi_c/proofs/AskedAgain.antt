@@ -7,7 +7,8 @@ use Rattle.omi_session.specs.declared.rc.Rc.{Rc}
 use Rattle.omi_session.specs.Reads.{Reads, Answer, Read, answer_on, addresses_on}
 use Rattle.omi_c.specs.declared.known.Known.{Known}
 use Rattle.omi_c.specs.Known.{is_unknown, known_at, known_or, word_at, word_known}
-use Rattle.omi_c.specs.Replies.{Lacks, Needs, asked_on, replied}
+use Rattle.omi_c.specs.declared.causes.Cause.TheVariants.{Needs}
+use Rattle.omi_c.specs.Replies.{asked_on, replied}
 use Rattle.omi_c.specs.AskedAgain.{Has, HoldsOnEach, ComesToAnswer, known_of, known_with, known_after}
 
 -- what is known stays known where more is
@@ -135,7 +136,7 @@ module _ (memory : Words) where
         ((unknown_among known (addresses_on memory reads) ≡ 0) × (asked_on known reads ≡ replied (answer_on memory reads)))
         ⊎ record {
           addr : ℕ;
-          needs : asked_on known reads ≡ Lacks (Needs addr);
+          needs : asked_on known reads ≡ Err (Needs addr);
           fewer : (more : List Known) → is_unknown (known ++ more) addr ≡ false
               → unknown_among (known ++ more) (addresses_on memory reads) < unknown_among known (addresses_on memory reads);
         }
@@ -145,7 +146,7 @@ module _ (memory : Words) where
       where
         here : asked_on known (Read addr more) ≡ asked_on known (more (memory addr))
         here =
-            ap (λ b. cond b (Lacks (Needs addr)) (asked_on known (more (word_at known addr)))) is
+            ap (λ b. cond b (Err (Needs addr)) (asked_on known (more (word_at known addr)))) is
             ∙ ap (λ word. asked_on known (more word)) (word_is known has addr is)
 
         go : Comes (more (memory addr)) → Comes (Read addr more)
@@ -162,7 +163,7 @@ module _ (memory : Words) where
     comes_first : (addr : ℕ) (more : Option ℕ → Reads A) → is_unknown known addr ≡ true → Comes (Read addr more)
     comes_first addr more is = inr (record {
       addr = addr;
-      needs = ap (λ b. cond b (Lacks (Needs addr)) (asked_on known (more (word_at known addr)))) is;
+      needs = ap (λ b. cond b (Err (Needs addr)) (asked_on known (more (word_at known addr)))) is;
       fewer = λ new there. (let rest = no_more known new (addresses_on memory (more (memory addr))) in
           let before = ap bit is in
           let then = ap bit there in
@@ -183,7 +184,7 @@ module _ (memory : Words) where
   same_result (Err rc) (Ok y) is = absurd cc
   same_result (Err rc) (Err other) is = cc
 
-  no_needs : {A : Type 0} (result : Result A Rc) (addr : ℕ) → replied result ≡ Lacks (Needs addr) → ⊥
+  no_needs : {A : Type 0} (result : Result A Rc) (addr : ℕ) → replied result ≡ Err (Needs addr) → ⊥
   no_needs (Ok x) addr is = cc
   no_needs (Err rc) addr is = cc
 

@@ -1,10 +1,6 @@
-pub mod KnownWords
-pub mod Causes
-pub mod Closed
 pub mod Asked
-pub mod Made
-pub mod Scoping
-pub mod Scoped
-pub mod Entries
-pub mod RangeTells
 pub mod AskedAgain
+pub mod Audited
+pub mod KnownWords
+pub mod RangeTells
+pub mod Scoped

@@ -1,12 +1,10 @@
 -- How replies are spelled in the answers that C gets.
-use Rattle.std.specs.Prelude.{ℕ, List, length}
+use Rattle.std.specs.Prelude.{ℕ, List, Ok, Err, length}
 use Rattle.omi_handle.specs.declared.handle.Held.{Held}
 use Rattle.omi_asktask.specs.declared.words.Frames.{Frames}
-use Rattle.omi_layout.specs.Valid.{word_named}
 use Rattle.omi_session.specs.declared.rc.Rc.{Rc}
-use Rattle.omi_session.specs.declared.rc.Rc.TheVariants.{Error, Incompatible, Incomplete}
+use Rattle.omi_session.specs.declared.rc.Rc.TheVariants.{Error, Incomplete}
 use Rattle.omi_session.specs.Rc.{code_of}
-use Rattle.omi_session.specs.Opening.{fault_code}
 use Rattle.omi_c.specs.declared.answers.Refusal.{Refusal}
 use Rattle.omi_c.specs.declared.answers.Object.{Object}
 use Rattle.omi_c.specs.declared.answers.Found.{Found}
@@ -15,7 +13,9 @@ use Rattle.omi_c.specs.declared.answers.State.{State}
 use Rattle.omi_c.specs.declared.answers.TaskFrames.{TaskFrames}
 use Rattle.omi_c.specs.declared.answers.Text.{Text}
 use Rattle.omi_c.specs.declared.answers.TheConstants.{OK, NEEDS_WORD}
-use Rattle.omi_c.specs.Replies.{Cause, WrongLength, Refused, Needs, Says, Reply, Gives, Lacks}
+use Rattle.omi_c.specs.declared.causes.Cause.{Cause}
+use Rattle.omi_c.specs.declared.causes.Cause.TheVariants.{NoLayout, Needs, Says}
+use Rattle.omi_c.specs.Replies.{Reply}
 
 -- the place that a return code names
 abbrev pub place_named : Rc → ℕ
@@ -23,8 +23,7 @@ place_named (Error addr field) = addr
 place_named rc = 0
 
 abbrev pub refusal_of : Cause → Refusal
-refusal_of WrongLength = record { code = code_of Incompatible; place = 0 }
-refusal_of (Refused fault) = record { code = code_of (fault_code 0 fault); place = word_named fault }
+refusal_of (NoLayout refusal) = refusal
 refusal_of (Needs addr) = record { code = NEEDS_WORD; place = addr }
 refusal_of (Says rc) = record { code = code_of rc; place = place_named rc }
 
@@ -35,8 +34,8 @@ abbrev pub found_by : Refusal → Found
 found_by r = record { code = r.code; place = r.place; object = no_object }
 
 abbrev pub found_of : Reply Held → Found
-found_of (Gives h) = record { code = OK; place = 0; object = record { addr = h.addr; life = h.life } }
-found_of (Lacks cause) = found_by (refusal_of cause)
+found_of (Ok h) = record { code = OK; place = 0; object = record { addr = h.addr; life = h.life } }
+found_of (Err cause) = found_by (refusal_of cause)
 
 -- the first number of a value that has several
 abbrev pub first_said : Rc → ℕ
@@ -51,15 +50,15 @@ abbrev pub number_by : Refusal → ℕ → Number
 number_by r first = record { code = r.code; place = r.place; number = first }
 
 abbrev pub number_of : Reply ℕ → Number
-number_of (Gives n) = record { code = OK; place = 0; number = n }
-number_of (Lacks cause) = number_by (refusal_of cause) (first_of cause)
+number_of (Ok n) = record { code = OK; place = 0; number = n }
+number_of (Err cause) = number_by (refusal_of cause) (first_of cause)
 
 abbrev pub state_by : Refusal → State
 state_by r = record { code = r.code; place = r.place; state = 0; wait = 0 }
 
 abbrev pub state_of : Reply (ℕ × ℕ) → State
-state_of (Gives s) = record { code = OK; place = 0; state = s.0; wait = s.1 }
-state_of (Lacks cause) = state_by (refusal_of cause)
+state_of (Ok s) = record { code = OK; place = 0; state = s.0; wait = s.1 }
+state_of (Err cause) = state_by (refusal_of cause)
 
 abbrev pub frames_by : Refusal → TaskFrames
 frames_by r = record {
@@ -72,7 +71,7 @@ frames_by r = record {
 }
 
 abbrev pub frames_of : Reply Frames → TaskFrames
-frames_of (Gives f) = record {
+frames_of (Ok f) = record {
   code = OK;
   place = 0;
   exit = f.exit;
@@ -80,11 +79,11 @@ frames_of (Gives f) = record {
   exit_flag = f.exit_flag;
   enter_flag = f.enter_flag;
 }
-frames_of (Lacks cause) = frames_by (refusal_of cause)
+frames_of (Err cause) = frames_by (refusal_of cause)
 
 abbrev pub text_by : Refusal → Text
 text_by r = record { code = r.code; place = r.place; length = 0 }
 
 abbrev pub text_of : Reply (List ℕ) → Text
-text_of (Gives bytes) = record { code = OK; place = 0; length = length bytes }
-text_of (Lacks cause) = text_by (refusal_of cause)
+text_of (Ok bytes) = record { code = OK; place = 0; length = length bytes }
+text_of (Err cause) = text_by (refusal_of cause)

@@ -1,11 +1,12 @@
 -- An inquiry that is asked again, each time with the word that it needs.
-use Rattle.std.specs.Prelude.{◌≡◌, ◌≢◌, ◌%◌, ℕ, zero, suc, true, false, List, [], ◌∷◌, ◌++◌, length, Option, Some, None, Result}
+use Rattle.std.specs.Prelude.{◌≡◌, ◌≢◌, ◌%◌, ℕ, zero, suc, true, false, List, [], ◌∷◌, ◌++◌, length, Option, Some, None, Result, Err}
 use Rattle.omi_word.specs.Words.{Words}
 use Rattle.omi_session.specs.declared.rc.Rc.{Rc}
 use Rattle.omi_session.specs.Reads.{Reads, answer_on, addresses_on}
 use Rattle.omi_c.specs.declared.known.Known.{Known}
 use Rattle.omi_c.specs.Known.{known_at, word_known}
-use Rattle.omi_c.specs.Replies.{Reply, Lacks, Needs, asked_on, replied}
+use Rattle.omi_c.specs.declared.causes.Cause.TheVariants.{Needs}
+use Rattle.omi_c.specs.Replies.{Reply, asked_on, replied}
 
 -- a memory has these words, and none at an address that is no multiple of 8. The first known word at an address counts
 pub record Has (known : List Known) (memory : Words) : Type 0 where
@@ -20,7 +21,7 @@ known_of addr None = record { addr = addr; word = 0; mapped = false }
 module _ (memory : Words) where
   -- what is known behind a reply: the word that it needs too
   abbrev pub known_with : {A : Type 0} → List Known → Reply A → List Known
-  known_with known (Lacks (Needs addr)) = known ++ known_of addr (memory addr) ∷ []
+  known_with known (Err (Needs addr)) = known ++ known_of addr (memory addr) ∷ []
   known_with known reply = known
 
   -- and behind so many of them

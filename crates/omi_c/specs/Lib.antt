@@ -3,7 +3,9 @@ pub mod Calls
 pub mod Replies
 pub mod Answers
 pub mod Opened
-pub mod Causes
+pub mod Missed
+pub mod Objects
+pub mod ControlVars
 pub mod Texts
 pub mod Scopes
 pub mod Initial

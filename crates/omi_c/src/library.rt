@@ -8,20 +8,19 @@ ghost use Rattle.omi_numbers.specs.declared.words.TheConstants.{OPENMP_VERSION};
 ghost use Rattle.omi_rep.specs.Records.{runtime_address};
 ghost use Rattle.omi_session.specs.Inquiry.{word_of};
 ghost use Rattle.omi_session.specs.Reads.{Answer};
-ghost use Rattle.omi_c.specs.Replies.{Spells, TakesNone};
 ghost use Rattle.omi_c.specs.Answers.{number_of};
-ghost use Rattle.omi_c.specs.Judged.{IsJudged};
-ghost use Rattle.omi_c.specs.Texts.{SpellsText, put_over, whole};
+ghost use Rattle.omi_c.specs.Replies.{asked_in};
+ghost use Rattle.omi_c.specs.Texts.{put_over, text_in};
 
 use crate::answers::{Number, OK, Text};
-use crate::closing::number;
+use crate::causes::{Cause, replied};
+use crate::judged::Judged;
 use crate::known::Known;
-use crate::opening::{layout_of, lowest_first, open};
+use crate::opening::{lowest_first, open};
 use crate::texts::put;
 use omi_calls::ToHost;
 use omi_layout::TABLE_WORDS;
 use omi_session::{get_api_version, get_version_string};
-use std::alloc::Global;
 
 /// How many words a layout table has.
 #[unsafe(no_mangle)]
@@ -48,68 +47,49 @@ pub extern "C" fn omi_version_text(to: &mut [u8]) -> u64
     put(to, get_version_string().as_bytes())
 }
 
-/// Whether the words of a layout table spell a layout.
-#[unsafe(no_mangle)]
-pub extern "C" fn omi_judge_table(table: &[u64]) -> Number
-    ensures { IsJudged table.now result }
-{
-    match layout_of(table) {
-        Ok(_) => Number {
-            code: OK,
-            place: 0,
-            number: 0,
-        },
-        Err(refusal) => Number::refused(refusal, 0),
-    }
-}
-
 /// The version of OpenMP that the target's runtime has, as year and month. By a conversion of a word's bytes.
-fn openmp_version<H: ToHost>(alloc: Global, table: &[u64], known: &[Known], to_host: H) -> Number
+fn openmp_version<H: ToHost>(table: &Judged, known: &[Known], to_host: H) -> Result<u64, Cause>
     requires takes { TakesAll (H.takes to_host) }
     requires gives { GivesNumbers (H.gives to_host) 0 }
-    ensures { Spells TakesNone number_of table.now known.now
-        (word_of table.now (runtime_address table.now) RuntimeVersion 0) result }
+    ensures { result ≡ asked_in table.now known.now
+        (λ w. word_of w (runtime_address w) RuntimeVersion 0) }
 {
-    match open(alloc, table, known, to_host) {
-        Ok(mut s) => {
-            let answer = s.get_omp_version();
-            number(s, answer)
-        }
-        Err(refusal) => Number::refused(refusal, 0),
-    }
+    let mut s = open(table, known, to_host)?;
+    let version = s.get_omp_version();
+    replied(s, version)
 }
 
 /// The version of OpenMP that the target's runtime has, as year and month.
 #[unsafe(no_mangle)]
-pub extern "C" fn omi_openmp_version(alloc: Global, table: &[u64], known: &[Known]) -> Number
-    ensures { Spells TakesNone number_of table.now known.now
-        (word_of table.now (runtime_address table.now) RuntimeVersion 0) result }
+pub extern "C" fn omi_openmp_version(table: &Judged, known: &[Known]) -> Number
+    ensures { result ≡ number_of (asked_in table.now known.now
+        (λ w. word_of w (runtime_address w) RuntimeVersion 0)) }
 {
-    openmp_version(alloc, table, known, lowest_first)
+    Number::of(openmp_version(table, known, lowest_first))
 }
 
 /// The version of OpenMP of this library, as text. By a conversion of a word's bytes.
-fn openmp_text<H: ToHost>(alloc: Global, table: &[u64], to: &mut [u8], to_host: H) -> Text
+fn openmp_text<H: ToHost>(table: &Judged, to: &mut [u8], to_host: H) -> Text
     requires takes { TakesAll (H.takes to_host) }
     requires gives { GivesNumbers (H.gives to_host) 0 }
-    ensures { SpellsText TakesNone whole table.now [] (Answer (Ok (codes "OpenMP 5.0 host")))
-        to.old to.new result }
+    ensures { (result, to.new) ≡ text_in to.old
+        (asked_in table.now [] (λ _. Answer (Ok (codes "OpenMP 5.0 host")))) }
 {
-    match open(alloc, table, &[], to_host) {
+    match open(table, &[], to_host) {
         Ok(s) => Text {
             code: OK,
             place: 0,
             length: put(to, s.get_omp_version_string().as_bytes()),
         },
-        Err(refusal) => Text::refused(refusal),
+        Err(cause) => Text::refused(cause),
     }
 }
 
 /// The version of OpenMP of this library, as text.
 #[unsafe(no_mangle)]
-pub extern "C" fn omi_openmp_text(alloc: Global, table: &[u64], to: &mut [u8]) -> Text
-    ensures { SpellsText TakesNone whole table.now [] (Answer (Ok (codes "OpenMP 5.0 host")))
-        to.old to.new result }
+pub extern "C" fn omi_openmp_text(table: &Judged, to: &mut [u8]) -> Text
+    ensures { (result, to.new) ≡ text_in to.old
+        (asked_in table.now [] (λ _. Answer (Ok (codes "OpenMP 5.0 host")))) }
 {
-    openmp_text(alloc, table, to, lowest_first)
+    openmp_text(table, to, lowest_first)
 }

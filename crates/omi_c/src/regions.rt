@@ -2,125 +2,98 @@
 
 ghost use Rattle.std.specs.Prelude.{◌≡◌};
 ghost use Rattle.omi_calls.specs.Kept.{TakesAll, GivesNumbers};
-ghost use Rattle.omi_handle.specs.declared.handle.Kind.TheVariants as object;
 ghost use Rattle.omi_ask.specs.Regions as regions;
-ghost use Rattle.omi_session.specs.Inquiry as part;
-ghost use Rattle.omi_c.specs.Replies.{Spells, TakesSome};
+ghost use Rattle.omi_handle.specs.declared.handle.Kind.TheVariants as object;
 ghost use Rattle.omi_c.specs.Answers.{found_of};
+ghost use Rattle.omi_c.specs.Objects as objects;
+ghost use Rattle.omi_c.specs.Replies.{asked_in};
 
 use crate::answers::{Found, Object};
-use crate::closing::found_region;
+use crate::causes::{Cause, replied};
+use crate::judged::Judged;
 use crate::known::Known;
-use crate::opening::{lowest_first, open_with};
-use omi_ask::{get_curr_parallel_handle, get_enclosing_parallel_handle, get_task_parallel_handle};
+use crate::opening::{held_in, lowest_first, open};
+use omi_ask::{current_region_of, enclosing_region_of, region_of_task_of};
 use omi_calls::ToHost;
-use omi_handle::Kind;
-use std::alloc::Global;
+use omi_handle::{Held, Kind};
 
 /// The region of a thread's current task. By a conversion of a word's bytes.
 fn curr_parallel<H: ToHost>(
-    alloc: Global,
-    table: &[u64],
+    table: &Judged,
     known: &[Known],
     thread: Object,
     to_host: H,
-) -> Found
+) -> Result<Held, Cause>
     requires takes { TakesAll (H.takes to_host) }
     requires gives { GivesNumbers (H.gives to_host) 0 }
-    ensures { Spells TakesSome found_of table.now known.now
-        (regions.current_region table.now (part.object_at table.now object.Thread thread.addr thread.life)) result }
+    ensures { result ≡ asked_in table.now known.now
+        (λ w. regions.current_region w (objects.held_in w object.Thread thread)) }
 {
-    match open_with(alloc, table, known, Kind::Thread, thread, to_host) {
-        Ok((mut s, pair)) => {
-            let found = get_curr_parallel_handle(&mut s, pair.thread());
-            found_region(s, found)
-        }
-        Err(refusal) => Found::refused(refusal),
-    }
+    let mut s = open(table, known, to_host)?;
+    let thread = held_in(&s, Kind::Thread, thread);
+    let region = current_region_of(&mut s, thread);
+    replied(s, region)
 }
 
 /// The region of a thread's current task.
 #[unsafe(no_mangle)]
-pub extern "C" fn omi_curr_parallel(
-    alloc: Global,
-    table: &[u64],
-    known: &[Known],
-    thread: Object,
-) -> Found
-    ensures { Spells TakesSome found_of table.now known.now
-        (regions.current_region table.now (part.object_at table.now object.Thread thread.addr thread.life)) result }
+pub extern "C" fn omi_curr_parallel(table: &Judged, known: &[Known], thread: Object) -> Found
+    ensures { result ≡ found_of (asked_in table.now known.now
+        (λ w. regions.current_region w (objects.held_in w object.Thread thread))) }
 {
-    curr_parallel(alloc, table, known, thread, lowest_first)
+    Found::of(curr_parallel(table, known, thread, lowest_first))
 }
 
 /// The region that encloses a region. By a conversion of a word's bytes.
 fn enclosing_parallel<H: ToHost>(
-    alloc: Global,
-    table: &[u64],
+    table: &Judged,
     known: &[Known],
     region: Object,
     to_host: H,
-) -> Found
+) -> Result<Held, Cause>
     requires takes { TakesAll (H.takes to_host) }
     requires gives { GivesNumbers (H.gives to_host) 0 }
-    ensures { Spells TakesSome found_of table.now known.now
-        (regions.enclosing_region table.now (part.object_at table.now object.Region region.addr region.life)) result }
+    ensures { result ≡ asked_in table.now known.now
+        (λ w. regions.enclosing_region w (objects.held_in w object.Region region)) }
 {
-    match open_with(alloc, table, known, Kind::Region, region, to_host) {
-        Ok((mut s, pair)) => {
-            let found = get_enclosing_parallel_handle(&mut s, pair.region());
-            found_region(s, found)
-        }
-        Err(refusal) => Found::refused(refusal),
-    }
+    let mut s = open(table, known, to_host)?;
+    let region = held_in(&s, Kind::Region, region);
+    let enclosing = enclosing_region_of(&mut s, region);
+    replied(s, enclosing)
 }
 
 /// The region that encloses a region.
 #[unsafe(no_mangle)]
-pub extern "C" fn omi_enclosing_parallel(
-    alloc: Global,
-    table: &[u64],
-    known: &[Known],
-    region: Object,
-) -> Found
-    ensures { Spells TakesSome found_of table.now known.now
-        (regions.enclosing_region table.now (part.object_at table.now object.Region region.addr region.life)) result }
+pub extern "C" fn omi_enclosing_parallel(table: &Judged, known: &[Known], region: Object) -> Found
+    ensures { result ≡ found_of (asked_in table.now known.now
+        (λ w. regions.enclosing_region w (objects.held_in w object.Region region))) }
 {
-    enclosing_parallel(alloc, table, known, region, lowest_first)
+    Found::of(enclosing_parallel(table, known, region, lowest_first))
 }
 
 /// The region of a task. By a conversion of a word's bytes.
 fn task_parallel<H: ToHost>(
-    alloc: Global,
-    table: &[u64],
+    table: &Judged,
     known: &[Known],
     task: Object,
     to_host: H,
-) -> Found
+) -> Result<Held, Cause>
     requires takes { TakesAll (H.takes to_host) }
     requires gives { GivesNumbers (H.gives to_host) 0 }
-    ensures { Spells TakesSome found_of table.now known.now
-        (regions.region_of_task table.now (part.object_at table.now object.Task task.addr task.life)) result }
+    ensures { result ≡ asked_in table.now known.now
+        (λ w. regions.region_of_task w (objects.held_in w object.Task task)) }
 {
-    match open_with(alloc, table, known, Kind::Task, task, to_host) {
-        Ok((mut s, pair)) => {
-            let found = get_task_parallel_handle(&mut s, pair.task());
-            found_region(s, found)
-        }
-        Err(refusal) => Found::refused(refusal),
-    }
+    let mut s = open(table, known, to_host)?;
+    let task = held_in(&s, Kind::Task, task);
+    let region = region_of_task_of(&mut s, task);
+    replied(s, region)
 }
 
 /// The region of a task.
 #[unsafe(no_mangle)]
-pub extern "C" fn omi_task_parallel(
-    alloc: Global,
-    table: &[u64],
-    known: &[Known],
-    task: Object,
-) -> Found
-    ensures { Spells TakesSome found_of table.now known.now
-        (regions.region_of_task table.now (part.object_at table.now object.Task task.addr task.life)) result }
+pub extern "C" fn omi_task_parallel(table: &Judged, known: &[Known], task: Object) -> Found
+    ensures { result ≡ found_of (asked_in table.now known.now
+        (λ w. regions.region_of_task w (objects.held_in w object.Task task))) }
 {
-    task_parallel(alloc, table, known, task, lowest_first)
+    Found::of(task_parallel(table, known, task, lowest_first))
 }

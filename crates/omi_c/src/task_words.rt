@@ -2,89 +2,71 @@
 
 ghost use Rattle.std.specs.Prelude.{◌≡◌};
 ghost use Rattle.omi_calls.specs.Kept.{TakesAll, GivesNumbers};
-ghost use Rattle.omi_handle.specs.declared.handle.Kind.TheVariants as object;
-ghost use Rattle.omi_session.specs.Inquiry as part;
 ghost use Rattle.omi_asktask.specs.TaskWords as words;
-ghost use Rattle.omi_c.specs.Replies.{Spells, TakesSome};
-ghost use Rattle.omi_c.specs.Answers.{frames_of, number_of};
+ghost use Rattle.omi_handle.specs.declared.handle.Kind.TheVariants as object;
+ghost use Rattle.omi_c.specs.Answers.{frames_of as frames_answered, number_of};
+ghost use Rattle.omi_c.specs.Objects as objects;
+ghost use Rattle.omi_c.specs.Replies.{asked_in};
 
 use crate::answers::{Number, Object, TaskFrames};
-use crate::closing::{frames, number};
+use crate::causes::{Cause, replied};
+use crate::judged::Judged;
 use crate::known::Known;
-use crate::opening::{lowest_first, open_with};
-use omi_asktask::{get_task_frame, get_task_function};
+use crate::opening::{held_in, lowest_first, open};
+use omi_asktask::{Frames, frames_of, function_of};
 use omi_calls::ToHost;
 use omi_handle::Kind;
-use std::alloc::Global;
 
 /// The entry address of a task's function. By a conversion of a word's bytes.
 fn task_function<H: ToHost>(
-    alloc: Global,
-    table: &[u64],
+    table: &Judged,
     known: &[Known],
     task: Object,
     to_host: H,
-) -> Number
+) -> Result<u64, Cause>
     requires takes { TakesAll (H.takes to_host) }
     requires gives { GivesNumbers (H.gives to_host) 0 }
-    ensures { Spells TakesSome number_of table.now known.now
-        (words.function table.now (part.object_at table.now object.Task task.addr task.life)) result }
+    ensures { result ≡ asked_in table.now known.now
+        (λ w. words.function w (objects.held_in w object.Task task)) }
 {
-    match open_with(alloc, table, known, Kind::Task, task, to_host) {
-        Ok((mut s, pair)) => {
-            let answer = get_task_function(&mut s, pair.task());
-            number(s, answer)
-        }
-        Err(refusal) => Number::refused(refusal, 0),
-    }
+    let mut s = open(table, known, to_host)?;
+    let task = held_in(&s, Kind::Task, task);
+    let function = function_of(&mut s, task);
+    replied(s, function)
 }
 
 /// The entry address of a task's function.
 #[unsafe(no_mangle)]
-pub extern "C" fn omi_task_function(
-    alloc: Global,
-    table: &[u64],
-    known: &[Known],
-    task: Object,
-) -> Number
-    ensures { Spells TakesSome number_of table.now known.now
-        (words.function table.now (part.object_at table.now object.Task task.addr task.life)) result }
+pub extern "C" fn omi_task_function(table: &Judged, known: &[Known], task: Object) -> Number
+    ensures { result ≡ number_of (asked_in table.now known.now
+        (λ w. words.function w (objects.held_in w object.Task task))) }
 {
-    task_function(alloc, table, known, task, lowest_first)
+    Number::of(task_function(table, known, task, lowest_first))
 }
 
 /// The frames of a task. By a conversion of a word's bytes.
 fn task_frame<H: ToHost>(
-    alloc: Global,
-    table: &[u64],
+    table: &Judged,
     known: &[Known],
     task: Object,
     to_host: H,
-) -> TaskFrames
+) -> Result<Frames, Cause>
     requires takes { TakesAll (H.takes to_host) }
     requires gives { GivesNumbers (H.gives to_host) 0 }
-    ensures { Spells TakesSome frames_of table.now known.now
-        (words.frames table.now (part.object_at table.now object.Task task.addr task.life)) result }
+    ensures { result ≡ asked_in table.now known.now
+        (λ w. words.frames w (objects.held_in w object.Task task)) }
 {
-    match open_with(alloc, table, known, Kind::Task, task, to_host) {
-        Ok((mut s, pair)) => {
-            let answer = get_task_frame(&mut s, pair.task());
-            frames(s, answer)
-        }
-        Err(refusal) => TaskFrames::refused(refusal),
-    }
+    let mut s = open(table, known, to_host)?;
+    let task = held_in(&s, Kind::Task, task);
+    let frames = frames_of(&mut s, task);
+    replied(s, frames)
 }
 
 /// The frames of a task.
 #[unsafe(no_mangle)]
-pub extern "C" fn omi_task_frame(
-    alloc: Global,
-    table: &[u64],
-    known: &[Known],
-    task: Object,
-) -> TaskFrames
-    ensures { Spells TakesSome frames_of table.now known.now
-        (words.frames table.now (part.object_at table.now object.Task task.addr task.life)) result }
+pub extern "C" fn omi_task_frame(table: &Judged, known: &[Known], task: Object) -> TaskFrames
+    ensures { result ≡ frames_answered (asked_in table.now known.now
+        (λ w. words.frames w (objects.held_in w object.Task task))) }
 {
-    task_frame(alloc, table, known, task, lowest_first)
+    TaskFrames::of(task_frame(table, known, task, lowest_first))
 }

@@ -2,169 +2,144 @@
 
 ghost use Rattle.std.specs.Prelude.{◌≡◌};
 ghost use Rattle.omi_calls.specs.Kept.{TakesAll, GivesNumbers};
-ghost use Rattle.omi_handle.specs.declared.handle.Kind.TheVariants as object;
 ghost use Rattle.omi_ask.specs.Threads as threads;
-ghost use Rattle.omi_session.specs.Inquiry as part;
+ghost use Rattle.omi_handle.specs.declared.handle.Kind.TheVariants as object;
 ghost use Rattle.omi_icv.specs.StateWords as states;
-ghost use Rattle.omi_c.specs.Replies.{Spells, TakesSome};
 ghost use Rattle.omi_c.specs.Answers.{found_of, number_of, state_of};
+ghost use Rattle.omi_c.specs.Objects as objects;
+ghost use Rattle.omi_c.specs.Replies.{asked_in};
 
 use crate::answers::{Found, Number, Object, State};
-use crate::closing::{found_thread, number, state};
+use crate::causes::{Cause, replied};
+use crate::judged::Judged;
 use crate::known::Known;
-use crate::opening::{lowest_first, open, open_with};
-use omi_ask::{get_thread_handle, get_thread_id, get_thread_in_parallel};
+use crate::opening::{held_in, lowest_first, open};
+use omi_ask::{native_id_of, thread_of_member_of, thread_with};
 use omi_calls::ToHost;
-use omi_handle::Kind;
-use omi_icv::get_state;
-use std::alloc::Global;
+use omi_handle::{Held, Kind};
+use omi_icv::state_of_thread;
 
 /// The thread with a native id of a kind. Kind 0 is the only one. By a conversion of a word's bytes.
 fn thread_with_id<H: ToHost>(
-    alloc: Global,
-    table: &[u64],
+    table: &Judged,
     known: &[Known],
     kind: u32,
     native: u64,
     to_host: H,
-) -> Found
+) -> Result<Held, Cause>
     requires takes { TakesAll (H.takes to_host) }
     requires gives { GivesNumbers (H.gives to_host) 0 }
-    ensures { Spells TakesSome found_of table.now known.now
-        (threads.thread_with table.now kind native) result }
+    ensures { result ≡ asked_in table.now known.now
+        (λ w. threads.thread_with w kind native) }
 {
-    match open(alloc, table, known, to_host) {
-        Ok(mut s) => {
-            let found = get_thread_handle(&mut s, kind, native);
-            found_thread(s, found)
-        }
-        Err(refusal) => Found::refused(refusal),
-    }
+    let mut s = open(table, known, to_host)?;
+    let thread = thread_with(&mut s, kind, native);
+    replied(s, thread)
 }
 
 /// The thread with a native id of a kind. Kind 0 is the only one.
 #[unsafe(no_mangle)]
 pub extern "C" fn omi_thread_with_id(
-    alloc: Global,
-    table: &[u64],
+    table: &Judged,
     known: &[Known],
     kind: u32,
     native: u64,
 ) -> Found
-    ensures { Spells TakesSome found_of table.now known.now
-        (threads.thread_with table.now kind native) result }
+    ensures { result ≡ found_of (asked_in table.now known.now
+        (λ w. threads.thread_with w kind native)) }
 {
-    thread_with_id(alloc, table, known, kind, native, lowest_first)
+    Found::of(thread_with_id(table, known, kind, native, lowest_first))
 }
 
 /// The thread of a member of a region, by the member's number. By a conversion of a word's bytes.
 fn thread_in_parallel<H: ToHost>(
-    alloc: Global,
-    table: &[u64],
+    table: &Judged,
     known: &[Known],
     region: Object,
     member: u32,
     to_host: H,
-) -> Found
+) -> Result<Held, Cause>
     requires takes { TakesAll (H.takes to_host) }
     requires gives { GivesNumbers (H.gives to_host) 0 }
-    ensures { Spells TakesSome found_of table.now known.now
-        (threads.thread_of_member table.now (part.object_at table.now object.Region region.addr region.life) member) result }
+    ensures { result ≡ asked_in table.now known.now
+        (λ w. threads.thread_of_member w (objects.held_in w object.Region region) member) }
 {
-    match open_with(alloc, table, known, Kind::Region, region, to_host) {
-        Ok((mut s, pair)) => {
-            let found = get_thread_in_parallel(&mut s, pair.region(), member);
-            found_thread(s, found)
-        }
-        Err(refusal) => Found::refused(refusal),
-    }
+    let mut s = open(table, known, to_host)?;
+    let region = held_in(&s, Kind::Region, region);
+    let thread = thread_of_member_of(&mut s, region, member);
+    replied(s, thread)
 }
 
 /// The thread of a member of a region, by the member's number.
 #[unsafe(no_mangle)]
 pub extern "C" fn omi_thread_in_parallel(
-    alloc: Global,
-    table: &[u64],
+    table: &Judged,
     known: &[Known],
     region: Object,
     member: u32,
 ) -> Found
-    ensures { Spells TakesSome found_of table.now known.now
-        (threads.thread_of_member table.now (part.object_at table.now object.Region region.addr region.life) member) result }
+    ensures { result ≡ found_of (asked_in table.now known.now
+        (λ w. threads.thread_of_member w (objects.held_in w object.Region region) member)) }
 {
-    thread_in_parallel(alloc, table, known, region, member, lowest_first)
+    Found::of(thread_in_parallel(table, known, region, member, lowest_first))
 }
 
 /// The native id of a thread, of a kind. By a conversion of a word's bytes.
 fn thread_id<H: ToHost>(
-    alloc: Global,
-    table: &[u64],
+    table: &Judged,
     known: &[Known],
     kind: u32,
     thread: Object,
     to_host: H,
-) -> Number
+) -> Result<u64, Cause>
     requires takes { TakesAll (H.takes to_host) }
     requires gives { GivesNumbers (H.gives to_host) 0 }
-    ensures { Spells TakesSome number_of table.now known.now
-        (threads.native_id table.now kind (part.object_at table.now object.Thread thread.addr thread.life)) result }
+    ensures { result ≡ asked_in table.now known.now
+        (λ w. threads.native_id w kind (objects.held_in w object.Thread thread)) }
 {
-    match open_with(alloc, table, known, Kind::Thread, thread, to_host) {
-        Ok((mut s, pair)) => {
-            let answer = get_thread_id(&mut s, kind, pair.thread());
-            number(s, answer)
-        }
-        Err(refusal) => Number::refused(refusal, 0),
-    }
+    let mut s = open(table, known, to_host)?;
+    let thread = held_in(&s, Kind::Thread, thread);
+    let id = native_id_of(&mut s, kind, thread);
+    replied(s, id)
 }
 
 /// The native id of a thread, of a kind.
 #[unsafe(no_mangle)]
 pub extern "C" fn omi_thread_id(
-    alloc: Global,
-    table: &[u64],
+    table: &Judged,
     known: &[Known],
     kind: u32,
     thread: Object,
 ) -> Number
-    ensures { Spells TakesSome number_of table.now known.now
-        (threads.native_id table.now kind (part.object_at table.now object.Thread thread.addr thread.life)) result }
+    ensures { result ≡ number_of (asked_in table.now known.now
+        (λ w. threads.native_id w kind (objects.held_in w object.Thread thread))) }
 {
-    thread_id(alloc, table, known, kind, thread, lowest_first)
+    Number::of(thread_id(table, known, kind, thread, lowest_first))
 }
 
 /// The state of a thread, and the id on which it waits. By a conversion of a word's bytes.
 fn thread_state<H: ToHost>(
-    alloc: Global,
-    table: &[u64],
+    table: &Judged,
     known: &[Known],
     thread: Object,
     to_host: H,
-) -> State
+) -> Result<(u32, u64), Cause>
     requires takes { TakesAll (H.takes to_host) }
     requires gives { GivesNumbers (H.gives to_host) 0 }
-    ensures { Spells TakesSome state_of table.now known.now
-        (states.state table.now (part.object_at table.now object.Thread thread.addr thread.life)) result }
+    ensures { result ≡ asked_in table.now known.now
+        (λ w. states.state w (objects.held_in w object.Thread thread)) }
 {
-    match open_with(alloc, table, known, Kind::Thread, thread, to_host) {
-        Ok((mut s, pair)) => {
-            let answer = get_state(&mut s, pair.thread());
-            state(s, answer)
-        }
-        Err(refusal) => State::refused(refusal),
-    }
+    let mut s = open(table, known, to_host)?;
+    let thread = held_in(&s, Kind::Thread, thread);
+    let state = state_of_thread(&mut s, thread);
+    replied(s, state)
 }
 
 /// The state of a thread, and the id on which it waits.
 #[unsafe(no_mangle)]
-pub extern "C" fn omi_thread_state(
-    alloc: Global,
-    table: &[u64],
-    known: &[Known],
-    thread: Object,
-) -> State
-    ensures { Spells TakesSome state_of table.now known.now
-        (states.state table.now (part.object_at table.now object.Thread thread.addr thread.life)) result }
+pub extern "C" fn omi_thread_state(table: &Judged, known: &[Known], thread: Object) -> State
+    ensures { result ≡ state_of (asked_in table.now known.now
+        (λ w. states.state w (objects.held_in w object.Thread thread))) }
 {
-    thread_state(alloc, table, known, thread, lowest_first)
+    State::of(thread_state(table, known, thread, lowest_first))
 }

@@ -11,9 +11,9 @@ use Rattle.omi_c.specs.Calls.{told_of, asked_of}
 use Rattle.omi_c.specs.Initial.{initial_address, initial_task}
 use Rattle.omi_c.proofs.initial.first_task.Goals as goal
 
-pub returns-in_err-life-clause-answer : goal.returns-in_err-life-clause-answer
+pub returns-in_err-life : goal.returns-in_err-life
 unfolding initial_task
-returns-in_err-life-clause-answer g c =
+returns-in_err-life g c =
     let at : c.task_at-address.result ≡ initial_address c.args.s.now.layout =
     c.task_at-address.ensures.address ∙ ap initial_address c.layout.ensures in
     let life =
@@ -21,9 +21,9 @@ returns-in_err-life-clause-answer g c =
     (λ a. Answers told_of asked_of c.args.s.now c.word.new.s (Err c.in_err-life.field-0.0) (word_of c.args.s.now.layout a TaskLife 0)) at c.in_err-life.ensures.answer in
     refused_then _ life c.from_residual.ensures.1
 
-pub returns-clause-answer : goal.returns-clause-answer
+pub returns : goal.returns
 unfolding initial_task
-returns-clause-answer g c =
+returns g c =
     let at : c.task_at-address.result ≡ initial_address c.args.s.now.layout =
     c.task_at-address.ensures.address ∙ ap initial_address c.layout.ensures in
     let life =

@@ -1,22 +1,17 @@
-use Rattle.std.proofs.Common.{refl, sym, ap, subst, ◌∙◌}
-use Rattle.std.specs.FinMap.{get}
-use Rattle.omi_handle.specs.declared.handle.Kind.TheVariants as object
+use Rattle.std.proofs.Common.{◌∙◌}
 use Rattle.omi_asktask.specs.TaskWords as words
-use Rattle.omi_session.specs.Inquiry as part
-use Rattle.omi_c.specs.Replies.{TakesSome, Spells}
-use Rattle.omi_c.specs.Answers.{frames_of, frames_by}
-use Rattle.omi_c.proofs.Closed.{closed_spells}
-use Rattle.omi_c.proofs.Asked.{asked_over}
+use Rattle.omi_handle.specs.declared.handle.Kind.TheVariants as object
+use Rattle.omi_c.specs.Objects as objects
+use Rattle.omi_c.proofs.Asked.{asked_of_object, refused_in}
 use Rattle.omi_c.proofs.task_words.task_frame.Goals as goal
 
-pub returns-in-Ok : goal.returns-in-Ok
-returns-in-Ok g c =
-    c.frames.ensures TakesSome c.args.table.now c.args.known.now _
-    (asked_over c.args.table.now c.args.known.now c.in-Ok.s _ c.in-Ok.ensures.opened (part.object_at c.args.table.now object.Task c.args.task.addr c.args.task.life)
-    words.frames (get c.in-Ok.s.handles.held (c.task.result.key, c.task.result.serial)) c.get_task_frame-answer.result
-    (ap (get c.in-Ok.s.handles.held) c.task.ensures ∙ c.in-Ok.ensures.held) c.get_task_frame-answer.ensures.answer c.get_task_frame-answer.ensures.same)
+pub returns-in_err-s : goal.returns-in_err-s
+returns-in_err-s g c =
+    refused_in c.args.table.now c.args.known.now (λ w. words.frames w (objects.held_in w object.Task c.args.task))
+    c.from_residual.result _ c.from_residual.ensures.1 c.in_err-s.ensures.refused
 
-pub returns-in-Err : goal.returns-in-Err
-returns-in-Err g c =
-    subst (Spells TakesSome frames_of c.args.table.now c.args.known.now _) (sym c.refused.ensures)
-    (closed_spells TakesSome c.args.table.now c.args.known.now _ frames_of frames_by (λ cause is. refl) c.in-Err.refusal c.in-Err.ensures.refused)
+pub returns : goal.returns
+returns g c =
+    c.replied.ensures
+    ∙ asked_of_object c.args.table.now c.args.known.now c.in_ok-s.s _ c.in_ok-s.ensures.opened object.Task c.args.task
+    words.frames c.held_in-task.result c.frames_of-frames.result c.held_in-task.ensures.value c.frames_of-frames.ensures.answer

@@ -1,28 +1,16 @@
-use Rattle.std.proofs.Common.{ℕ, List, ap, ◌∙◌}
-use Rattle.std.specs.FinMap.{get}
-use Rattle.omi_icv.specs.Icvs.{icv_string_from_scope}
-use Rattle.omi_icv.specs.declared.scoped.Scoped.{Scoped}
-use Rattle.omi_icv.specs.Records.{Handles}
-use Rattle.omi_session.specs.Reads.{Reads}
+use Rattle.std.proofs.Common.{◌∙◌}
+use Rattle.omi_icv.specs.Icvs as icvs
 use Rattle.omi_c.specs.Scopes.{reads_of}
-use Rattle.omi_c.proofs.Asked.{written_reads}
-use Rattle.omi_c.proofs.Scoping.{scoped_reads, text_alike}
-use Rattle.omi_icv.specs.Written.{as_bytes}
-use Rattle.std.specs.Prelude.{string_bytes}
-use Rattle.omi_c.proofs.Scoped.{text_closed}
-use Rattle.omi_c.specs.Replies.{TakesSome}
+use Rattle.omi_c.proofs.Asked.{asked_reads, refused_in}
 use Rattle.omi_c.proofs.variables.icv_text.Goals as goal
 
-pub returns-in-Ok : goal.returns-in-Ok
-returns-in-Ok g c =
-    let inquiry : Handles → Scoped → Reads (List ℕ) = (λ held of. icv_string_from_scope c.args.table.now held of c.args.icv) in
-    c.text.ensures TakesSome c.args.table.now c.args.known.now _
-    (written_reads c.args.table.now c.args.known.now c.in-Ok.s _ c.in-Ok.ensures.opened
-    (icv_string_from_scope c.in-Ok.s.layout (get c.in-Ok.s.handles.held) c.in-Ok.of c.args.icv) (reads_of c.args.table.now c.args.scope c.args.object inquiry) (as_bytes string_bytes c.get_icv_string_from_scope-answer.result)
-    (ap (λ w. icv_string_from_scope w (get c.in-Ok.s.handles.held) c.in-Ok.of c.args.icv) c.in-Ok.ensures.opened.layout
-    ∙ scoped_reads c.args.table.now c.args.scope c.args.object inquiry (text_alike c.args.table.now c.args.icv) (get c.in-Ok.s.handles.held) c.in-Ok.of c.in-Ok.ensures.of)
-    c.get_icv_string_from_scope-answer.ensures.answer c.get_icv_string_from_scope-answer.ensures.same)
+pub returns-in_err-s : goal.returns-in_err-s
+returns-in_err-s g c =
+    refused_in c.args.table.now c.args.known.now (λ w. reads_of w c.args.object c.args.scope (λ held of. icvs.icv_string_from_scope w held of c.args.icv))
+    c.from_residual.result _ c.from_residual.ensures.1 c.in_err-s.ensures.refused
 
-pub returns-in-Err : goal.returns-in-Err
-returns-in-Err g c = text_closed c.args.table.now c.args.known.now c.args.scope c.args.object
-    (λ held of. icv_string_from_scope c.args.table.now held of c.args.icv) c.in-Err.refusal c.args.to.now _ c.refused.ensures c.in-Err.ensures.refused
+pub returns : goal.returns
+returns g c =
+    c.replied.ensures
+    ∙ asked_reads c.args.table.now c.args.known.now c.in_ok-s.s _ c.in_ok-s.ensures.opened
+    (λ w. reads_of w c.args.object c.args.scope (λ held of. icvs.icv_string_from_scope w held of c.args.icv)) c.text_of-text.result c.text_of-text.ensures
