@@ -7,5 +7,5 @@ abbrev len_of : Told → ℕ
 len_of (Some content) = content_len content
 len_of None = 0
 
-pub read_process-requires-clause-len : goal.read_process-requires-clause-len
-read_process-requires-clause-len c = λ content told. ap len_of (sym told ∙ c.over-file.ensures.told (codes "p"))
+pub read_process-requires : goal.read_process-requires
+read_process-requires c = record { len = λ content told. ap len_of (sym told ∙ c.over-file.ensures.told (codes "p")) }
