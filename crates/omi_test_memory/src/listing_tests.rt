@@ -1,19 +1,26 @@
 //! Worked tables.
 
+ghost use Rattle.std.specs.Prelude.{◌≤◌, All, OnOk, length};
+
 use crate::views::{bare, forked_view, task, with_thread, with_unknown};
 use omi_listing::{Cell, Row, Table, table_text, threads_text};
 use std::alloc::{AllocError, Global};
+use std::process::Abort;
 use std::test::Fail;
 
-/// A row with these cells.
-fn row_of(alloc: Global, cells: &[&str]) -> Result<Row, AllocError> {
+/// Adds a row with these cells, three at most, to a table.
+fn add(rt: &impl Abort, alloc: Global, table: &mut Table, cells: &[&str]) -> Result<(), AllocError>
+    requires { All (λ row. length row ≤ 3) table.old }
+    ensures { OnOk result (All (λ row. length row ≤ 3) table.new) }
+{
     let mut row = Row::new(alloc);
     for cell in cells {
         let mut text = String::new(alloc);
         text.push_str(cell)?;
         row.push(Cell::of(text))?;
     }
-    Ok(row)
+    assert!(rt; row.len() <= 3);
+    table.push(row)
 }
 
 /// The rows differ in their number of cells; the last cell of each isn't filled up, and a row without cells is an empty line.
@@ -21,11 +28,11 @@ fn row_of(alloc: Global, cells: &[&str]) -> Result<Row, AllocError> {
 fn columns_are_as_wide_as_their_widest_cell(rt: HostRuntime) -> Result<(), Fail> {
     let alloc = rt.alloc();
     let mut table = Table::new(alloc);
-    table.push(row_of(alloc, &["A", "BB", "CCCCC"])?)?;
-    table.push(row_of(alloc, &["four", "", "x"])?)?;
-    table.push(row_of(alloc, &[])?)?;
-    table.push(row_of(alloc, &["z", "a longer one"])?)?;
-    table.push(row_of(alloc, &["", "y", ""])?)?;
+    add(&rt, alloc, &mut table, &["A", "BB", "CCCCC"])?;
+    add(&rt, alloc, &mut table, &["four", "", "x"])?;
+    add(&rt, alloc, &mut table, &[])?;
+    add(&rt, alloc, &mut table, &["z", "a longer one"])?;
+    add(&rt, alloc, &mut table, &["", "y", ""])?;
     let text = table_text(alloc, &table, 3)?;
     let wanted = "A     BB            CCCCC
 four                x
