@@ -1,0 +1,4 @@
+-- The lemmas.
+pub mod ThreadWords
+pub mod FewContexts
+pub mod Listings
