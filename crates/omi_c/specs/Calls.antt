@@ -1,12 +1,17 @@
 -- What callbacks over known words tell, and what they keep.
-use Rattle.std.specs.Prelude.{ℕ, Option, Some, None}
+use Rattle.std.specs.Prelude.{ℕ, List, Option, Some, None}
 use Rattle.omi_calls.specs.Asked.{Asked}
 use Rattle.omi_calls.specs.Told.{Told}
 use Rattle.omi_c.specs.declared.calls.KnownCalls.{KnownCalls}
+use Rattle.omi_c.specs.declared.finding.KnownInOrder.{KnownInOrder}
+use Rattle.omi_c.specs.declared.known.Known.{Known}
 use Rattle.omi_c.specs.Known.{told_by_known}
 
+abbrev pub words_of : KnownInOrder → List Known
+words_of words = words.known.now
+
 abbrev pub told_of : KnownCalls → Told
-told_of calls = told_by_known calls.known.now
+told_of calls = told_by_known (words_of calls.known)
 
 -- how many calls failed
 abbrev pub faults_of : KnownCalls → ℕ

@@ -3,6 +3,7 @@ pub mod Calls
 pub mod Replies
 pub mod Answers
 pub mod Opened
+pub mod Passed
 pub mod Missed
 pub mod Objects
 pub mod ControlVars

@@ -3,7 +3,7 @@
 ghost use Rattle.std.specs.Prelude.{◌≡◌, None};
 ghost use Rattle.omi_c.specs.Known.{told_by_known};
 
-use crate::finding::find_known;
+use crate::finding::KnownInOrder;
 use crate::known::Known;
 use omi_calls::{Callbacks, Got, Place, Sizes};
 use omi_corefile::word_bytes;
@@ -12,7 +12,7 @@ use omi_corefile::word_bytes;
 /// look-up of a symbol.
 #[derive(Drop)]
 pub struct KnownCalls<'a> {
-    known: &'a [Known],
+    known: KnownInOrder<'a>,
     faults: u64,
     missed: Option<u64>,
 }
@@ -26,7 +26,7 @@ impl<'a> KnownCalls<'a> {
         ensures missed { missed_of result ≡ None }
     {
         KnownCalls {
-            known,
+            known: KnownInOrder::over(known),
             faults: 0,
             missed: None,
         }
@@ -53,7 +53,7 @@ impl<'a> Callbacks for KnownCalls<'a> {
         if addr % 8 != 0 {
             return Got::NotMapped;
         }
-        match find_known(self.known, addr) {
+        match self.known.find(addr) {
             Some(found) if found.mapped => {
                 *to = word_bytes(0, found.word);
                 Got::Bytes
